@@ -1,13 +1,13 @@
-// A library with one function.
+//! The commands that personalise a card: a record's rows, its plan, and its command sequence.
 #![tactic(auto)]
 
-ghost use Rattle.std.specs.Prelude.{◌≡◌};
-ghost use Rattle.store_data.specs.Echo.{echo_of};
+mod aid;
+mod bytes;
+mod name;
+mod row;
+mod short;
 
-// The `ensures` clause is the contract: what `echo` returns is `echo_of` of its argument, a definition
-// in `specs/Echo.antt`, which a caller's clause can cite too.
-pub fn echo(x: usize) -> usize
-    ensures { result ≡ echo_of x }
-{
-    x
-}
+pub use aid::Aid;
+pub use bytes::Bytes;
+pub use name::Name;
+pub use row::{Enc, Product, Row};
