@@ -1,0 +1,181 @@
+#!/usr/bin/env python3
+"""Measures `persod plan`: time, speed and memory, and how both grow with the batch.
+
+bench/plan.sh builds the program and calls this. Words given here go on to `persod plan` (the batches
+are made for pieces of 255 bytes, so --low and --check serve, and --max does not). Linux alone.
+
+Time is the best of several runs, from the start of the process to its end, with the output thrown away.
+Peak is the highest resident size, read while the program waits to write the last of its output.
+Growth is the ratio of two times over the ratio of the two sizes: 1 is linear, more is worse. For it alone
+the time of a batch of one row, that is of starting and ending, is taken off both times.
+"""
+import fcntl
+import pathlib
+import subprocess
+import sys
+import tempfile
+import time
+from typing import Iterator, NamedTuple
+
+from make_batch import coded
+
+HERE = pathlib.Path(__file__).resolve().parent
+PERSOD = HERE.parent / "crates" / "persod" / "out" / "persod"
+HEADER = "record,aid,rank,enc,tol,dgi"
+AID = "F00000000101"
+RUNS = 25
+PIPE = 4096
+
+
+class Batch(NamedTuple):
+    name: str
+    text: bytes
+    records: int
+
+
+class Measured(NamedTuple):
+    size: int
+    seconds: float
+    peak: int
+
+
+def cards(records: int) -> Batch:
+    maker = [sys.executable, str(HERE / "make_batch.py"), "--records", str(records), "--seed", "1"]
+    return Batch(f"{records} cards", subprocess.run(maker, check=True, capture_output=True).stdout, records)
+
+
+def batch(name: str, records: int, rows: Iterator[str]) -> Batch:
+    return Batch(name, "\n".join([HEADER, *rows, ""]).encode(), records)
+
+
+def grouping(k: int, size: int) -> str:
+    """The k-th grouping, of an identifier that no other k has and that is no record's."""
+    return coded(f"{0x9000 + k:04X}", bytes([k % 256]) * size)
+
+
+def one_row(size: int) -> Batch:
+    return batch(f"1 row of {size} data bytes", 1, iter([f"R1,{AID},1,0,0,{grouping(0, size)}"]))
+
+
+def one_application(rows: int) -> Batch:
+    """4,096 such rows are 256 * 255 bytes as they are sent: the most that an application may have."""
+    made = (f"R1,{AID},1,0,0,{grouping(k, 12 if k % 16 == 0 else 13)}" for k in range(rows))
+    return batch(f"{rows} rows of one application", 1, made)
+
+
+def own_applications(rows: int) -> Batch:
+    made = (f"R1,F00000{k:08X},1,0,0,{grouping(k, 13)}" for k in range(rows))
+    return batch(f"{rows} applications of one row", 1, made)
+
+
+def own_segments(applications: int) -> Batch:
+    """Each row is a segment, and the last that is read is the first that is sent."""
+    made = (f"R1,F00000{a:08X},{256 - k},0,0,{grouping(k, 13)}" for a in range(applications) for k in range(256))
+    return batch(f"{applications * 256} segments of one row", 1, made)
+
+
+def many_records(records: int) -> Batch:
+    made = (f"R{r},{AID},1,0,0,{grouping(k, 13)}" for r in range(records) for k in range(4))
+    return batch(f"{records} records of four rows", records, made)
+
+
+def mixed_records(records: int) -> Batch:
+    made = (f"R{r},{AID},1,0,0,{grouping(k, 13)}" for k in range(4) for r in range(records))
+    return batch(f"{records} records, rows mixed", records, made)
+
+
+def large_groupings(rows: int) -> Batch:
+    made = (f"R1,F00000{k // 3:08X},1,0,0,{grouping(k, 16384)}" for k in range(rows))
+    return batch(f"{rows} groupings of 16384 bytes", 1, made)
+
+
+def is_waiting(child: int) -> bool:
+    """Whether the process sleeps, as it does in a write to a full pipe."""
+    return pathlib.Path(f"/proc/{child}/stat").read_text().rpartition(")")[2].split()[0] == "S"
+
+
+def high_water(child: int) -> int:
+    for line in pathlib.Path(f"/proc/{child}/status").read_text().splitlines():
+        if line.startswith("VmHWM:"):
+            return int(line.split()[1]) * 1024
+    sys.exit("no VmHWM in /proc: peak memory can't be measured here")
+
+
+def output_of(words: list[str], path: pathlib.Path, records: int) -> int:
+    """Runs once, and answers the size of the output, which has a line for each record."""
+    with path.open("rb") as source:
+        ran = subprocess.run(words, stdin=source, capture_output=True)
+    found = sum(line.startswith(b"record ") for line in ran.stdout.split(b"\n"))
+    if ran.returncode or found != records:
+        sys.exit(f"{path.name}: status {ran.returncode}, {found} records, {ran.stderr.decode(errors='replace').strip()}")
+    return len(ran.stdout)
+
+
+def best_time(words: list[str], path: pathlib.Path) -> float:
+    best = float("inf")
+    for _ in range(RUNS):
+        with path.open("rb") as source:
+            start = time.perf_counter()
+            subprocess.run(words, stdin=source, stdout=subprocess.DEVNULL, check=True)
+            best = min(best, time.perf_counter() - start)
+    return best
+
+
+def peak(words: list[str], path: pathlib.Path, written: int) -> int:
+    """Takes all of the output but what the pipe can't hold, waits for the program to stand still, and looks."""
+    with path.open("rb") as source:
+        child = subprocess.Popen(words, stdin=source, stdout=subprocess.PIPE, bufsize=0)
+        assert child.stdout
+        fcntl.fcntl(child.stdout, fcntl.F_SETPIPE_SZ, PIPE)
+        left = written - PIPE - 1
+        while left > 0 and (some := child.stdout.read(left)):
+            left -= len(some)
+        still = 0
+        while still < 5:
+            time.sleep(0.002)
+            still = still + 1 if is_waiting(child.pid) else 0
+        highest = high_water(child.pid)
+        child.stdout.read()
+        child.stdout.close()
+        child.wait()
+    return highest
+
+
+def measure(words: list[str], made: Batch, folder: pathlib.Path) -> Measured:
+    path = folder / f"{made.name.replace(' ', '-')}.csv"
+    path.write_bytes(made.text)
+    written = output_of(words, path, made.records)
+    return Measured(len(made.text), best_time(words, path), peak(words, path, written) if written > PIPE else 0)
+
+
+def main() -> None:
+    words = [str(PERSOD), "plan", *sys.argv[1:]]
+    pairs = [
+        (cards(200), cards(40)),
+        (one_application(4096), one_application(512)),
+        (own_applications(4096), own_applications(512)),
+        (own_segments(16), own_segments(2)),
+        (many_records(1024), many_records(128)),
+        (mixed_records(1024), mixed_records(128)),
+        (large_groupings(30), large_groupings(6)),
+    ]
+    with tempfile.TemporaryDirectory() as name:
+        folder = pathlib.Path(name)
+        startup = measure(words, one_row(2), folder).seconds
+        floor = measure(words, one_row(3000), folder).peak
+        print(f"persod {' '.join(words[1:])}: best of {RUNS} runs")
+        print(f"startup, a batch of one row: {startup * 1000:.2f} ms, {floor / 1024:.0f} KiB\n")
+        print(f"{'batch':33} {'bytes':>9} {'ms':>8} {'MB/s':>7} {'peak KiB':>9} {'peak/input':>10} {'less startup':>12} {'growth':>7}")
+        for pair in pairs:
+            large, small = (measure(words, made, folder) for made in pair)
+            times = (large.seconds - startup) / max(small.seconds - startup, 1e-6)
+            growth = times / (large.size / small.size)
+            for made, it, grown in ((pair[0], large, f"{growth:7.2f}"), (pair[1], small, "")):
+                print(
+                    f"{made.name:33} {it.size:9} {it.seconds * 1000:8.2f} {it.size / it.seconds / 1e6:7.1f} {it.peak / 1024:9.0f} "
+                    f"{it.peak / it.size:10.2f} {(it.peak - floor) / it.size:12.2f} {grown}".rstrip()
+                )
+
+
+if __name__ == "__main__":
+    main()
