@@ -113,6 +113,12 @@ whole_of b = do
   x ← read_of b
   whole x
 
+-- the sent form of the grouping that all of the bytes are, or the first fault
+unfoldable pub resent_of : List ℕ → Result (List ℕ) DgiFault
+resent_of b = do
+  g ← whole_of b
+  Ok (coded g)
+
 -- the bytes that hexadecimal text stands for, in either case of its letters
 abbrev pub bytes_or_fault : {E : Type 0} → Result (List ℕ) E → Result (List ℕ) DgiFault
 bytes_or_fault (Ok b) = Ok b
@@ -122,8 +128,7 @@ bytes_or_fault (Err e) = Err NotHex
 unfoldable pub sent_of : List ℕ → Result (List ℕ) DgiFault
 sent_of t = do
   b ← bytes_or_fault (decode_of t)
-  g ← whole_of b
-  Ok (coded g)
+  resent_of b
 
 -- ---- the numbers of the faults (this project's profile)
 

@@ -3,7 +3,7 @@
 ghost use Rattle.std.specs.Prelude.{◌≡◌, ◌⊎◌, Result, Ok, Err, IfOk, IfErr, MatchResult};
 ghost use Rattle.dgi.specs.declared.fault.DgiFault.TheVariants.{Memory};
 ghost use Rattle.hex.specs.Hex.{decode_of};
-ghost use Rattle.dgi.specs.Coding.{Content, IsSent, TextSpells, bytes_or_fault, coded, sent_of};
+ghost use Rattle.dgi.specs.Coding.{Content, IsSent, TextSpells, bytes_or_fault, coded, resent_of, sent_of};
 
 use std::alloc::Global;
 
@@ -24,6 +24,22 @@ fn bytes_of(alloc: Global, t: &[u8]) -> Result<Vec<u8>, DgiFault>
     }
 }
 
+// The sent form of the grouping that all of the bytes are. Bytes that have it already are given back.
+#[tactic(auto, unfolding(crate::specs::Coding::resent_of))]
+fn resent(alloc: Global, bytes: Vec<u8>) -> Result<Vec<u8>, DgiFault>
+    ensures ok { IfOk result (λ v. resent_of bytes.items ≡ Ok v.items) }
+    ensures err { IfErr result (λ e. (e ≡ Memory) ⊎ (resent_of bytes.items ≡ Err e)) }
+{
+    let grouping = read_whole(&bytes)?;
+    let size = coded_len(&grouping);
+    if size == bytes.len() {
+        return Ok(bytes);
+    }
+    let mut sent = vec![in alloc; 0u8; size].map_err(|_| DgiFault::Memory)?;
+    write_coded(&grouping, &mut sent);
+    Ok(sent)
+}
+
 /// The sent form of the grouping that hexadecimal text spells (EMV CPS 1.1), its letters in either case.
 ///
 /// # Errors
@@ -40,13 +56,5 @@ pub fn from_hex_text(alloc: Global, t: &[u8]) -> Result<Vec<u8>, DgiFault>
     ensures ok { IfOk result (λ v. sent_of t.now ≡ Ok v.items) }
     ensures err { IfErr result (λ e. (e ≡ Memory) ⊎ (sent_of t.now ≡ Err e)) }
 {
-    let bytes = bytes_of(alloc, t)?;
-    let grouping = read_whole(&bytes)?;
-    let size = coded_len(&grouping);
-    if size == bytes.len() {
-        return Ok(bytes);
-    }
-    let mut sent = vec![in alloc; 0u8; size].map_err(|_| DgiFault::Memory)?;
-    write_coded(&grouping, &mut sent);
-    Ok(sent)
+    resent(alloc, bytes_of(alloc, t)?)
 }

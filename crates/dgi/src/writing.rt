@@ -7,13 +7,13 @@ ghost use Rattle.dgi.specs.Coding.{coded, content, max_body, short_length};
 use crate::Grouping;
 
 // The identifier and the shortest length, and how many of the five bytes they take.
-fn head(id: u16, length: u16) -> ([u8; 5], usize)
-    ensures bytes { take result.1 result.0 ≡ to_be_bytes w16 id ++ short_length «length» }
-    ensures size { result.1 ≡ length (to_be_bytes w16 id ++ short_length «length») }
+fn head(id: u16, count: u16) -> ([u8; 5], usize)
+    ensures bytes { take result.1 result.0 ≡ to_be_bytes w16 id ++ short_length count }
+    ensures size { result.1 ≡ length (to_be_bytes w16 id ++ short_length count) }
 {
     let [id_high, id_low] = id.to_be_bytes();
-    let [high, low] = length.to_be_bytes();
-    if length <= 254 {
+    let [high, low] = count.to_be_bytes();
+    if count <= 254 {
         ([id_high, id_low, low, 0, 0], 3)
     } else {
         ([id_high, id_low, 0xFF, high, low], 5)
