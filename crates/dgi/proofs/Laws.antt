@@ -60,7 +60,7 @@ whole_again g b s =
 -- ---- what is read is spelt by the bytes that were taken
 
 -- the value of a step that did not fail
-bind_ok : {A B : Type 0} (r : Result A DgiFault) (f : A → Result B DgiFault) (y : B) → (r >>= f) ≡ Ok y → (x : A) × (r ≡ Ok x) × (f x ≡ Ok y)
+pub bind_ok : {A B : Type 0} (r : Result A DgiFault) (f : A → Result B DgiFault) (y : B) → (r >>= f) ≡ Ok y → (x : A) × (r ≡ Ok x) × (f x ≡ Ok y)
 bind_ok (Ok x) f y e = (x, refl, e)
 bind_ok (Err d) f y e = absurd cc
 
@@ -69,10 +69,10 @@ guard_ok : {A : Type 0} (b : Bool) (d : DgiFault) (r : Result A DgiFault) (y : A
 guard_ok true d r y e = absurd cc
 guard_ok false d r y e = (refl, e)
 
-abbrev done : {A : Type 0} → A → Result A DgiFault
+abbrev pub done : {A : Type 0} → A → Result A DgiFault
 done x = Ok x
 
-ok_is : {A : Type 0} (x y : A) → done x ≡ done y → x ≡ y
+pub ok_is : {A : Type 0} (x y : A) → done x ≡ done y → x ≡ y
 ok_is x y e = cc
 
 IsBytes-rest : (x : ℕ) (b : List ℕ) → IsBytes (x ∷ b) → IsBytes b
@@ -192,6 +192,9 @@ together b id n a c body rest t_id id_fits t_n t =
           (coded_long (record { id = id; body = body }), record { fits = fits; spelt = inr refl }, joined b a c (to_be_bytes w16 id) (long_length (length body)) body rest t_id.parts (long.parts ∙ ap (λ (s : List ℕ). s ++ c) size-is) t.parts)
     ]
 
+moved : (b : List ℕ) (y x : Content × List ℕ) → y ≡ x → SpeltFront b y.0 y.1 → SpeltFront b x.0 x.1
+moved b y x e spelt = subst (λ (z : Content × List ℕ). SpeltFront b z.0 z.1) e spelt
+
 -- what was read is spelt by the bytes before the rest
 pub read_takes : (b : List ℕ) (x : Content × List ℕ) → IsBytes b → read_of b ≡ Ok x → SpeltFront b x.0 x.1
 unfolding read_of
@@ -203,7 +206,7 @@ read_takes b x h e =
     let t_id = identifier_takes b id.0.0 id.0.1 h id.1 in
     let t_n = length_takes id.0.1 n.0.0 n.0.1 t_id.0.rest_bytes n.1 in
     let t_body = body_takes n.0.0 n.0.1 body.0.0 body.0.1 (rest_of id.0.1 n.0.0 n.0.1 t_n) body.1 in
-    subst (λ (y : Content × List ℕ). SpeltFront b y.0 y.1) (ok_is made x body.2) (together b id.0.0 n.0.0 id.0.1 n.0.1 body.0.0 body.0.1 t_id.0 t_id.1 t_n t_body)
+    moved b made x (ok_is made x body.2) (together b id.0.0 n.0.0 id.0.1 n.0.1 body.0.0 body.0.1 t_id.0 t_id.1 t_n t_body)
 
 ended : (b : Bool) (x y : Content) → cond b (Ok x) (Err Trailing) ≡ Ok y → (b ≡ true) × (x ≡ y)
 ended true x y e = (refl, cc)

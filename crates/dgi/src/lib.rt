@@ -6,6 +6,8 @@
 
 mod fault;
 mod reading;
+#[cfg(test)]
+mod tests;
 mod text;
 mod writing;
 

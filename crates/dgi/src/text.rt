@@ -40,6 +40,14 @@ fn resent(alloc: Global, bytes: Vec<u8>) -> Result<Vec<u8>, DgiFault>
     Ok(sent)
 }
 
+#[tactic(auto, unfolding(crate::specs::Coding::sent_of))]
+fn sent(alloc: Global, t: &[u8]) -> Result<Vec<u8>, DgiFault>
+    ensures ok { IfOk result (λ v. sent_of t.now ≡ Ok v.items) }
+    ensures err { IfErr result (λ e. (e ≡ Memory) ⊎ (sent_of t.now ≡ Err e)) }
+{
+    resent(alloc, bytes_of(alloc, t)?)
+}
+
 /// The sent form of the grouping that hexadecimal text spells (EMV CPS 1.1), its letters in either case.
 ///
 /// # Errors
@@ -56,5 +64,5 @@ pub fn from_hex_text(alloc: Global, t: &[u8]) -> Result<Vec<u8>, DgiFault>
     ensures ok { IfOk result (λ v. sent_of t.now ≡ Ok v.items) }
     ensures err { IfErr result (λ e. (e ≡ Memory) ⊎ (sent_of t.now ≡ Err e)) }
 {
-    resent(alloc, bytes_of(alloc, t)?)
+    sent(alloc, t)
 }
