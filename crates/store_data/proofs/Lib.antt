@@ -1,1 +1,2 @@
 pub mod ShortLemmas
+pub mod GroupLemmas

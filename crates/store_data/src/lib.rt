@@ -3,11 +3,15 @@
 
 mod aid;
 mod bytes;
+mod faults;
+mod groups;
 mod name;
 mod row;
 mod short;
 
 pub use aid::Aid;
 pub use bytes::Bytes;
+pub use faults::{PlanFault, Summary};
+pub use groups::{grouped, Keyed};
 pub use name::Name;
 pub use row::{Enc, Product, Row};
