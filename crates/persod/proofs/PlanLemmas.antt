@@ -1,0 +1,103 @@
+-- Where `clap` takes the program's words, they name `plan`, and each of its options has a number.
+use Rattle.std.proofs.Common.{◌≡◌, ◌∙◌, ◌&&◌, ◌||◌, ℕ, Bool, not, true, false, true≢false, cond, codes, inl, inr, refl, sym, ap, subst, arith, List, [], ◌∷◌, Option, Some, None, is_some}
+use Rattle.std.specs.Prelude.{option_map, pos}
+use Rattle.std.specs.Option.{option_map_or}
+use Rattle.std.specs.Str.{bytes_eq}
+use Rattle.std.proofs.lemmas.Slice.Eq.{bytes_eq-Decides}
+use Rattle.clap.specs.Walk.{Names, Row, Text, nothing_held, rows_after, walk}
+use Rattle.clap.specs.Simple.{App, Shape, argument_words, built, entered, names_of, new_shape, rows_at, subcommand_of}
+use Rattle.clap.specs.Faults.{built_fault, entered_fault, fault_of, level_fault}
+use Rattle.clap.proofs.OnLiterals.{clap_on_literals}
+use Rattle.clap.proofs.ValueTestLemmas.{accepts-Accepts}
+use Rattle.persod.specs.Words.{HasNumber, IsPlan, numbers, program}
+use Rattle.persod.proofs.TakenLemmas.{Each, HasDefault, IsOption, OptionOf, SomeDefault, StopFits, level_below, level_stop, level_subcommand, level_value}
+
+abbrev shape_at : List Shape → Shape
+shape_at [] = new_shape []
+shape_at (s ∷ shapes) = s
+
+abbrev plan_built : Shape
+plan_built = shape_at (built program).subs
+
+max_option : Each (OptionOf (codes "max") (numbers 16 255)) plan_built.rules
+max_option = (
+  (λ same. record { action = refl; least = refl; parser = refl; ignore_case = refl }),
+  ((λ bad. absurd (true≢false (sym bad))), ((λ bad. absurd (true≢false (sym bad))), tt)),
+)
+
+low_option : Each (OptionOf (codes "low") (numbers 0 31)) plan_built.rules
+low_option = (
+  (λ bad. absurd (true≢false (sym bad))),
+  (
+    (λ same. record { action = refl; least = refl; parser = refl; ignore_case = refl }),
+    ((λ bad. absurd (true≢false (sym bad))), tt),
+  ),
+)
+
+max_default : SomeDefault (codes "max") (numbers 16 255) plan_built.rules
+max_default = inl (record { own = refl; first = codes "255"; rest = []; defaults = refl })
+
+low_default : SomeDefault (codes "low") (numbers 0 31) plan_built.rules
+low_default = inr (inl (record { own = refl; first = codes "0"; rest = []; defaults = refl }))
+
+plan_values : (words : List Text) → level_fault plan_built [] nothing_held words false [] ≡ []
+    → HasNumber (codes "max") 16 255 (rows_after plan_built.rules [] words) × HasNumber (codes "low") 0 31 (rows_after plan_built.rules [] words)
+plan_values words none =
+    let max = level_value (codes "max") (numbers 16 255) plan_built [] words false [] max_option max_default none in
+    let low = level_value (codes "low") (numbers 0 31) plan_built [] words false [] low_option low_default none in
+    (
+      (max.0, max.1, accepts-Accepts false (numbers 16 255) max.0 max.2),
+      (low.0, low.1, accepts-Accepts false (numbers 0 31) low.0 low.2),
+    )
+
+-- ---- the subcommand
+
+abbrev top : Shape
+top = (built program).top
+
+no_option : Each (OptionOf (codes "max") (numbers 16 255)) top.rules
+no_option = ((λ bad. absurd (true≢false (sym bad))), tt)
+
+abbrev Stop : Type 0
+Stop = Option (Text × List Text)
+
+abbrev Entered : Option (Text × List Row) → Type 0
+Entered sub = (words : List Text) × (sub ≡ Some (codes "plan", rows_after plan_built.rules [] words))
+    × (level_fault plan_built [] nothing_held words false [] ≡ [])
+
+entered_at : (is_plan is_help : Bool) (s : Shape) (words : List Text) → (is_help ≡ true → ⊥)
+    → is_some (option_map (λ s. rows_at s words) (cond is_plan (Some plan_built) (cond is_help (Some s) None))) ≡ true
+    → option_map_or (λ s. level_fault s [] nothing_held words false []) (cond is_plan (Some plan_built) (cond is_help (Some s) None)) [] ≡ []
+    → Entered (option_map (λ s. rows_at s words) (cond is_plan (Some plan_built) (cond is_help (Some s) None)))
+entered_at true is_help s words other some none = (words, refl, none)
+entered_at false true s words other some none = absurd (other refl)
+entered_at false false s words other some none = absurd (true≢false (sym some))
+
+or_false : (b : Bool) → (b || false) ≡ true → b ≡ true
+or_false true e = refl
+or_false false e = e
+
+no_help : (name : Text) → (bytes_eq name (codes "help") && true) ≡ false → (bytes_eq (codes "help") name || false) ≡ true → ⊥
+no_help name stop is =
+    let same : name ≡ codes "help" = sym ((bytes_eq-Decides (codes "help") name).0 (or_false _ is)) in
+    let both : (true && true) ≡ false = subst (λ b. (b && true) ≡ false) ((bytes_eq-Decides name (codes "help")).1 same) stop in
+    true≢false both
+
+entered_plan : (stop : Stop) → StopFits (codes "max") (numbers 16 255) top (names_of (built program)) no_option stop
+    → is_some (entered (built program) stop) ≡ true → entered_fault (built program) stop ≡ [] → Entered (entered (built program) stop)
+entered_plan None fits some none = absurd (true≢false (sym some))
+entered_plan (Some p) fits some none =
+    entered_at (bytes_eq (codes "plan") p.0 || false) (bytes_eq (codes "help") p.0 || false) _ p.1 (no_help p.0 fits) some none
+
+pub plan_taken : (words : List Text) → fault_of program words ≡ [] → IsPlan (subcommand_of program words)
+plan_taken words none =
+    let given = argument_words program words in
+    let names = names_of (built program) in
+    let stop : Stop = (walk top.rules names nothing_held given).stopped in
+    let sub = entered (built program) stop in
+    let fits = level_stop (codes "max") (numbers 16 255) top names given (is_some sub) (entered_fault (built program) stop) no_option none in
+    let below = level_below top names given (is_some sub) (entered_fault (built program) stop) none in
+    let some = level_subcommand top names given (is_some sub) (entered_fault (built program) stop) refl none in
+    let plan = entered_plan stop fits some below in
+    let values = plan_values plan.0 plan.2 in
+    (rows_after plan_built.rules [] plan.0, plan.1, values.0, values.1)
