@@ -103,3 +103,31 @@ gives_sent view t (Err e) ok err g s =
       | inl memory ↦ memory
       | inr fault ↦ let both : Err e ≡ done (coded g) = sym fault ∙ text_again t g s in absurd cc
     ]
+
+-- ---- for the crates above
+
+-- a sent form is read again
+pub whole_of-coded : (g : Content) → Fits g → whole_of (coded g) ≡ Ok g
+whole_of-coded g fits = whole_again g (coded g) (record { fits = fits; spelt = inl refl })
+
+-- no two groupings have one sent form
+pub coded-injective : (g h : Content) → Fits g → Fits h → coded g ≡ coded h → g ≡ h
+coded-injective g h g_fits h_fits e =
+    let both : done g ≡ done h = sym (whole_of-coded g g_fits) ∙ ap whole_of e ∙ whole_of-coded h h_fits in
+    ok_is g h both
+
+-- bytes in sent form spell their grouping
+pub Spells-from_sent : (b : List ℕ) (s : IsSent b) → Spells b s.0
+Spells-from_sent b s = record { fits = s.1; spelt = inl s.2 }
+
+-- bytes in sent form are read
+pub whole_of-sent : (b : List ℕ) (s : IsSent b) → whole_of b ≡ Ok s.0
+whole_of-sent b s = whole_again s.0 b (Spells-from_sent b s)
+
+-- how many bytes a sent form has
+pub length-sent : (b : List ℕ) → IsSent b → (3 ≤ length b) × (length b ≤ 16389)
+length-sent b s =
+    let sized = length-coded s.0 in
+    let size = ap length s.2 in
+    let most = s.1.body in
+    (grind arith, grind arith)
