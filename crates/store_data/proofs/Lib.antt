@@ -1,2 +1,3 @@
 pub mod ShortLemmas
 pub mod GroupLemmas
+pub mod PlanLemmas

@@ -1,5 +1,5 @@
 -- The commands that personalise a card: its applications, their segments and pieces, and the command sequence.
-use Rattle.std.specs.Prelude.{◌==◌, ◌≤◌, ◌&&◌, ◌||◌, ◌+◌, ◌-◌, ◌*◌, ◌/◌, ℕ, Bool, true, false, List, [], ◌∷◌, ◌++◌, length, take, drop, map, filter, All, if◌then◌else◌}
+use Rattle.std.specs.Prelude.{◌==◌, ◌≤◌, ◌&&◌, ◌||◌, ◌+◌, ◌-◌, ◌*◌, ◌/◌, ℕ, Bool, true, false, List, [], ◌∷◌, ◌++◌, length, take, drop, map, filter, All, Option, Some, None, if◌then◌else◌}
 use Rattle.std.specs.List.{flat_map, range_with_len, enumerate_from}
 use Rattle.store_data.specs.Sent.{IsSent}
 use Rattle.store_data.specs.declared.row.Enc.{Enc}
@@ -55,6 +55,11 @@ rows_of_rank rows r = filter (λ (row : Row). row.rank == r) rows
 abbrev pub segment_of : List Row → List Segment
 segment_of [] = []
 segment_of (row ∷ more) = record { enc = row.enc; tol = row.tol; bytes = flat_map (λ (r : Row). r.coded) (row ∷ more) } ∷ []
+
+-- a segment, if there is one, with one more row of its rank
+abbrev pub with_row : Option Segment → Row → Segment
+with_row None row = record { enc = row.enc; tol = row.tol; bytes = row.coded }
+with_row (Some s) row = record { enc = s.enc; tol = s.tol; bytes = s.bytes ++ row.coded }
 
 -- an application's segments: that of each rank in turn that has a row
 unfoldable pub segments_of : List Row → List Segment
@@ -132,6 +137,21 @@ pub record Plan : Type 0 where
   pub max : ℕ
   pub low : ℕ
   pub applications : List Application
+
+-- what planning leaves of a record: at least a piece in each segment, at most 256 pieces in each application
+pub record IsApplication (max : ℕ) (a : Application) : Type 0 where
+  pub aid_least : 5 ≤ length a.aid
+  pub aid_most : length a.aid ≤ 16
+  pub segments : length a.segments ≤ 999
+  pub filled : All (λ (s : Segment). 1 ≤ length s.bytes) a.segments
+  pub blocks : length (flat_map (pieces_of max) a.segments) ≤ 256
+
+pub record IsPlan (plan : Plan) : Type 0 where
+  pub max_least : 16 ≤ plan.max
+  pub max_most : plan.max ≤ 255
+  pub low : plan.low ≤ 31
+  pub many : length plan.applications ≤ 4096
+  pub each : All (IsApplication plan.max) plan.applications
 
 abbrev pub plan_of : Product → List Row → Plan
 plan_of p rows = record { max = p.max; low = p.low; applications = applications_of rows }

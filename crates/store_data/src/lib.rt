@@ -6,6 +6,7 @@ mod bytes;
 mod faults;
 mod groups;
 mod name;
+mod plan;
 mod row;
 mod short;
 
