@@ -1,6 +1,6 @@
 //! Groupings out of bytes.
 
-ghost use Rattle.std.specs.Prelude.{◌≡◌, ◌++◌, ℕ, List, length, Result, Ok, Err, IfOk, IsOkAnd, MatchResult};
+ghost use Rattle.std.specs.Prelude.{◌≡◌, ◌++◌, ℕ, List, IfOk, IsOkAnd, MatchResult};
 ghost use Rattle.dgi.specs.Coding.{Content, Spells, body_of, content, identifier_of, length_of, long_length_of, read_of, whole_of};
 
 use crate::fault::DgiFault;

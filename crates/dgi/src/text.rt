@@ -1,16 +1,15 @@
 //! Groupings out of hexadecimal text.
 
-ghost use Rattle.std.specs.Prelude.{◌≡◌, ◌⊎◌, Result, Ok, Err, IfOk, IfErr, MatchResult};
+ghost use Rattle.std.specs.Prelude.{◌≡◌, ◌⊎◌, IfOk, IfErr, MatchResult};
 ghost use Rattle.dgi.specs.declared.fault.DgiFault.TheVariants.{Memory};
 ghost use Rattle.hex.specs.Hex.{decode_of};
 ghost use Rattle.dgi.specs.Coding.{Content, IsSent, TextSpells, bytes_or_fault, coded, resent_of, sent_of};
-
-use std::alloc::Global;
 
 use crate::fault::DgiFault;
 use crate::reading::read_whole;
 use crate::writing::{coded_len, write_coded};
 use hex::FromHexError;
+use std::alloc::Global;
 
 // The bytes that the text stands for.
 fn bytes_of(alloc: Global, t: &[u8]) -> Result<Vec<u8>, DgiFault>
