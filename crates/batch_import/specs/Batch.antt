@@ -1,0 +1,133 @@
+-- The rows of a batch file, or its first fault (this project's profile).
+use Rattle.std.specs.Prelude.{◌==◌, ◌+◌, ℕ, Bool, true, false, not, List, [], ◌∷◌, length, map, nat_le, nat_lt, Option, Some, None, Result, Ok, Err, if◌then◌else◌}
+use Rattle.std.specs.List.{enumerate_from}
+use Rattle.std.specs.Cmp.Lexicographic.{pointwise}
+use Rattle.std.specs.Prelude.{bytes_eq}
+use Rattle.store_data.specs.Groups.{with_key, grouped}
+use Rattle.store_data.specs.RecordFaults.{record_fault}
+use Rattle.store_data.specs.declared.row.Row.{Row}
+use Rattle.store_data.specs.declared.row.Product.{Product}
+use Rattle.store_data.specs.declared.faults.PlanFault.{PlanFault}
+use Rattle.store_data.specs.declared.faults.PlanFault.TheVariants as plan
+use Rattle.batch_import.specs.declared.fault.Kind.{Kind}
+use Rattle.batch_import.specs.declared.fault.Kind.TheVariants as kind
+use Rattle.batch_import.specs.declared.fault.RowFault.{RowFault}
+use Rattle.batch_import.specs.Fields.{◌>>=◌, Texts, header, or_fault, texts_of, typed_of}
+use Rattle.batch_import.specs.Records.{records_of}
+
+-- ---- a data row
+
+-- what came before a data row: how many data rows, and the names of their records
+pub record Before : Type 0 where
+  pub count : ℕ
+  pub names : List (List ℕ)
+
+abbrev pub nothing : Before
+nothing = record { count = 0; names = [] }
+
+-- the same with one row more
+abbrev pub with_row : Before → Row → Before
+with_row before row = record { count = before.count + 1; names = with_key before.names row.rec }
+
+-- the row, if there are at most 4,096 data rows and 1,024 records with it
+abbrev pub within_limits : Before → Row → Result Row Kind
+within_limits before row =
+    if nat_le 4096 before.count then Err kind.TooManyRows
+    else if nat_lt 1024 (length (with_key before.names row.rec)) then Err kind.TooManyRecords
+    else Ok row
+
+-- a data row, or its least fault
+unfoldable pub row_of : Before → List (List ℕ) → Result Row Kind
+row_of before fields = do
+  texts ← or_fault (texts_of fields) kind.NotSixFields
+  row ← typed_of texts
+  within_limits before row
+
+-- ---- the rows of a file
+
+-- the rows up to the first fault, and that fault
+pub record Coming : Type 0 where
+  pub rows : List Row
+  pub fault : Option RowFault
+
+abbrev pub no_more : Coming
+no_more = record { rows = []; fault = None }
+
+abbrev pub fault_at : ℕ → Kind → Coming
+fault_at n k = record { rows = []; fault = Some (record { row = n; kind = k }) }
+
+-- a row, and what comes after it
+abbrev pub first_then : Result Row Kind → ℕ → (Row → Coming) → Coming
+first_then (Ok row) n more = record { rows = row ∷ (more row).rows; fault = (more row).fault }
+first_then (Err k) n more = fault_at n k
+
+-- what comes of the data rows; the first data row of a file is row 2
+unfoldable pub data_rows : Before → List (List (List ℕ)) → Coming
+data_rows before [] = no_more
+data_rows before (fields ∷ rest) = first_then (row_of before fields) (before.count + 2) (λ row. data_rows (with_row before row) rest)
+
+-- the first record is the header
+abbrev pub is_header : List (List ℕ) → Bool
+is_header fields = pointwise bytes_eq fields header
+
+-- what comes of the records of a file
+unfoldable pub file_rows : List (List (List ℕ)) → Coming
+file_rows [] = fault_at 1 kind.Header
+file_rows (first ∷ rest) =
+    if not (length first == 6) then fault_at 1 kind.NotSixFields
+    else if not (is_header first) then fault_at 1 kind.Header
+    else data_rows nothing rest
+
+-- what comes of the bytes of a file
+abbrev pub coming_of : List ℕ → Coming
+coming_of raw = file_rows (records_of raw)
+
+-- ---- the records of a file
+
+-- the numbered rows of each record, by first appearance
+abbrev pub records_of_rows : List Row → List (List (ℕ × Row))
+records_of_rows rows = grouped (λ (e : ℕ × Row). e.1.rec) (enumerate_from 2 rows)
+
+-- the number of a record's first row
+abbrev pub first_number : List (ℕ × Row) → ℕ
+first_number [] = 0
+first_number (e ∷ more) = e.0
+
+abbrev pub kind_of_plan : PlanFault → Kind
+kind_of_plan plan.MarksDiffer = kind.MarksDiffer
+kind_of_plan plan.IdentifierTwice = kind.IdentifierTwice
+kind_of_plan plan.TooManyBlocks = kind.TooManyBlocks
+kind_of_plan plan.Memory = kind.NoRows
+
+-- a fault of planning, told with a row
+abbrev pub told_at : ℕ → Option PlanFault → Option RowFault
+told_at n None = None
+told_at n (Some fault) = Some (record { row = n; kind = kind_of_plan fault })
+
+abbrev pub or_else : {A : Type 0} → Option A → Option A → Option A
+or_else (Some x) more = Some x
+or_else None more = more
+
+-- the fault of the first record that has one, told with the record's first row; m is the product's `max`
+unfoldable pub first_record_fault : ℕ → List (List (ℕ × Row)) → Option RowFault
+first_record_fault m [] = None
+first_record_fault m (group ∷ more) =
+    or_else (told_at (first_number group) (record_fault m (map (λ (e : ℕ × Row). e.1) group))) (first_record_fault m more)
+
+-- ---- a batch
+
+abbrev pub ok_unless : Option RowFault → List Row → Result (List Row) RowFault
+ok_unless (Some fault) rows = Err fault
+ok_unless None rows = Ok rows
+
+-- rows without a fault of their own: a batch has at least one, and each of its records has a plan
+abbrev pub planned_rows : ℕ → List Row → Result (List Row) RowFault
+planned_rows m [] = Err (record { row = 1; kind = kind.NoRows })
+planned_rows m (row ∷ more) = ok_unless (first_record_fault m (records_of_rows (row ∷ more))) (row ∷ more)
+
+abbrev pub batch_with : ℕ → Coming → Result (List Row) RowFault
+batch_with m coming = elim coming.fault as (λ _. Result (List Row) RowFault) [ Some fault ↦ Err fault | None ↦ planned_rows m coming.rows ]
+
+-- the rows of a batch file, or its first fault
+unfoldable pub batch_of : Product → List ℕ → Result (List Row) RowFault
+batch_of p raw = batch_with p.max (coming_of raw)
