@@ -1,6 +1,6 @@
 -- What a reader gets of an option that has a number.
-use Rattle.std.proofs.Common.{◌≡◌, ◌∙◌, ◌<◌, ◌≤◌, ◌^◌, ℕ, List, Option, Some, refl, sym, subst, ap, arith}
-use Rattle.std.specs.Prelude.{Result, Ok, option_map, pos}
+use Rattle.std.proofs.Common.{◌≡◌, ◌∙◌, ◌<◌, ◌≤◌, ◌^◌, ℕ, List, Option, Some, sym, subst, ap}
+use Rattle.std.specs.Prelude.{Result, Ok, option_map}
 use Rattle.std.specs.Str.Parse.{ParsesUnsigned, digits_value, without_leading_plus}
 use Rattle.clap.specs.Words.{Row, Text, one_of, one_text, rows_of, without_minus}
 use Rattle.clap.specs.Matches.{ReadsOne}

@@ -1,16 +1,15 @@
 -- Where `clap` takes the program's words, they name `plan`, and each of its options has a number.
-use Rattle.std.proofs.Common.{◌≡◌, ◌∙◌, ◌&&◌, ◌||◌, ℕ, Bool, not, true, false, true≢false, cond, codes, inl, inr, refl, sym, ap, subst, arith, List, [], ◌∷◌, Option, Some, None, is_some}
-use Rattle.std.specs.Prelude.{option_map, pos}
+use Rattle.std.proofs.Common.{◌≡◌, ◌&&◌, ◌||◌, Bool, true, false, true≢false, cond, codes, inl, inr, refl, sym, subst, List, [], ◌∷◌, Option, Some, None, is_some}
+use Rattle.std.specs.Prelude.{option_map}
 use Rattle.std.specs.Option.{option_map_or}
 use Rattle.std.specs.Str.{bytes_eq}
 use Rattle.std.proofs.lemmas.Slice.Eq.{bytes_eq-Decides}
-use Rattle.clap.specs.Walk.{Names, Row, Text, nothing_held, rows_after, walk}
-use Rattle.clap.specs.Simple.{App, Shape, argument_words, built, entered, names_of, new_shape, rows_at, subcommand_of}
-use Rattle.clap.specs.Faults.{built_fault, entered_fault, fault_of, level_fault}
-use Rattle.clap.proofs.OnLiterals.{clap_on_literals}
+use Rattle.clap.specs.Walk.{Row, Text, nothing_held, rows_after, walk}
+use Rattle.clap.specs.Simple.{Shape, argument_words, built, entered, names_of, new_shape, rows_at, subcommand_of}
+use Rattle.clap.specs.Faults.{entered_fault, fault_of, level_fault}
 use Rattle.clap.proofs.ValueTestLemmas.{accepts-Accepts}
 use Rattle.persod.specs.Words.{HasNumber, IsPlan, numbers, program}
-use Rattle.persod.proofs.TakenLemmas.{Each, HasDefault, IsOption, OptionOf, SomeDefault, StopFits, level_below, level_stop, level_subcommand, level_value}
+use Rattle.persod.proofs.TakenLemmas.{Each, OptionOf, SomeDefault, StopFits, level_below, level_stop, level_subcommand, level_value}
 
 abbrev shape_at : List Shape → Shape
 shape_at [] = new_shape []
@@ -21,7 +20,7 @@ plan_built = shape_at (built program).subs
 
 max_option : Each (OptionOf (codes "max") (numbers 16 255)) plan_built.rules
 max_option = (
-  (λ same. record { action = refl; least = refl; parser = refl; ignore_case = refl }),
+  (λ same. record { setting = refl; filled = inl refl; parser = refl; ignore_case = refl }),
   ((λ bad. absurd (true≢false (sym bad))), ((λ bad. absurd (true≢false (sym bad))), tt)),
 )
 
@@ -29,7 +28,7 @@ low_option : Each (OptionOf (codes "low") (numbers 0 31)) plan_built.rules
 low_option = (
   (λ bad. absurd (true≢false (sym bad))),
   (
-    (λ same. record { action = refl; least = refl; parser = refl; ignore_case = refl }),
+    (λ same. record { setting = refl; filled = inl refl; parser = refl; ignore_case = refl }),
     ((λ bad. absurd (true≢false (sym bad))), tt),
   ),
 )
@@ -44,8 +43,7 @@ plan_values : (words : List Text) → level_fault plan_built [] nothing_held wor
     → HasNumber (codes "max") 16 255 (rows_after plan_built.rules [] words) × HasNumber (codes "low") 0 31 (rows_after plan_built.rules [] words)
 plan_values words none =
     let max = level_value (codes "max") (numbers 16 255) plan_built [] words false [] max_option max_default none in
-    let low = level_value (codes "low") (numbers 0 31) plan_built [] words false [] low_option low_default none in
-    (
+    let low = level_value (codes "low") (numbers 0 31) plan_built [] words false [] low_option low_default none in (
       (max.0, max.1, accepts-Accepts false (numbers 16 255) max.0 max.2),
       (low.0, low.1, accepts-Accepts false (numbers 0 31) low.0 low.2),
     )

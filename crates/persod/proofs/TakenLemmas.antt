@@ -1,9 +1,9 @@
 -- Where `clap` takes the words of a command, the row of an option begins with a value that the
 -- option's parser takes.
 use Rattle.std.proofs.Common.{◌≡◌, ◌∙◌, ◌+◌, ◌⊎◌, ◌&&◌, ◌||◌, ℕ, Bool, cond, codes, true, false, true≢false, not, zero, suc, refl, sym, ap, arith, subst, inl, inr, List, [], ◌∷◌, ◌++◌, length, drop, min, Option, Some, None, is_some}
-use Rattle.std.specs.Prelude.{if◌then◌else◌, IfSome, encode_utf8, slice_get, option_map, option_and_then, find, fold, nat_lt, ◌==◌}
+use Rattle.std.specs.Prelude.{if◌then◌else◌, IfSome, encode_utf8, slice_get, option_map, option_and_then, find, fold}
 use Rattle.std.specs.Option.{option_map_or}
-use Rattle.std.specs.List.{list_all, list_any}
+use Rattle.std.specs.List.{list_any}
 use Rattle.std.specs.Str.{bytes_eq, chars}
 use Rattle.std.proofs.lemmas.Bool.{ne_eqb}
 use Rattle.std.proofs.lemmas.Slice.Eq.{bytes_eq-Decides}
@@ -12,11 +12,11 @@ use Rattle.clap.specs.Values.{read_as, reading_of}
 use Rattle.clap.specs.ValueTests.{accepts}
 use Rattle.clap.specs.Matches.{count_text}
 use Rattle.clap.specs.Facts.{explicit_source, parser_of_value, unwrap_or_range}
-use Rattle.clap.specs.Walk.{Held, Names, Outcome, done, waits, plain, refused, Row, Rule, Step, next, trailing, subcommand, value, Text, Waiting, idle, option, positional, Walk, action_of, after_flag, after_step, arg_by_id, arg_by_index, arg_by_long, arg_by_short, at_row, attached_value, bundle, bundle_met, bundle_step, counted, count_of, default_rows, rows_after, finished, flag_met, has_row, is_empty, is_pending, long_met, long_or_other, more_values, most_values, new_count, nothing_held, one_of, option_met, option_word, plain_word, positional_held, reacted, reading_by, row_text, settled, settled_rows, short_met, short_or_plain, subcommand_met, subcommand_or_other, takes_several, takes_values, to_positional, used, used_as, used_by_id, values_or_missing, walk, walk_from, walked, walked_from, with_count, with_default, with_values, without, word_met}
-use Rattle.clap.specs.Simple.{App, Shape, entered, names_of}
+use Rattle.clap.specs.Walk.{Held, Names, Outcome, done, waits, plain, refused, Row, Rule, Step, next, trailing, subcommand, value, Text, Waiting, idle, option, positional, Walk, action_of, after_flag, after_step, arg_by_id, arg_by_index, arg_by_long, arg_by_short, at_row, attached_value, bundle, bundle_met, bundle_step, count_of, default_rows, rows_after, finished, flag_met, has_row, is_empty, is_pending, long_met, long_or_other, more_values, new_count, nothing_held, one_of, option_met, option_word, plain_word, reacted, reading_by, row_text, settled, settled_rows, short_met, short_or_plain, subcommand_met, subcommand_or_other, takes_several, takes_values, to_positional, used, used_as, used_by_id, values_or_missing, walk, walk_from, walked, walked_from, with_count, with_default, with_values, without, word_met}
+use Rattle.clap.specs.Simple.{Shape}
 use Rattle.clap.specs.Takes.{is_given}
-use Rattle.clap.specs.Kinds.{Kinds, check_kinds, or_else, range_kinds, request_kinds, value_kinds, values_kinds}
-use Rattle.clap.specs.Faults.{action_fault, built_fault, bundle_step_fault, check_fault, default_fault, defaults_fault, entered_fault, flag_word_fault, flags_fault, given_default_fault, level_fault, long_fault, option_fault, other_fault, positional_fault, react_fault, set_fault, settle_fault, short_fault, step_fault, stray_fault, turn_fault, use_fault, values_fault, walk_fault, word_fault}
+use Rattle.clap.specs.Kinds.{Kinds, check_kinds, or_else, range_kinds, request_kinds}
+use Rattle.clap.specs.Faults.{action_fault, bundle_step_fault, check_fault, defaults_fault, flag_word_fault, flags_fault, given_default_fault, level_fault, long_fault, option_fault, other_fault, positional_fault, react_fault, set_fault, settle_fault, short_fault, step_fault, stray_fault, use_fault, values_fault, walk_fault, word_fault}
 use Rattle.clap.specs.declared.builder.action.ArgAction.{ArgAction}
 use Rattle.clap.specs.declared.builder.action.ArgAction.TheVariants.{Set, SetTrue, SetFalse, Append, Count}
 use Rattle.clap.specs.declared.builder.value_parser.Reading.{Reading}
@@ -64,10 +64,17 @@ record Begins (q : ValueParser) (how : Reading) (values : List Text) : Type 0 wh
 abbrev Good : Text → ValueParser → Row → Type 0
 Good id q r = bytes_eq r.id id ≡ true → Begins q r.reading r.values
 
--- what the words ask of a rule, where it is the option's
+-- a use of the argument sets its value
+abbrev pub sets : ArgAction → Bool
+sets Set = true
+sets SetTrue = true
+sets SetFalse = true
+sets _ = false
+
+-- the rule of an option with a value or of a flag, whose values q checks
 pub record IsOption (q : ValueParser) (a : Rule) : Type 0 where
-  pub action : action_of a ≡ Set
-  pub least : (unwrap_or_range a.range).start_inclusive ≡ 1
+  pub setting : sets (action_of a) ≡ true
+  pub filled : ((unwrap_or_range a.range).start_inclusive ≡ 1) ⊎ ((v : Text) × (vs : List Text) × (a.missing ≡ v ∷ vs))
   pub parser : parser_of_value a.parser ≡ q
   pub ignore_case : a.ignore_case ≡ false
 
@@ -139,13 +146,13 @@ module _ (id : Text) (q : ValueParser) where
   -- ---- one use of a rule
 
   acted : (x : ArgAction) (name : Text) (how : Reading) (values : List Text) (rows : List Row)
-      → (bytes_eq name id ≡ true → x ≡ Set) → (bytes_eq name id ≡ true → Begins q how values) → Goods rows → Goods (used_as x name how values rows)
+      → (bytes_eq name id ≡ true → sets x ≡ true) → (bytes_eq name id ≡ true → Begins q how values) → Goods rows → Goods (used_as x name how values rows)
   acted Set name how values rows own new h = with_values-good name how CommandLine values _ new (without-good name rows h)
   acted SetTrue name how values rows own new h = with_values-good name how CommandLine values _ new (without-good name rows h)
   acted SetFalse name how values rows own new h = with_values-good name how CommandLine values _ new (without-good name rows h)
   acted Append name how values rows own new h = with_values-good name how CommandLine values rows new h
   acted Count name how [] rows own new h =
-      with_count-good name how CommandLine (min (count_of name rows + 1) 255) (without name rows) (λ same. let bad : Count ≡ Set = own same in cc) (without-good name rows h)
+      with_count-good name how CommandLine (min (count_of name rows + 1) 255) (without name rows) (λ same. true≢false (sym (own same))) (without-good name rows h)
   acted Count name how (v ∷ vs) rows own new h = with_values-good name how CommandLine (v ∷ vs) _ new (without-good name rows h)
   acted _ name how values rows own new h = h
 
@@ -169,17 +176,30 @@ module _ (id : Text) (q : ValueParser) where
         reading = ap reading_of o.parser;
       }
 
+  setting_fault : (x : ArgAction) (again : Bool) (a : Rule) (values : List Text) (rows : List Row) → sets x ≡ true
+      → action_fault x again a values rows ≡ [] → set_fault again a values rows ≡ []
+  setting_fault Set again a values rows set none = none
+  setting_fault SetTrue again a values rows set none = none
+  setting_fault SetFalse again a values rows set none = none
+  setting_fault _ again a values rows set none = absurd (true≢false (sym set))
+
   given : (again : Bool) (a : Rule) (values : List Text) (rows : List Row) → IsOption q a → use_fault again a values rows ≡ []
       → Begins q (reading_by a) (values_or_missing a values)
-  given again a [] rows o none = absurd (no_values _ _ _ o.least none)
+  given again a [] rows o none = elim o.filled [
+    | inl one ↦ absurd (no_values _ _ _ one none)
+    | inr m ↦
+        let set = setting_fault (action_of a) again a a.missing rows o.setting (or_else-nil _ _ none).1 in
+        let fault : values_fault a (m.0 ∷ m.1) ≡ [] = subst (λ vs. values_fault a vs ≡ []) m.2 (or_else-nil _ _ set).1 in
+        subst (Begins q (reading_by a)) (sym m.2) (passing a m.0 m.1 o fault)
+  ]
   given again a (v ∷ vs) rows o none =
-      let set : set_fault again a (v ∷ vs) rows ≡ [] = subst (λ x. action_fault x again a (v ∷ vs) rows ≡ []) o.action (or_else-nil _ _ none).1 in
+      let set = setting_fault (action_of a) again a (v ∷ vs) rows o.setting (or_else-nil _ _ none).1 in
       passing a v vs o (or_else-nil _ _ set).1
 
   used-good : (again : Bool) (a : Rule) (values : List Text) (rows : List Row) → OptionOf id q a → use_fault again a values rows ≡ []
       → Goods rows → Goods (used a values rows)
   used-good again a values rows o none h =
-      acted (action_of a) a.id (reading_by a) (values_or_missing a values) rows (λ same. (o same).action)
+      acted (action_of a) a.id (reading_by a) (values_or_missing a values) rows (λ same. (o same).setting)
       (λ same. given again a values rows (o same) none) h
 
   -- ---- one word
@@ -479,7 +499,7 @@ module _ (id : Text) (q : ValueParser) where
   here_value r b = (
     b.first,
     subst (λ vs. option_map (read_as r.reading) (slice_get vs 0) ≡ Some (read_as (reading_of q) b.first)) (sym b.is)
-    (subst (λ (how : Reading). Some (read_as how b.first) ≡ Some (read_as (reading_of q) b.first)) (sym b.reading) refl),
+        (subst (λ (how : Reading). Some (read_as how b.first) ≡ Some (read_as (reading_of q) b.first)) (sym b.reading) refl),
     b.passes,
   )
 

@@ -67,10 +67,12 @@ fn program<'a>(alloc: Global) -> Result<Command<'a>, AllocError>
 fn plan_command<'a>(alloc: Global) -> Result<Command<'a>, AllocError>
     ensures { IfOk result (λ c. (app_of c ≡ plan_command) × ((fields_of c).has_globals ≡ false)) }
 {
-    let max = number_option(alloc, "max", value_parser!(u8).range(16..=255), "255")
-        .help("The most bytes of data in one STORE DATA, 16 to 255");
-    let low = number_option(alloc, "low", value_parser!(u8).range(0..=31), "0")
-        .help("Bits 5 to 1 of P1 in each STORE DATA, 0 to 31");
+    let max = number_option(alloc, "max", value_parser!(u8).range(16..=255), "255").help(
+        "The most bytes of data in one STORE DATA, 16 to 255",
+    );
+    let low = number_option(alloc, "low", value_parser!(u8).range(0..=31), "0").help(
+        "Bits 5 to 1 of P1 in each STORE DATA, 0 to 31",
+    );
     Command::new(alloc, "plan")
         .about("Prints the commands for each record of a batch, read from standard input")
         .arg(max)?
@@ -125,4 +127,4 @@ fn refusal_of(alloc: Global, error: &Error) -> Result<WordsFault, AllocError>
 }
 
 #[cfg(test)]
-mod tests {}
+mod tests;

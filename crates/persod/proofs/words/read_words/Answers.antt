@@ -1,5 +1,5 @@
-use Rattle.std.proofs.Common.{◌≡◌, ◌∙◌, refl, sym, subst, ap, true, [], map, List, ℕ}
-use Rattle.clap.specs.Words.{App, HasMatchesOf, fault_of, is_simple, is_simple_and_free, subcommand_of, subcommand_rows_of, HasKind}
+use Rattle.std.proofs.Common.{◌≡◌, refl, sym, subst, true, [], map}
+use Rattle.clap.specs.Words.{App, HasMatchesOf, fault_of, is_simple, is_simple_and_free, HasKind}
 use Rattle.clap.proofs.OnLiterals.{clap_on_literals}
 use Rattle.persod.specs.Words.{IsPlan, program}
 use Rattle.persod.proofs.PlanLemmas.{plan_taken}

@@ -1,11 +1,8 @@
-use Rattle.std.proofs.Common.{◌∙◌, ◌≡◌, ◌<◌, ◌^◌, ℕ, List, Option, Some, arith, ap, refl}
-use Rattle.std.specs.Prelude.{option_map, is_some, codes, ◌≤◌, Result}
+use Rattle.std.proofs.Common.{◌∙◌, ◌≡◌, ℕ, List, Option, Some, arith, ap}
+use Rattle.std.specs.Prelude.{option_map, is_some, codes, Result}
 use Rattle.std.specs.Str.Parse.{ExplainsUnsignedError, HasUnsignedDigitsIfOk, ParsesUnsigned}
 use Rattle.std.specs.declared.num.ParseIntError.{ParseIntError}
-use Rattle.clap.specs.Words.{Row, Text, found_of, one_text, rows_of}
-use Rattle.clap.specs.Matches.{ReadsOne}
-use Rattle.clap.specs.declared.parser.matches.Found.{Found}
-use Rattle.persod.specs.Words.{HasNumber, number_of}
+use Rattle.clap.specs.Words.{Row, Text, found_of}
 use Rattle.persod.proofs.NumberLemmas.{number_given, number_read}
 use Rattle.persod.proofs.words.words_of.Goals as goal
 

@@ -1,0 +1,71 @@
+use super::{Words, WordsFault, read_words};
+
+#[test]
+fn plan_has_its_values_or_the_defaults(rt: HostRuntime) {
+    let alloc = rt.alloc();
+    let cases: [(&[&str], u8, u8); 5] = [
+        (&["persod", "plan"], 255, 0),
+        (&["persod", "plan", "--max", "16", "--low", "31"], 16, 31),
+        (&["persod", "plan", "--low=7"], 255, 7),
+        (&["persod", "plan", "--max", "016"], 16, 0),
+        (&["persod", "plan", "--max", "+16"], 16, 0),
+    ];
+    for (words, max, low) in cases {
+        let read = read_words(alloc, words).ok();
+        assert_eq!(rt; read, Some(Words::Plan { max, low }), "at {words:?}");
+    }
+}
+
+#[test]
+fn a_usage_fault_says_what_is_wrong(rt: HostRuntime) {
+    let alloc = rt.alloc();
+    let cases: [(&[&str], &str); 12] = [
+        (&["persod", "plan", "--max", "15"], "'15'"),
+        (&["persod", "plan", "--max", "256"], "'256'"),
+        (&["persod", "plan", "--max", "x"], "'x'"),
+        (&["persod", "plan", "--max"], "--max"),
+        (&["persod", "plan", "--low", "32"], "'32'"),
+        (&["persod", "plan", "--low", "-1"], "'-1'"),
+        (&["persod", "plan", "--max", "16", "--max", "16"], "--max"),
+        (&["persod", "plan", "--size", "16"], "--size"),
+        (&["persod", "plan", "batch.csv"], "batch.csv"),
+        (&["persod", "print"], "print"),
+        (&["persod"], "subcommand"),
+        (&[], "subcommand"),
+    ];
+    for (words, told) in cases {
+        match read_words(alloc, words) {
+            Err(WordsFault::Usage(text)) => {
+                assert!(rt; text.as_str().contains(told), "at {words:?}: {text}");
+            }
+            other => assert!(rt; false, "at {words:?}: {other:?}"),
+        }
+    }
+}
+
+#[test]
+fn help_names_the_subcommands_and_the_options(rt: HostRuntime) {
+    let alloc = rt.alloc();
+    let cases: [(&[&str], &[&str]); 4] = [
+        (&["persod", "--help"], &["plan", "--help"]),
+        (&["persod", "help"], &["plan", "--help"]),
+        (
+            &["persod", "plan", "--help"],
+            &["--max <N>", "16 to 255", "[default: 255]"],
+        ),
+        (
+            &["persod", "plan", "-h"],
+            &["--low <N>", "0 to 31", "[default: 0]"],
+        ),
+    ];
+    for (words, told) in cases {
+        match read_words(alloc, words) {
+            Err(WordsFault::Help(text)) => {
+                for part in told {
+                    assert!(rt; text.as_str().contains(*part), "at {words:?}: {text}");
+                }
+            }
+            other => assert!(rt; false, "at {words:?}: {other:?}"),
+        }
+    }
+}
