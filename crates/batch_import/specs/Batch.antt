@@ -66,17 +66,22 @@ unfoldable pub data_rows : Before → List (List (List ℕ)) → Coming
 data_rows before [] = no_more
 data_rows before (fields ∷ rest) = first_then (row_of before fields) (before.count + 2) (λ row. data_rows (with_row before row) rest)
 
--- the first record is the header
+-- the six fields of the header
 abbrev pub is_header : List (List ℕ) → Bool
 is_header fields = pointwise bytes_eq fields header
 
+-- the first record of a file as its header, or the fault of it
+unfoldable pub header_of : List (List ℕ) → Result (Unit {0}) Kind
+header_of fields = if not (length fields == 6) then Err kind.NotSixFields else if is_header fields then Ok tt else Err kind.Header
+
+abbrev pub after_header : Result (Unit {0}) Kind → List (List (List ℕ)) → Coming
+after_header (Ok u) rest = data_rows nothing rest
+after_header (Err k) rest = fault_at 1 k
+
 -- what comes of the records of a file
-unfoldable pub file_rows : List (List (List ℕ)) → Coming
+abbrev pub file_rows : List (List (List ℕ)) → Coming
 file_rows [] = fault_at 1 kind.Header
-file_rows (first ∷ rest) =
-    if not (length first == 6) then fault_at 1 kind.NotSixFields
-    else if not (is_header first) then fault_at 1 kind.Header
-    else data_rows nothing rest
+file_rows (first ∷ rest) = after_header (header_of first) rest
 
 -- what comes of the bytes of a file
 abbrev pub coming_of : List ℕ → Coming

@@ -1,6 +1,8 @@
 //! The faults of a batch file.
 ghost use Rattle.std.specs.Prelude.{◌≡◌};
 
+use std::alloc::{AllocError, AllocFailed};
+
 /// A fault of a row, a file or a record (this project's profile).
 #[derive(Clone, Copy, Debug, PartialEq, Eq)]
 pub enum Kind {
@@ -55,6 +57,26 @@ pub enum ImportFault {
 pub enum Refusal {
     Fault(Kind),
     Memory,
+}
+
+impl From<AllocError> for ImportFault {
+    ghost use Rattle.batch_import.specs.declared.fault.ImportFault.TheVariants.{Memory};
+
+    ghost from_gives = { λ _ e. e ≡ Memory };
+
+    fn from(_error: AllocError) -> ImportFault {
+        ImportFault::Memory
+    }
+}
+
+impl<T: Drop> From<AllocFailed<T>> for Refusal {
+    ghost use Rattle.batch_import.specs.declared.fault.Refusal.TheVariants.{Memory};
+
+    ghost from_gives = { λ _ e. e ≡ Memory };
+
+    fn from(_error: AllocFailed<T>) -> Refusal {
+        Refusal::Memory
+    }
 }
 
 impl From<Kind> for Refusal {

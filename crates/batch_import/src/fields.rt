@@ -4,7 +4,8 @@ ghost use Rattle.std.specs.List.{list_all};
 ghost use Rattle.std.specs.Char.{is_ascii_digit};
 ghost use Rattle.csv.specs.Records.{fields_of};
 ghost use Rattle.batch_import.specs.Fields.{IsDigit, aid_of_text, coded_of, decimal, enc_of, mark_of_text, rank_of_text, or_fault, typed_of};
-ghost use Rattle.batch_import.specs.Texts.{texts};
+ghost use Rattle.batch_import.specs.Texts.{listed, texts};
+ghost use Rattle.batch_import.specs.Batch.{is_header};
 ghost use Rattle.dgi.specs.Coding.{sent_of};
 ghost use Rattle.batch_import.specs.Refusals.{Gives};
 
@@ -13,6 +14,18 @@ use crate::records::Fields;
 use dgi::{DgiFault, from_hex_text};
 use std::alloc::Global;
 use store_data::{Aid, Bytes, Enc, Name, Row};
+
+/// Whether six fields are the names of the columns.
+pub fn is_header(fields: &Fields<'_>) -> bool
+    ensures { result ≡ is_header (listed fields.now) }
+{
+    fields.record == b"record".as_slice()
+        && fields.aid == b"aid".as_slice()
+        && fields.rank == b"rank".as_slice()
+        && fields.enc == b"enc".as_slice()
+        && fields.tol == b"tol".as_slice()
+        && fields.dgi == b"dgi".as_slice()
+}
 
 /// The row that six fields stand for, or the least fault of one of them.
 #[tactic(auto, unfolding(crate::specs::Fields::typed_of))]

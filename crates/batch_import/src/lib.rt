@@ -4,5 +4,7 @@
 mod fault;
 mod fields;
 mod records;
+mod stream;
 
 pub use fault::{ImportFault, Kind, RowFault};
+pub use stream::{BatchRows, rows};

@@ -1,8 +1,10 @@
 // The records of a CSV text, one at a time, over the crate `csv`.
 
-ghost use Rattle.std.specs.Prelude.{◌≡◌, ◌<◌, ◌≤◌, ◌↔◌, ◌∷◌, [], length, slice_get, Some, None, IsSome, IfSome, IfOk, OnErr};
+ghost use Rattle.std.specs.Prelude.{◌≡◌, ◌<◌, ◌≤◌, ◌↔◌, ◌∷◌, [], length, slice_get, option_map, Some, None, IsSome, IfSome, IfOk, OnErr};
 ghost use Rattle.csv.specs.Records.{fields_of};
+ghost use Rattle.batch_import.specs.Fields.{texts_of};
 ghost use Rattle.batch_import.specs.Records.{ReadsOne, records_of};
+ghost use Rattle.batch_import.specs.Texts.{texts};
 
 use csv::{ByteRecord, ErrorKind, Reader, ReaderBuilder, Trim};
 use std::alloc::{AllocError, Global};
@@ -114,6 +116,7 @@ fn field(row: &ByteRecord, i: usize) -> &[u8]
 /// The fields of a row that has exactly six.
 pub fn six_fields(row: &ByteRecord) -> Option<Fields<'_>>
     ensures count { IsSome result ↔ (length (fields_of row.now) ≡ 6) }
+    ensures texts { option_map texts result ≡ texts_of (fields_of row.now) }
     ensures fields { IfSome result (λ f. fields_of row.now
         ≡ f.record.now ∷ f.aid.now ∷ f.rank.now ∷ f.enc.now ∷ f.tol.now ∷ f.dgi.now ∷ []) }
 {
