@@ -1,3 +1,4 @@
 pub mod ShortLemmas
 pub mod GroupLemmas
 pub mod PlanLemmas
+pub mod FaultLemmas

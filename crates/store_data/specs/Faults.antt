@@ -1,12 +1,12 @@
 -- The faults that planning finds in a record's rows.
-use Rattle.std.specs.Prelude.{◌==◌, ◌+◌, ◌*◌, ◌&&◌, ◌||◌, ℕ, Bool, true, false, not, List, [], ◌∷◌, length, map, filter, sum_by, nat_eq, nat_lt, slice_index, Option, Some, None, if◌then◌else◌}
+use Rattle.std.specs.Prelude.{◌==◌, ◌≤◌, ◌+◌, ◌*◌, ◌&&◌, ◌||◌, ℕ, Bool, true, false, not, List, [], ◌∷◌, length, map, filter, sum_by, nat_eq, nat_lt, slice_index, Option, Some, None, if◌then◌else◌}
 use Rattle.std.specs.List.{list_any, list_all}
 use Rattle.store_data.specs.declared.row.Enc.{Enc}
 use Rattle.store_data.specs.declared.row.Enc.TheVariants.{Plain, All}
 use Rattle.store_data.specs.declared.row.Row.{Row}
 use Rattle.store_data.specs.declared.faults.Summary.{Summary}
 use Rattle.store_data.specs.declared.faults.PlanFault.{PlanFault}
-use Rattle.store_data.specs.declared.faults.PlanFault.TheVariants.{MarksDiffer, IdentifierTwice, TooManyBlocks}
+use Rattle.store_data.specs.declared.faults.PlanFault.TheVariants.{Memory, MarksDiffer, IdentifierTwice, TooManyBlocks}
 use Rattle.store_data.specs.Groups.{grouped}
 use Rattle.store_data.specs.Sequence.{ranks, piece_count}
 
@@ -30,6 +30,10 @@ same_tol false b = not b
 
 abbrev pub same_marks : Summary → Summary → Bool
 same_marks a b = same_enc a.enc b.enc && same_tol a.tol b.tol
+
+-- a row's rank is one that a row may have (this project's profile)
+abbrev pub HasRank : Summary → Type 0
+HasRank row = (1 ≤ row.rank) × (row.rank ≤ 999)
 
 -- the rows of a rank
 abbrev pub summaries_of_rank : List Summary → ℕ → List Summary
@@ -60,6 +64,13 @@ block_count m rows = sum_by (λ r. piece_count (sum_by (λ (row : Summary). row.
 -- an application has over 256 of them (this project's profile; P2 is one byte)
 abbrev pub has_too_many_blocks : ℕ → List Summary → Bool
 has_too_many_blocks m rows = nat_lt 256 (block_count m rows)
+
+-- a fault's number (this project's profile); refused memory is no fault of the rows, and has 0
+abbrev pub code_of : PlanFault → ℕ
+code_of Memory = 0
+code_of MarksDiffer = 21
+code_of IdentifierTwice = 22
+code_of TooManyBlocks = 23
 
 -- the first of the three faults that some application of a record has
 abbrev pub fault_among : ℕ → List (List Summary) → Option PlanFault
