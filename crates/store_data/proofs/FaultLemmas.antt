@@ -1,21 +1,21 @@
 -- The faults of an application, row by row.
-use Rattle.std.proofs.Common.{◌≡◌, ◌≢◌, ℕ, zero, suc, ◌+◌, ◌-◌, ◌*◌, ◌/◌, ◌%◌, min, ◌<◌, ◌≤◌, length, get_or, set, take, drop, replicate, Bool, true, false, cond, not, eqb, ◌&&◌, ◌||◌, List, [], ◌∷◌, ◌++◌, map, filter, All, refl, sym, ap, subst, ◌∙◌, arith, inl, inr, Option, Some, None}
-use Rattle.std.specs.Prelude.{nat_eq, nat_lt, sum_by}
+use Rattle.std.proofs.Common.{◌≡◌, ◌≢◌, ℕ, zero, suc, ◌+◌, ◌-◌, ◌*◌, ◌/◌, ◌%◌, min, ◌<◌, ◌≤◌, length, get_or, set, take, drop, replicate, Bool, true, false, cond, not, eqb, ◌&&◌, ◌||◌, List, [], ◌∷◌, ◌++◌, map, All, refl, sym, ap, subst, ◌∙◌, arith, inl, inr, Option, Some, None}
+use Rattle.std.specs.Prelude.{bytes_eq, nat_eq, sum_by}
 use Rattle.std.specs.List.{list_any, list_all, range_with_len}
 use Rattle.std.proofs.Math.Bool.{and-true}
-use Rattle.std.proofs.lemmas.Bool.{cases_eq, cases_lt, eq-eqb, ne_eqb, eqb-true, or_left, or_right, or_cases, and_left, and_right, not-true, not-false, cond-false}
+use Rattle.std.proofs.lemmas.Bool.{cases_eq, cases_lt, eq-eqb, ne_eqb, or_left, or_right, or_cases, and_left, not-true, not-false, cond-false}
 use Rattle.std.proofs.lemmas.Grind.{div_ceil_times}
 use Rattle.std.proofs.lemmas.Nat.{div_below, le-div}
 use Rattle.std.proofs.lemmas.List.{append-nil, length_push, take-append-drop, take_all, take_more, map_push, map-append, get_or-replicate, get_or_past, get_or-set_same, get_or-set_other, length-replicate, length-set}
-use Rattle.std.proofs.lemmas.List.Elements.{All-cons, All-head, All-tail, filter-append}
+use Rattle.std.proofs.lemmas.List.Elements.{All-nil, All-cons, All-head, All-tail, All-map, All-filter, filter-append}
 use Rattle.std.proofs.lemmas.List.Folds.{list_any-append, list_all-append, list_any_at, list_any_none}
 use Rattle.std.proofs.lemmas.List.FromFn.{length-range_with_len, get_or-range_with_len}
-use Rattle.std.proofs.lemmas.List.Sums.{sum_by-cons, sum_by_push}
-use Rattle.store_data.specs.declared.row.Enc.{Enc}
+use Rattle.std.proofs.lemmas.List.Sums.{count_by-le-length, length-filter, sum_by-cons, sum_by_push}
 use Rattle.store_data.specs.declared.faults.Summary.{Summary}
 use Rattle.store_data.specs.declared.faults.marks.Marks.{Marks}
+use Rattle.store_data.specs.Groups.{first_appearances, with_the_key, grouped}
 use Rattle.store_data.specs.Sequence.{ranks, piece_count}
-use Rattle.store_data.specs.Faults.{summaries_of_rank, HasRank, same_marks, same_enc, same_tol, are_alike, marks_differ, has_twice, identifier_twice, block_count, has_too_many_blocks}
+use Rattle.store_data.specs.Faults.{summaries_of_rank, HasRank, same_marks, same_enc, same_tol, are_alike, marks_differ, has_twice, identifier_twice, block_count, fault_among, record_fault}
 
 -- one more element, as a loop over a list reads it
 pub take_read : {X : Type 0} (xs : List X) (i : ℕ) (x : X) → i < length xs → x ≡ get_or xs i x → take (i + 1) xs ≡ take i xs ++ x ∷ []
@@ -48,9 +48,9 @@ module _ (p : ℕ → Bool) (n : ℕ) where
   pub none_of_ranks : ((r : ℕ) → 1 ≤ r → r ≤ n → p r ≡ false) → list_any p (range_with_len 1 n) ≡ false
   none_of_ranks none = list_any_none p (range_with_len 1 n)
       (λ k d within.
-        let small : k < n = omega (arith, length-range_with_len 1 n) in
-        let e : get_or (range_with_len 1 n) k d ≡ 1 + k = get_or-range_with_len 1 n k d small in
-        rw e (none (1 + k) (omega arith) (omega arith)))
+      let small : k < n = omega (arith, length-range_with_len 1 n) in
+      let e : get_or (range_with_len 1 n) k d ≡ 1 + k = get_or-range_with_len 1 n k d small in
+      rw e (none (1 + k) (omega arith) (omega arith)))
 
   pub one_of_ranks : (r : ℕ) → 1 ≤ r → r ≤ n → p r ≡ true → list_any p (range_with_len 1 n) ≡ true
   one_of_ranks r least most hit =
@@ -71,8 +71,8 @@ sum_of_ranks_more f r least =
     let one_more : r + 1 - 1 ≡ r - 1 + 1 = omega arith in
     let last : 1 + (r - 1) ≡ r = omega arith in
     rw one_more (
-      ap (sum_by f) (range_with_len_more 1 (r - 1) ∙ ap (λ k. range_with_len 1 (r - 1) ++ k ∷ []) last)
-      ∙ sum_by_push f (range_with_len 1 (r - 1)) r
+    ap (sum_by f) (range_with_len_more 1 (r - 1) ∙ ap (λ k. range_with_len 1 (r - 1) ++ k ∷ []) last)
+    ∙ sum_by_push f (range_with_len 1 (r - 1)) r
     )
 
 sum_by-same : {X : Type 0} (f g : X → ℕ) (xs : List X) → All (λ x. f x ≡ g x) xs → sum_by f xs ≡ sum_by g xs
@@ -85,9 +85,9 @@ sum_by-same f g (x ∷ xs) same =
 pub sum_of_ranks-same : (f g : ℕ → ℕ) (n : ℕ) → ((r : ℕ) → 1 ≤ r → r ≤ n → f r ≡ g r) → sum_by f (range_with_len 1 n) ≡ sum_by g (range_with_len 1 n)
 sum_of_ranks-same f g n same = sum_by-same f g (range_with_len 1 n)
     (λ k d within.
-      let small : k < n = omega (arith, length-range_with_len 1 n) in
-      let e : get_or (range_with_len 1 n) k d ≡ 1 + k = get_or-range_with_len 1 n k d small in
-      rw e (same (1 + k) (omega arith) (omega arith)))
+    let small : k < n = omega (arith, length-range_with_len 1 n) in
+    let e : get_or (range_with_len 1 n) k d ≡ 1 + k = get_or-range_with_len 1 n k d small in
+    rw e (same (1 + k) (omega arith) (omega arith)))
 
 -- ---- marks
 
@@ -140,18 +140,18 @@ module _ (firsts : List (Option Marks)) (rows : List Summary) (row : Summary) (k
   AreFirsts-first small none =
       let alone : summaries_of_rank rows row.rank ≡ [] = first_marks-none (summaries_of_rank rows row.rank) (sym (kept.each row.rank small) ∙ none) in
       let here : (r : ℕ) → row.rank ≡ r → summaries_of_rank (rows ++ row ∷ []) r ≡ row ∷ [] =
-        λ r e. summaries_of_rank-here rows row r e ∙ ap (λ k. summaries_of_rank rows k ++ row ∷ []) (sym e) ∙ ap (λ xs. xs ++ row ∷ []) alone in
+      λ r e. summaries_of_rank-here rows row r e ∙ ap (λ k. summaries_of_rank rows k ++ row ∷ []) (sym e) ∙ ap (λ xs. xs ++ row ∷ []) alone in
       record {
         size = length-set firsts row.rank (Some (marks_of row)) ∙ kept.size;
         each = λ r within. elim (cases_eq row.rank r) [
           | inl e ↦
-            ap (λ k. get_or (set firsts row.rank (Some (marks_of row))) k None) (sym e)
-            ∙ get_or-set_same firsts row.rank (Some (marks_of row)) None (omega (arith, kept.size))
-            ∙ sym (ap first_marks (here r e))
+              ap (λ k. get_or (set firsts row.rank (Some (marks_of row))) k None) (sym e)
+              ∙ get_or-set_same firsts row.rank (Some (marks_of row)) None (omega (arith, kept.size))
+              ∙ sym (ap first_marks (here r e))
           | inr differ ↦
-            get_or-set_other firsts row.rank r (Some (marks_of row)) None (λ e. differ (sym e))
-            ∙ kept.each r within
-            ∙ sym (ap first_marks (summaries_of_rank-other rows row r differ))
+              get_or-set_other firsts row.rank r (Some (marks_of row)) None (λ e. differ (sym e))
+              ∙ kept.each r within
+              ∙ sym (ap first_marks (summaries_of_rank-other rows row r differ))
         ];
         alike = λ r. elim (cases_eq row.rank r) [
           | inl e ↦ ap are_alike (here r e)
@@ -175,10 +175,10 @@ module _ (firsts : List (Option Marks)) (rows : List Summary) (row : Summary) (k
       size = kept.size;
       each = λ r within. elim (cases_eq row.rank r) [
         | inl e ↦
-          ap (λ k. get_or firsts k None) (sym e) ∙ some
-          ∙ sym (first_marks-append (summaries_of_rank rows row.rank) (row ∷ []) marks first_of_rank)
-          ∙ sym (ap first_marks (summaries_of_rank-here rows row row.rank refl))
-          ∙ ap (λ k. first_marks (summaries_of_rank (rows ++ row ∷ []) k)) e
+            ap (λ k. get_or firsts k None) (sym e) ∙ some
+            ∙ sym (first_marks-append (summaries_of_rank rows row.rank) (row ∷ []) marks first_of_rank)
+            ∙ sym (ap first_marks (summaries_of_rank-here rows row row.rank refl))
+            ∙ ap (λ k. first_marks (summaries_of_rank (rows ++ row ∷ []) k)) e
         | inr differ ↦ kept.each r within ∙ sym (ap first_marks (summaries_of_rank-other rows row r differ))
       ];
       alike = λ r. elim (cases_eq row.rank r) [
@@ -192,8 +192,8 @@ module _ (firsts : List (Option Marks)) (rows : List Summary) (row : Summary) (k
     unfolding marks_differ ranks
     marks_differ-found more all e least other =
         let unlike : are_alike (summaries_of_rank ((rows ++ row ∷ []) ++ more) row.rank) ≡ false =
-          ap are_alike (summaries_of_rank-append (rows ++ row ∷ []) more row.rank)
-          ∙ are_alike-left (summaries_of_rank (rows ++ row ∷ []) row.rank) (summaries_of_rank more row.rank) (alike_of_rank ∙ other) in
+        ap are_alike (summaries_of_rank-append (rows ++ row ∷ []) more row.rank)
+        ∙ are_alike-left (summaries_of_rank (rows ++ row ∷ []) row.rank) (summaries_of_rank more row.rank) (alike_of_rank ∙ other) in
         ap marks_differ (sym e)
         ∙ one_of_ranks (λ r. not (are_alike (summaries_of_rank ((rows ++ row ∷ []) ++ more) r))) 999 row.rank least (omega arith) (ap not unlike)
 
@@ -253,8 +253,8 @@ has_twice-left : (xs more : List ℕ) → has_twice xs ≡ true → has_twice (x
 has_twice-left [] more e = cc
 has_twice-left (x ∷ xs) more e = elim (or_cases (list_any (nat_eq x) xs) (has_twice xs) e) [
   | inl hit ↦
-    or_left (list_any (nat_eq x) (xs ++ more)) (has_twice (xs ++ more))
-    (list_any-append (nat_eq x) xs more ∙ or_left (list_any (nat_eq x) xs) (list_any (nat_eq x) more) hit)
+      or_left (list_any (nat_eq x) (xs ++ more)) (has_twice (xs ++ more))
+      (list_any-append (nat_eq x) xs more ∙ or_left (list_any (nat_eq x) xs) (list_any (nat_eq x) more) hit)
   | inr twice ↦ or_right (list_any (nat_eq x) (xs ++ more)) (has_twice (xs ++ more)) (has_twice-left xs more twice)
 ]
 
@@ -338,7 +338,7 @@ AreLengths-more lengths rows row kept within sent =
     let next : ℕ = get_or lengths row.rank 0 + row.sent in
     let at : get_or (set lengths row.rank next) row.rank 0 ≡ next = get_or-set_same lengths row.rank next 0 (omega (arith, kept.size)) in
     let others : (r : ℕ) → row.rank ≢ r → get_or (set lengths row.rank next) r 0 ≡ get_or lengths r 0 =
-      λ r differ. get_or-set_other lengths row.rank r next 0 (λ e. differ (sym e)) in
+    λ r differ. get_or-set_other lengths row.rank r next 0 (λ e. differ (sym e)) in
     record {
       size = length-set lengths row.rank next ∙ kept.size;
       small = λ r. elim (cases_eq row.rank r) [
@@ -347,14 +347,14 @@ AreLengths-more lengths rows row kept within sent =
       ];
       each = λ r small. elim (cases_eq row.rank r) [
         | inl e ↦
-          rw (← e) (
+            rw (← e) (
             at ∙ ap (λ n. n + row.sent) (kept.each row.rank within)
             ∙ sym (sum_by_push (λ (s : Summary). s.sent) (summaries_of_rank rows row.rank) row)
             ∙ sym (ap (sum_by (λ (s : Summary). s.sent)) (summaries_of_rank-here rows row row.rank refl))
-          )
+            )
         | inr differ ↦
-          others r differ ∙ kept.each r small
-          ∙ sym (ap (sum_by (λ (s : Summary). s.sent)) (summaries_of_rank-other rows row r differ))
+            others r differ ∙ kept.each r small
+            ∙ sym (ap (sum_by (λ (s : Summary). s.sent)) (summaries_of_rank-other rows row r differ))
       ];
     }
 
@@ -367,6 +367,10 @@ lengths-more rows i row lengths next rank had within read ranked of_rank of_had 
     let next_is : next ≡ set lengths row.rank (get_or lengths row.rank 0 + row.sent) = e ∙ ap (λ n. set lengths rank (n + row.sent)) of_had ∙ ap (λ k. set lengths k (get_or lengths k 0 + row.sent)) of_rank in
     rw (take_read rows i row within read) (rw next_is (AreLengths-more lengths (take i rows) row kept (omega (arith, row_ranked.1)) sent))
 
+-- the commands of the ranks from 1 to below this one
+abbrev pub blocks_below : ℕ → List ℕ → ℕ → ℕ
+blocks_below m lengths rank = sum_by (λ r. piece_count (get_or lengths r 0) m) (range_with_len 1 (rank - 1))
+
 pub piece_count-div_ceil : (n m : ℕ) → 1 ≤ m → n / m + min 1 (n % m) ≡ piece_count n m
 unfolding piece_count
 piece_count-div_ceil n m least =
@@ -376,12 +380,60 @@ piece_count-div_ceil n m least =
     let high : (n + (m - 1)) / m < q + 1 = div_below (n + (m - 1)) m (q + 1) least (omega arith) in
     omega arith
 
--- the blocks of all ranks, by what is kept of the rows
-pub block_count_is : (m blocks : ℕ) (lengths : List ℕ) (rows : List Summary)
+-- a step of the loop over the ranks
+pub blocks-more : (m rank blocks more : ℕ) (lengths : List ℕ) → 1 ≤ m → 1 ≤ rank → more ≡ get_or lengths rank 0 / m + min 1 (get_or lengths rank 0 % m)
+    → blocks ≡ blocks_below m lengths rank → blocks + more ≡ blocks_below m lengths (rank + 1)
+blocks-more m rank blocks more lengths room least of_more kept =
+    let e : more ≡ piece_count (get_or lengths rank 0) m = of_more ∙ piece_count-div_ceil (get_or lengths rank 0) m room in
+    omega (arith, sum_of_ranks_more (λ r. piece_count (get_or lengths r 0) m) rank least)
+
+-- the loop's end
+pub block_count_is : (m rank blocks : ℕ) (lengths : List ℕ) (rows : List Summary)
     → ((r : ℕ) → r < 1000 → get_or lengths r 0 ≡ length_of_rank rows r)
-    → blocks ≡ sum_by (λ r. piece_count (get_or lengths r 0) m) (range_with_len 1 999)
+    → rank ≡ 1000 → blocks ≡ blocks_below m lengths rank
     → blocks ≡ block_count m rows
 unfolding block_count ranks
-block_count_is m blocks lengths rows each e =
-    e ∙ sum_of_ranks-same (λ r. piece_count (get_or lengths r 0) m) (λ r. piece_count (length_of_rank rows r) m) 999
+block_count_is m rank blocks lengths rows each end e =
+    e ∙ ap (blocks_below m lengths) end
+    ∙ sum_of_ranks-same (λ r. piece_count (get_or lengths r 0) m) (λ r. piece_count (length_of_rank rows r) m) 999
     (λ r least most. ap (λ n. piece_count n m) (each r (omega arith)))
+
+-- ---- the applications of a record
+
+-- what holds of the items of each key holds of each group
+grouped_each : {X : Type 0} (key : X → List ℕ) (P : List X → Type 0) (items : List X) → ((k : List ℕ) → P (with_the_key key items k)) → All P (grouped key items)
+unfolding grouped
+grouped_each key P items holds = All-map P (with_the_key key items) (first_appearances (map key items)) (λ i k within. holds (get_or (first_appearances (map key items)) i k))
+
+All-from_map : {V X : Type 0} (f : V → X) (P : X → Type 0) (vs : List V) → All P (map f vs) → All (λ v. P (f v)) vs
+All-from_map f P [] all = All-nil (λ v. P (f v))
+All-from_map f P (v ∷ vs) all = All-cons (λ u. P (f u)) v vs (All-head P (f v) (map f vs) all) (All-from_map f P vs (All-tail P (f v) (map f vs) all))
+
+pub list_any-map : {V X : Type 0} (p : X → Bool) (f : V → X) (vs : List V) → list_any p (map f vs) ≡ list_any (λ v. p (f v)) vs
+list_any-map p f [] = refl
+list_any-map p f (v ∷ vs) = ap (λ b. p (f v) || b) (list_any-map p f vs)
+
+abbrev pub applications : List Summary → List (List Summary)
+applications rows = grouped (λ (row : Summary). row.aid) rows
+
+-- the vectors of a record's applications, as the code has them
+module _ {V : Type 0} (f : V → List Summary) (vs made : List V) (rows : List Summary) (same : vs ≡ made) (each : map f made ≡ applications rows) where
+  vs_are : map f vs ≡ applications rows
+  vs_are = ap (map f) same ∙ each
+
+  pub applications_ranked : All HasRank rows → All (λ v. All HasRank (f v)) vs
+  applications_ranked ranked =
+      let P : List Summary → Type 0 = λ group. All HasRank group in
+      All-from_map f P vs
+      (subst (All P) (sym vs_are) (grouped_each (λ (row : Summary). row.aid) P rows (λ k. All-filter (λ (row : Summary). bytes_eq row.aid k) HasRank rows ranked)))
+
+  pub applications_few : (n : ℕ) → length rows ≤ n → All (λ v. length (f v) ≤ n) vs
+  applications_few n few =
+      let P : List Summary → Type 0 = λ group. length group ≤ n in
+      let key : Summary → List ℕ = λ (row : Summary). row.aid in
+      All-from_map f P vs
+      (subst (All P) (sym vs_are) (grouped_each key P rows (λ k. omega (arith, length-filter (λ (row : Summary). bytes_eq row.aid k) rows, count_by-le-length (λ (row : Summary). bytes_eq row.aid k) rows))))
+
+  pub record_fault_is : (m : ℕ) → record_fault m rows ≡ fault_among m (map f vs)
+  unfolding record_fault
+  record_fault_is m = ap (fault_among m) (sym vs_are)

@@ -12,7 +12,7 @@ mod short;
 
 pub use aid::Aid;
 pub use bytes::Bytes;
-pub use faults::{PlanFault, Summary};
-pub use groups::{grouped, Keyed};
+pub use faults::{PlanFault, Summary, check_record};
+pub use groups::{Keyed, grouped};
 pub use name::Name;
 pub use row::{Enc, Product, Row};
