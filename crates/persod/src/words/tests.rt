@@ -69,3 +69,29 @@ fn help_names_the_subcommands_and_the_options(rt: HostRuntime) {
         }
     }
 }
+
+// Under `rt try --test --fail-alloc N` each answer is the whole one or `Memory`.
+#[test]
+fn refused_memory_is_told(rt: HostRuntime) {
+    let alloc = rt.alloc();
+    let usage = "error: invalid value '15' for '--max <N>': 15 is not in 16..=255\n\n\
+        For more information, try '--help'.\n";
+    let cases: [&[&str]; 3] = [
+        &["persod", "plan", "--max", "16"],
+        &["persod", "plan", "--max", "15"],
+        &["persod", "plan", "--help"],
+    ];
+    for words in cases {
+        match read_words(alloc, words) {
+            Ok(read) => assert_eq!(rt; read, Words::Plan { max: 16, low: 0 }),
+            Err(WordsFault::Usage(text)) => assert_eq!(rt; text.as_str(), usage),
+            Err(WordsFault::Help(text)) => {
+                assert!(rt;
+                    text.as_str().ends_with("-h, --help     Print help\n"),
+                    "{text}"
+                );
+            }
+            Err(WordsFault::Memory) => {}
+        }
+    }
+}
