@@ -1,3 +1,4 @@
 pub mod RecordLemmas
 pub mod FieldLemmas
 pub mod RowLemmas
+pub mod OutlineLemmas

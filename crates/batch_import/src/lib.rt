@@ -3,6 +3,7 @@
 
 mod fault;
 mod fields;
+mod outline;
 mod records;
 mod stream;
 

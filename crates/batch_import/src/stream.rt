@@ -2,6 +2,7 @@
 ghost use Rattle.std.specs.Prelude.{◌≡◌, ◌+◌, ◌<◌, ◌≤◌, Some, IfOk, IfSome};
 ghost use Rattle.csv.specs.Records.{fields_of};
 ghost use Rattle.store_data.specs.Groups.{with_key};
+ghost use Rattle.store_data.specs.Sequence.{IsRow};
 ghost use Rattle.batch_import.specs.Batch.{coming_of, header_of, row_of};
 ghost use Rattle.batch_import.specs.Refusals.{Gives};
 ghost use Rattle.batch_import.specs.Rows.{FindsRow, ReadsHeader, ReadsRow, TakesRow, rows_after};
@@ -73,7 +74,8 @@ pub fn rows<'a>(alloc: Global, raw: &'a [u8], product: &Product) -> BatchRows<'a
 impl<'a> BatchRows<'a> {
     /// The next row, or `None` at the end. After a fault or a refusal of memory it answers the same again.
     pub fn next(&mut self) -> Result<Option<Row>, ImportFault>
-        ensures { TakesRow self.old result self.new }
+        ensures taken { TakesRow self.old result self.new }
+        ensures row { IfOk result (λ o. IfSome o IsRow) }
     {
         let row = self.advance();
         if let Err(fault) = &row {
@@ -84,7 +86,8 @@ impl<'a> BatchRows<'a> {
 
     // The next row, if no fault was told so far.
     fn advance(&mut self) -> Result<Option<Row>, ImportFault>
-        ensures { FindsRow self.old result self.new }
+        ensures found { FindsRow self.old result self.new }
+        ensures row { IfOk result (λ o. IfSome o IsRow) }
     {
         match self.stage {
             Stage::Failed(fault) => Err(fault),
@@ -125,6 +128,7 @@ fn take_row(alloc: Global, records: &mut CsvRecords<'_>, fields: &mut ByteRecord
     requires { count.old ≤ 4096 }
     ensures found { FindsRow (rows_after count.old names.old.keys records.old) result (rows_after count.new names.new.keys records.new) }
     ensures counted { count.new ≤ 4096 }
+    ensures row { IfOk result (λ o. IfSome o IsRow) }
 {
     match read_row(alloc, records, fields, names, *count)? {
         None => Ok(None),
@@ -140,6 +144,7 @@ fn read_row(alloc: Global, records: &mut CsvRecords<'_>, fields: &mut ByteRecord
     requires { count ≤ 4096 }
     ensures read { ReadsRow (record { count = count; names = names.old.keys }) records.old result records.new }
     ensures counted { IfOk result (λ o. IfSome o (λ row. (count < 4096) × (names.new.keys ≡ with_key names.old.keys row.rec))) }
+    ensures row { IfOk result (λ o. IfSome o IsRow) }
 {
     if !records.next(fields)? {
         return Ok(None);
@@ -156,6 +161,7 @@ fn read_row(alloc: Global, records: &mut CsvRecords<'_>, fields: &mut ByteRecord
 fn data_row(alloc: Global, fields: &ByteRecord, names: &mut IndexSet<Name>, count: u32) -> Result<Row, Refusal>
     ensures given { Gives result (row_of (record { count = count; names = names.old.keys }) (fields_of fields.now)) }
     ensures counted { IfOk result (λ row. (count < 4096) × (names.new.keys ≡ with_key names.old.keys row.rec)) }
+    ensures row { IfOk result IsRow }
 {
     let texts = six_fields(fields).ok_or(Kind::NotSixFields)?;
     let row = typed(alloc, &texts)?;

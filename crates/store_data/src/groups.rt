@@ -28,8 +28,8 @@ pub fn grouped<T: Keyed + Drop>(alloc: Global, items: Vec<T>) -> Result<Vec<Vec<
     Ok(groups)
 }
 
-// Puts an item at the end of the group at `place`, or into a new last group where there is none.
-fn join_at<T: Drop>(alloc: Global, groups: &mut Vec<Vec<T>>, place: usize, item: T) -> Result<(), AllocError>
+/// Puts an item at the end of the group at `place`, or into a new last group where there is none.
+pub fn join_at<T: Drop>(alloc: Global, groups: &mut Vec<Vec<T>>, place: usize, item: T) -> Result<(), AllocError>
     requires { place ≤ vec_len groups.old }
     ensures { OnOk result (map (λ g. g.items) groups.new.items ≡ joined_at (map (λ g. g.items) groups.old.items) place item) }
 {
