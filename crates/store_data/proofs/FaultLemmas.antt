@@ -293,7 +293,8 @@ identifier_twice-not keys rows kept = kept.once
 
 -- a step of the loop over the rows, from what it reads
 module _ (rows : List Summary) (i : ℕ) (row : Summary) (keys : List ℕ) (within : i < length rows) (read : row ≡ get_or rows i row) (kept : AreIdentifiers keys (take i rows)) where
-  pub identifiers-more : (next : List ℕ) → true ≡ not (list_any (nat_eq row.identifier) keys) → next ≡ cond (list_any (nat_eq row.identifier) keys) keys (keys ++ row.identifier ∷ []) → AreIdentifiers next (take (i + 1) rows)
+  pub identifiers-more : (next : List ℕ) → true ≡ not (list_any (nat_eq row.identifier) keys)
+      → next ≡ cond (list_any (nat_eq row.identifier) keys) keys (keys ++ row.identifier ∷ []) → AreIdentifiers next (take (i + 1) rows)
   identifiers-more next added e =
       let new : list_any (nat_eq row.identifier) keys ≡ false = not-true (list_any (nat_eq row.identifier) keys) (sym added) in
       let next_is : next ≡ keys ++ row.identifier ∷ [] = e ∙ cond-false (list_any (nat_eq row.identifier) keys) keys (keys ++ row.identifier ∷ []) new in
