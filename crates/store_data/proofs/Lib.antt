@@ -2,3 +2,6 @@ pub mod ShortLemmas
 pub mod GroupLemmas
 pub mod PlanLemmas
 pub mod FaultLemmas
+pub mod PieceLemmas
+pub mod IsPlanLemmas
+pub mod SummaryLemmas
