@@ -3,16 +3,24 @@
 
 mod aid;
 mod bytes;
+mod commands;
 mod faults;
 mod groups;
 mod name;
-mod plan;
+mod record_plan;
 mod row;
 mod short;
+mod status;
+mod summary;
+mod words;
 
 pub use aid::Aid;
 pub use bytes::Bytes;
+pub use commands::{count, list};
 pub use faults::{PlanFault, Summary, check_record};
-pub use groups::{Keyed, grouped};
+pub use groups::{Keyed, grouped, join_at};
 pub use name::Name;
+pub use record_plan::RecordPlan;
 pub use row::{Enc, Product, Row};
+pub use status::Class;
+pub use words::class;

@@ -1,20 +1,19 @@
 //! The plan of a record: its applications and their segments.
-ghost use Rattle.std.specs.Prelude.{◌≡◌, ◌⊎◌, ◌≤◌, [], ◌∷◌, ◌++◌, map, None, Some, IfOk, IfErr, OnOk, option_to_list};
-ghost use Rattle.store_data.specs.Faults.{record_fault, summary_of};
-ghost use Rattle.store_data.specs.Sequence.{AreRows, IsProduct, application_of, applications_of, plan_of, rows_of_rank, segment_of, segments_of, with_row};
+ghost use Rattle.std.specs.Prelude.{◌≡◌, ◌++◌, IfOk, OnOk, option_to_list};
+ghost use Rattle.store_data.specs.Sequence.{application_of, applications_of, rows_of_rank, segment_of, segments_of, with_row};
 
 use crate::groups::{Keyed, grouped};
-use crate::row::{Enc, Product, Row};
+use crate::row::{Enc, Row};
 use crate::short::ShortBytes;
 use std::alloc::{AllocError, Global};
 use std::marker::Model;
 
 /// The groupings of one application and rank, joined.
 #[derive(Drop)]
-struct Segment {
-    enc: Enc,
-    tol: bool,
-    bytes: Vec<u8>,
+pub(crate) struct Segment {
+    pub(crate) enc: Enc,
+    pub(crate) tol: bool,
+    pub(crate) bytes: Vec<u8>,
 }
 
 impl Model for Segment {
@@ -27,9 +26,9 @@ impl Model for Segment {
 
 /// An application of a card, its segments by rising rank.
 #[derive(Drop)]
-struct Application<'a> {
-    aid: &'a [u8],
-    segments: Vec<Segment>,
+pub(crate) struct Application<'a> {
+    pub(crate) aid: &'a [u8],
+    pub(crate) segments: Vec<Segment>,
 }
 
 impl<'a> Model for Application<'a> {
@@ -38,6 +37,24 @@ impl<'a> Model for Application<'a> {
     ghost Value = { ApplicationValue };
 
     ghost view = { λ a. record { aid = a.aid.now; segments = a.segments.items } };
+}
+
+/// What personalises a record's card, with the numbers of its product that the commands need.
+#[derive(Drop)]
+pub struct RecordPlan<'a> {
+    pub(crate) max: u8,
+    pub(crate) low: u8,
+    pub(crate) applications: Vec<Application<'a>>,
+}
+
+impl<'a> Model for RecordPlan<'a> {
+    ghost use Rattle.store_data.specs.Sequence.{Plan, IsPlan};
+
+    ghost Value = { Plan };
+
+    ghost view = { λ p. record { max = p.max; low = p.low; applications = p.applications.items } };
+
+    ghost invariant = { λ p. IsPlan (record { max = p.max; low = p.low; applications = p.applications.items }) };
 }
 
 // A row as one of its application's.
@@ -64,7 +81,7 @@ impl<'a> Keyed for ApplicationRow<'a> {
 
 // The applications of a record, by first appearance.
 #[tactic(auto, unfolding(crate::specs::Sequence::applications_of))]
-fn applications<'a>(alloc: Global, rows: &'a [Row]) -> Result<Vec<Application<'a>>, AllocError>
+pub(crate) fn applications<'a>(alloc: Global, rows: &'a [Row]) -> Result<Vec<Application<'a>>, AllocError>
     ensures { IfOk result (λ applications. applications.items ≡ applications_of rows.now) }
 {
     let mut applications = Vec::new(alloc);
