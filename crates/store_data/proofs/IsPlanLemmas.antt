@@ -14,7 +14,8 @@ use Rattle.store_data.specs.declared.row.Row.{Row}
 use Rattle.store_data.specs.declared.faults.PlanFault.{PlanFault}
 use Rattle.store_data.specs.declared.faults.PlanFault.TheVariants.{MarksDiffer, IdentifierTwice, TooManyBlocks}
 use Rattle.store_data.specs.Groups.{with_key, first_appearances, with_the_key, grouped}
-use Rattle.store_data.specs.Sent.{IsSent}
+use Rattle.dgi.specs.Coding.{IsSent}
+use Rattle.dgi.proofs.Sent.{length-sent}
 use Rattle.store_data.specs.Sequence.{IsProduct, IsRow, AreRows, Segment, Application, ranks, rows_of_rank, segment_of, segments_of, aid_of, application_of, applications_of, pieces_of, IsApplication, IsPlan, plan_of}
 use Rattle.store_data.specs.RecordFaults.{marks_differ, identifier_twice, has_too_many_blocks, fault_among, record_fault}
 use Rattle.store_data.proofs.GroupLemmas.{bytes_eq-same, same-bytes_eq, list_any-first_appearances}
@@ -22,10 +23,10 @@ use Rattle.store_data.proofs.GroupLemmas.{bytes_eq-same, same-bytes_eq, list_any
 -- ---- sent forms
 
 pub IsSent-least : (bytes : List ℕ) → IsSent bytes → 3 ≤ length bytes
-IsSent-least bytes sent = sent.least
+IsSent-least bytes sent = (length-sent bytes sent).0
 
 pub IsSent-most : (bytes : List ℕ) → IsSent bytes → length bytes ≤ 16389
-IsSent-most bytes sent = sent.most
+IsSent-most bytes sent = (length-sent bytes sent).1
 
 -- ---- groups: no more than the items, each with an item
 
