@@ -1,16 +1,17 @@
 -- The faults of rows are those of their summaries.
-use Rattle.std.proofs.Common.{◌≡◌, ℕ, ◌+◌, ◌*◌, ◌≤◌, Bool, true, false, cond, eqb, not, ◌||◌, ◌&&◌, List, [], ◌∷◌, length, map, filter, Option, Some, None, refl, sym, ap, ◌∙◌, arith, inl, inr}
+use Rattle.std.proofs.Common.{◌≡◌, ℕ, ◌+◌, ◌*◌, ◌≤◌, Bool, true, false, cond, eqb, not, ◌||◌, ◌&&◌, ◌⊎◌, List, [], ◌∷◌, length, map, filter, All, Option, Some, None, refl, sym, ap, ◌∙◌, arith, inl, inr}
 use Rattle.std.specs.Prelude.{bytes_eq, nat_lt, nat_eq, sum_by, if◌then◌else◌}
 use Rattle.std.specs.List.{flat_map, list_any, list_all}
 use Rattle.std.specs.Bool.{beq}
+use Rattle.std.proofs.lemmas.List.Elements.{All-map}
 use Rattle.store_data.specs.declared.row.Enc.{Enc}
 use Rattle.store_data.specs.declared.row.Enc.TheVariants.{Plain, All as Enciphered}
 use Rattle.store_data.specs.declared.row.Row.{Row}
 use Rattle.store_data.specs.declared.faults.Summary.{Summary}
 use Rattle.store_data.specs.declared.faults.PlanFault.{PlanFault}
-use Rattle.store_data.specs.declared.faults.PlanFault.TheVariants.{MarksDiffer, IdentifierTwice, TooManyBlocks}
+use Rattle.store_data.specs.declared.faults.PlanFault.TheVariants.{Memory, MarksDiffer, IdentifierTwice, TooManyBlocks}
 use Rattle.store_data.specs.Groups.{first_appearances, with_the_key, grouped}
-use Rattle.store_data.specs.Sequence.{ranks, rows_of_rank, enc_bits, piece_count, pieces_of, segments_of}
+use Rattle.store_data.specs.Sequence.{IsRow, ranks, rows_of_rank, enc_bits, piece_count, pieces_of, segments_of}
 use Rattle.store_data.specs.Faults as summary
 use Rattle.store_data.specs.RecordFaults as record_of
 use Rattle.store_data.proofs.PieceLemmas.{sum_by-map, sum_by-agree, sent_length, length-pieces_of-segments}
@@ -128,3 +129,21 @@ unfolding summary.record_fault record_of.record_fault
 record_fault-summaries m rows least =
     ap (summary.fault_among m) (grouped-map (λ (row : Summary). row.aid) summary.summary_of rows)
     ∙ fault_among-summaries m (grouped (λ (row : Row). row.aid) rows) least
+
+-- ---- what the check of a record asks
+
+pub HasRank-summaries : (rows : List Row) → All IsRow rows → All summary.HasRank (map summary.summary_of rows)
+HasRank-summaries rows each =
+    All-map summary.HasRank summary.summary_of rows (λ i d within. ((each i d within).rank_least, (each i d within).rank_most))
+
+-- the fault of rows, from that of summaries which were made of them
+pub fault_of-summaries : (m : ℕ) (rows : List Row) (made : List Summary) (fault : Option PlanFault) → 1 ≤ m → made ≡ map summary.summary_of rows
+    → summary.record_fault m made ≡ fault → record_of.record_fault m rows ≡ fault
+fault_of-summaries m rows made fault least e told = sym (record_fault-summaries m rows least) ∙ ap (summary.record_fault m) (sym e) ∙ told
+
+pub told-summaries : (m : ℕ) (rows : List Row) (made : List Summary) (f : PlanFault) → 1 ≤ m → made ≡ map summary.summary_of rows
+    → (f ≡ Memory) ⊎ (summary.record_fault m made ≡ Some f) → (f ≡ Memory) ⊎ (record_of.record_fault m rows ≡ Some f)
+told-summaries m rows made f least e told = elim told [
+  | inl refused ↦ inl refused
+  | inr fault ↦ inr (fault_of-summaries m rows made (Some f) least e fault)
+]

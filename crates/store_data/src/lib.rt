@@ -20,7 +20,7 @@ pub use commands::{count, list};
 pub use faults::{PlanFault, Summary, check_record};
 pub use groups::{Keyed, grouped, join_at};
 pub use name::Name;
-pub use record_plan::RecordPlan;
+pub use record_plan::{RecordPlan, plan};
 pub use row::{Enc, Product, Row};
 pub use status::Class;
 pub use words::class;

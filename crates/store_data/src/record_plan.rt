@@ -1,10 +1,13 @@
 //! The plan of a record: its applications and their segments.
-ghost use Rattle.std.specs.Prelude.{◌≡◌, ◌++◌, IfOk, OnOk, option_to_list};
-ghost use Rattle.store_data.specs.Sequence.{application_of, applications_of, rows_of_rank, segment_of, segments_of, with_row};
+ghost use Rattle.std.specs.Prelude.{◌≡◌, ◌⊎◌, ◌++◌, None, Some, IfErr, IfOk, OnOk, option_to_list};
+ghost use Rattle.store_data.specs.RecordFaults.{record_fault};
+ghost use Rattle.store_data.specs.Sequence.{AreRows, IsProduct, plan_of, application_of, applications_of, rows_of_rank, segment_of, segments_of, with_row};
 
+use crate::faults::{PlanFault, check_record};
 use crate::groups::{Keyed, grouped};
-use crate::row::{Enc, Row};
+use crate::row::{Enc, Product, Row};
 use crate::short::ShortBytes;
+use crate::summary::summaries;
 use std::alloc::{AllocError, Global};
 use std::marker::Model;
 
@@ -55,6 +58,26 @@ impl<'a> Model for RecordPlan<'a> {
     ghost view = { λ p. record { max = p.max; low = p.low; applications = p.applications.items } };
 
     ghost invariant = { λ p. IsPlan (record { max = p.max; low = p.low; applications = p.applications.items }) };
+}
+
+/// The plan of the rows of one record, or the record's fault: the first of marks that differ within a rank of an
+/// application, an identifier that stands twice in one, and over 256 STORE DATA commands for one (this project's profile).
+///
+/// `Memory` is told where memory was refused. Time is linear in the rows' bytes.
+pub fn plan<'a>(alloc: Global, rows: &'a [Row], p: &Product) -> Result<RecordPlan<'a>, PlanFault>
+    requires product { IsProduct p.now }
+    requires rows { AreRows rows.now }
+    ensures planned { IfOk result
+        (λ plan. (record_fault p.now.max rows.now ≡ None) × (plan ≡ plan_of p.now rows.now)) }
+    ensures refused { IfErr result
+        (λ f. (f ≡ PlanFault.Memory) ⊎ (record_fault p.now.max rows.now ≡ Some f)) }
+{
+    check_record(alloc, p.max, summaries(alloc, rows)?)?;
+    Ok(RecordPlan {
+        max: p.max,
+        low: p.low,
+        applications: applications(alloc, rows)?,
+    })
 }
 
 // A row as one of its application's.
