@@ -1,5 +1,5 @@
 -- The rows of a batch file, or its first fault (this project's profile).
-use Rattle.std.specs.Prelude.{◌==◌, ◌+◌, ℕ, Bool, true, false, not, List, [], ◌∷◌, length, map, nat_le, nat_lt, Option, Some, None, Result, Ok, Err, if◌then◌else◌}
+use Rattle.std.specs.Prelude.{◌==◌, ◌+◌, ℕ, Bool, true, false, not, List, [], ◌∷◌, length, map, nat_le, nat_lt, Option, Some, None, option_and_then, Result, Ok, Err, if◌then◌else◌}
 use Rattle.std.specs.List.{enumerate_from}
 use Rattle.std.specs.Cmp.Lexicographic.{pointwise}
 use Rattle.std.specs.Prelude.{bytes_eq}
@@ -98,26 +98,30 @@ abbrev pub first_number : List (ℕ × Row) → ℕ
 first_number [] = 0
 first_number (e ∷ more) = e.0
 
-abbrev pub kind_of_plan : PlanFault → Kind
-kind_of_plan plan.MarksDiffer = kind.MarksDiffer
-kind_of_plan plan.IdentifierTwice = kind.IdentifierTwice
-kind_of_plan plan.TooManyBlocks = kind.TooManyBlocks
-kind_of_plan plan.Memory = kind.NoRows
+-- a fault of planning as one of a batch; refused memory is none
+abbrev pub kind_of_plan : PlanFault → Option Kind
+kind_of_plan plan.MarksDiffer = Some kind.MarksDiffer
+kind_of_plan plan.IdentifierTwice = Some kind.IdentifierTwice
+kind_of_plan plan.TooManyBlocks = Some kind.TooManyBlocks
+kind_of_plan plan.Memory = None
 
--- a fault of planning, told with a row
-abbrev pub told_at : ℕ → Option PlanFault → Option RowFault
+-- a fault told with a row
+abbrev pub told_at : ℕ → Option Kind → Option RowFault
 told_at n None = None
-told_at n (Some fault) = Some (record { row = n; kind = kind_of_plan fault })
+told_at n (Some k) = Some (record { row = n; kind = k })
+
+-- the fault of a record's numbered rows, told with the first of them; m is the product's `max`
+abbrev pub group_fault : ℕ → List (ℕ × Row) → Option RowFault
+group_fault m group = told_at (first_number group) (option_and_then kind_of_plan (record_fault m (map (λ (e : ℕ × Row). e.1) group)))
 
 abbrev pub or_else : {A : Type 0} → Option A → Option A → Option A
 or_else (Some x) more = Some x
 or_else None more = more
 
--- the fault of the first record that has one, told with the record's first row; m is the product's `max`
+-- the fault of the first record that has one
 unfoldable pub first_record_fault : ℕ → List (List (ℕ × Row)) → Option RowFault
 first_record_fault m [] = None
-first_record_fault m (group ∷ more) =
-    or_else (told_at (first_number group) (record_fault m (map (λ (e : ℕ × Row). e.1) group))) (first_record_fault m more)
+first_record_fault m (group ∷ more) = or_else (group_fault m group) (first_record_fault m more)
 
 -- ---- a batch
 
