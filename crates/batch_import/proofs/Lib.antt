@@ -2,3 +2,4 @@ pub mod RecordLemmas
 pub mod FieldLemmas
 pub mod RowLemmas
 pub mod OutlineLemmas
+pub mod WalkLemmas

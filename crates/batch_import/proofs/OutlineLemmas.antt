@@ -18,6 +18,7 @@ use Rattle.store_data.specs.Sequence.{IsRow}
 use Rattle.store_data.specs.declared.faults.PlanFault.{PlanFault}
 use Rattle.store_data.specs.declared.faults.PlanFault.TheVariants as plan
 use Rattle.store_data.proofs.FaultLemmas.{grouped_each}
+use Rattle.store_data.proofs.IsPlanLemmas.{length-grouped}
 use Rattle.store_data.proofs.GroupLemmas.{groups_more, place_within}
 use Rattle.store_data.proofs.SummaryLemmas.{record_fault-summaries}
 use Rattle.batch_import.specs.declared.fault.Kind.{Kind}
@@ -192,3 +193,6 @@ pub tells_here : (m : ℕ) (rows : List Row) (i : ℕ) (e : ImportFault) → i <
     → TellsGroupFault m (get_or (records_of_rows rows) i []) (Err e) → TellsRecordFault m rows (Err e)
 tells_here m rows i (fault.At f) inside before told = sym before ∙ fault_here m (records_of_rows rows) i inside f told
 tells_here m rows i fault.Memory inside before told = tt
+
+pub groups_few : (o : Outline) (rows : List Row) → Outlines o rows → length o.groups.items ≤ 4096
+groups_few o rows outlined = omega (arith, groups_many o rows outlined, length-grouped rec_of (enumerate_from 2 rows), numbered_many 2 rows, outlined.few)

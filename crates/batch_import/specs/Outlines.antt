@@ -10,6 +10,12 @@ use Rattle.batch_import.specs.declared.outline.Outline.{Outline}
 use Rattle.batch_import.specs.declared.fault.ImportFault.{ImportFault}
 use Rattle.batch_import.specs.declared.fault.ImportFault.TheVariants as fault
 
+-- what the rows of a batch have: there are 1 to 4,096, each in its ranges
+pub record AreBatchRows (rows : List Row) : Type 0 where
+  pub some : 1 ≤ length rows
+  pub few : length rows ≤ 4096
+  pub each : All IsRow rows
+
 -- a numbered row's number and summary
 abbrev pub numbered_summary : ℕ × Row → ℕ × Summary
 numbered_summary e = (e.0, summary_of e.1)

@@ -69,6 +69,16 @@ impl From<AllocError> for ImportFault {
     }
 }
 
+impl<T: Drop> From<AllocFailed<T>> for ImportFault {
+    ghost use Rattle.batch_import.specs.declared.fault.ImportFault.TheVariants.{Memory};
+
+    ghost from_gives = { λ _ e. e ≡ Memory };
+
+    fn from(_error: AllocFailed<T>) -> ImportFault {
+        ImportFault::Memory
+    }
+}
+
 impl<T: Drop> From<AllocFailed<T>> for Refusal {
     ghost use Rattle.batch_import.specs.declared.fault.Refusal.TheVariants.{Memory};
 

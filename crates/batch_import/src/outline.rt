@@ -3,7 +3,7 @@ ghost use Rattle.std.specs.Prelude.{◌≡◌, ◌+◌, ◌<◌, ◌≤◌, ◌+
 ghost use Rattle.store_data.specs.Sequence.{IsRow};
 ghost use Rattle.store_data.specs.declared.row.Row.{Row as RowValue};
 ghost use Rattle.store_data.specs.declared.faults.Summary.{Summary as SummaryValue};
-ghost use Rattle.batch_import.specs.Batch.{first_number, kind_of_plan};
+ghost use Rattle.batch_import.specs.Batch.{first_number, kind_of_plan, records_of_rows};
 ghost use Rattle.batch_import.specs.Outlines.{IsGroup, Outlines, TellsGroupFault, TellsRecordFault, numbered_summary};
 
 use crate::fault::{ImportFault, Kind, RowFault};
@@ -37,6 +37,14 @@ impl Outline {
     {
         let (place, _) = self.names.insert_full(row.rec)?;
         join_at(alloc, &mut self.groups, place, (number, Summary::of(row)))
+    }
+
+    /// How many records there are.
+    pub fn records(&self) -> u32
+        requires { (rows : List RowValue) × Outlines self.now rows }
+        ensures { (rows : List RowValue) → Outlines self.now rows → result ≡ length (records_of_rows rows) }
+    {
+        self.groups.len() as u32
     }
 
     /// The first fault of a record, told with the record's first row; `max` is the product's.
