@@ -1,9 +1,13 @@
 -- The rows of a batch file, or its first fault (this project's profile).
-use Rattle.std.specs.Prelude.{◌==◌, ◌+◌, ℕ, Bool, true, false, not, List, [], ◌∷◌, length, map, nat_le, nat_lt, Option, Some, None, option_and_then, Result, Ok, Err, if◌then◌else◌}
+use Rattle.std.specs.Prelude.{◌==◌, ◌+◌, ◌&&◌, ℕ, Bool, true, false, not, slice_index, List, [], ◌∷◌, length, map, nat_le, nat_lt, Option, Some, None, option_and_then, Result, Ok, Err, if◌then◌else◌}
 use Rattle.std.specs.List.{enumerate_from}
 use Rattle.std.specs.Cmp.Lexicographic.{pointwise}
 use Rattle.std.specs.Prelude.{bytes_eq}
+use Rattle.dgi.specs.Coding.{Content, whole_of}
+use Rattle.dgi.specs.declared.fault.DgiFault.{DgiFault}
+use Rattle.tlv_check.specs.RecordTest.{is_record_of}
 use Rattle.store_data.specs.Groups.{with_key, grouped}
+use Rattle.store_data.specs.Sequence.{enc_bits}
 use Rattle.store_data.specs.RecordFaults.{record_fault}
 use Rattle.store_data.specs.declared.row.Row.{Row}
 use Rattle.store_data.specs.declared.row.Product.{Product}
@@ -36,11 +40,32 @@ within_limits before row =
     else if nat_lt 1024 (length (with_key before.names row.rec)) then Err kind.TooManyRecords
     else Ok row
 
--- a data row, or its least fault
-unfoldable pub row_of : Before → List (List ℕ) → Result Row Kind
-row_of before fields = do
+-- ---- the record check
+
+-- whether a grouping is one of a record: its first identifier byte is 01 to 0A and its second not 00 (EMV Book 3, SFI 1 to 10)
+abbrev pub is_for_record : List ℕ → Bool
+is_for_record coded = nat_le 1 (slice_index coded 0) && nat_le (slice_index coded 0) 10 && not (slice_index coded 1 == 0)
+
+-- whether the data of a grouping is one record (EMV Book 3)
+abbrev pub holds_record : Result Content DgiFault → Bool
+holds_record (Ok g) = is_record_of g.body
+holds_record (Err e) = false
+
+-- whether a row breaks the record check: only plain rows are looked into
+unfoldable pub breaks_check : Row → Bool
+breaks_check row = (enc_bits row.enc == 0) && is_for_record row.coded && not (holds_record (whole_of row.coded))
+
+-- the row, if it passes the record check where the product asks for it
+abbrev pub as_record : Bool → Row → Result Row Kind
+as_record check row = if check && breaks_check row then Err kind.NotARecord else Ok row
+
+-- ---- a data row, or its least fault
+
+unfoldable pub row_of : Bool → Before → List (List ℕ) → Result Row Kind
+row_of check before fields = do
   texts ← or_fault (texts_of fields) kind.NotSixFields
-  row ← typed_of texts
+  typed ← typed_of texts
+  row ← as_record check typed
   within_limits before row
 
 -- ---- the rows of a file
@@ -62,9 +87,9 @@ first_then (Ok row) n more = record { rows = row ∷ (more row).rows; fault = (m
 first_then (Err k) n more = fault_at n k
 
 -- what comes of the data rows; the first data row of a file is row 2
-unfoldable pub data_rows : Before → List (List (List ℕ)) → Coming
-data_rows before [] = no_more
-data_rows before (fields ∷ rest) = first_then (row_of before fields) (before.count + 2) (λ row. data_rows (with_row before row) rest)
+unfoldable pub data_rows : Bool → Before → List (List (List ℕ)) → Coming
+data_rows check before [] = no_more
+data_rows check before (fields ∷ rest) = first_then (row_of check before fields) (before.count + 2) (λ row. data_rows check (with_row before row) rest)
 
 -- the six fields of the header
 abbrev pub is_header : List (List ℕ) → Bool
@@ -74,18 +99,18 @@ is_header fields = pointwise bytes_eq fields header
 unfoldable pub header_of : List (List ℕ) → Result (Unit {0}) Kind
 header_of fields = if not (length fields == 6) then Err kind.NotSixFields else if is_header fields then Ok tt else Err kind.Header
 
-abbrev pub after_header : Result (Unit {0}) Kind → List (List (List ℕ)) → Coming
-after_header (Ok u) rest = data_rows nothing rest
-after_header (Err k) rest = fault_at 1 k
+abbrev pub after_header : Bool → Result (Unit {0}) Kind → List (List (List ℕ)) → Coming
+after_header check (Ok u) rest = data_rows check nothing rest
+after_header check (Err k) rest = fault_at 1 k
 
 -- what comes of the records of a file
-abbrev pub file_rows : List (List (List ℕ)) → Coming
-file_rows [] = fault_at 1 kind.Header
-file_rows (first ∷ rest) = after_header (header_of first) rest
+abbrev pub file_rows : Bool → List (List (List ℕ)) → Coming
+file_rows check [] = fault_at 1 kind.Header
+file_rows check (first ∷ rest) = after_header check (header_of first) rest
 
--- what comes of the bytes of a file
-abbrev pub coming_of : List ℕ → Coming
-coming_of raw = file_rows (records_of raw)
+-- what comes of the bytes of a file; `check` is the product's
+abbrev pub coming_of : Bool → List ℕ → Coming
+coming_of check raw = file_rows check (records_of raw)
 
 -- ---- the records of a file
 
@@ -139,4 +164,4 @@ batch_with m coming = elim coming.fault as (λ _. Result (List Row) RowFault) [ 
 
 -- the rows of a batch file, or its first fault
 unfoldable pub batch_of : Product → List ℕ → Result (List Row) RowFault
-batch_of p raw = batch_with p.max (coming_of raw)
+batch_of p raw = batch_with p.max (coming_of p.check raw)

@@ -34,20 +34,20 @@ abbrev pub Records : Type 0
 Records = List (List (List ℕ))
 
 -- the header was read from the records of a file, or its fault found
-abbrev pub ReadsHeader : Option Records → Result (Unit {0}) ImportFault → Option Records → Type 0
-ReadsHeader old (Ok u) new = (first : List (List ℕ)) × (rest : Records) × (old ≡ Some (first ∷ rest)) × (new ≡ Some rest) × (file_rows (first ∷ rest) ≡ data_rows nothing rest)
-ReadsHeader old (Err (fault.At f)) new = (all : Records) × (old ≡ Some all) × (file_rows all ≡ fault_only f)
-ReadsHeader old (Err fault.Memory) new = ⊤
+abbrev pub ReadsHeader : Bool → Option Records → Result (Unit {0}) ImportFault → Option Records → Type 0
+ReadsHeader check old (Ok u) new = (first : List (List ℕ)) × (rest : Records) × (old ≡ Some (first ∷ rest)) × (new ≡ Some rest) × (file_rows check (first ∷ rest) ≡ data_rows check nothing rest)
+ReadsHeader check old (Err (fault.At f)) new = (all : Records) × (old ≡ Some all) × (file_rows check all ≡ fault_only f)
+ReadsHeader check old (Err fault.Memory) new = ⊤
 
 -- a data row was read, or there is none, or its fault found
-abbrev pub ReadsRow : Before → Option Records → Result (Option Row) ImportFault → Option Records → Type 0
-ReadsRow before old (Ok (Some row)) new =
+abbrev pub ReadsRow : Bool → Before → Option Records → Result (Option Row) ImportFault → Option Records → Type 0
+ReadsRow check before old (Ok (Some row)) new =
     (fields : List (List ℕ)) × (rest : Records) × (old ≡ Some (fields ∷ rest)) × (new ≡ Some rest)
-    × (data_rows before (fields ∷ rest) ≡ row_then row (data_rows (with_row before row) rest))
-ReadsRow before old (Ok None) new = (old ≡ Some []) × (new ≡ Some [])
-ReadsRow before old (Err (fault.At f)) new = (all : Records) × (old ≡ Some all) × (data_rows before all ≡ fault_only f)
-ReadsRow before old (Err fault.Memory) new = ⊤
+    × (data_rows check before (fields ∷ rest) ≡ row_then row (data_rows check (with_row before row) rest))
+ReadsRow check before old (Ok None) new = (old ≡ Some []) × (new ≡ Some [])
+ReadsRow check before old (Err (fault.At f)) new = (all : Records) × (old ≡ Some all) × (data_rows check before all ≡ fault_only f)
+ReadsRow check before old (Err fault.Memory) new = ⊤
 
 -- what comes of the data rows after so many with records of these names
-abbrev pub rows_after : ℕ → List (List ℕ) → Option Records → Option Coming
-rows_after count names left = option_map (data_rows (record { count = count; names = names })) left
+abbrev pub rows_after : Bool → ℕ → List (List ℕ) → Option Records → Option Coming
+rows_after check count names left = option_map (data_rows check (record { count = count; names = names })) left

@@ -1,5 +1,5 @@
 -- What a reading of a batch file's rows has still to give, by where it stands.
-use Rattle.std.specs.Prelude.{◌≡◌, ◌≤◌, ⊤, ℕ, List, [], Option, Some, None, option_map}
+use Rattle.std.specs.Prelude.{◌≡◌, ◌≤◌, ⊤, Bool, ℕ, List, [], Option, Some, None, option_map}
 use Rattle.batch_import.specs.declared.fault.ImportFault.TheVariants as fault
 use Rattle.batch_import.specs.declared.stream.Stage.{Stage}
 use Rattle.batch_import.specs.declared.stream.Stage.TheVariants as stage
@@ -7,11 +7,11 @@ use Rattle.batch_import.specs.declared.stream.BatchRows.TheInside.{Inside}
 use Rattle.batch_import.specs.Batch.{Before, Coming, data_rows, file_rows}
 use Rattle.batch_import.specs.Rows.{Records, fault_only, rows_after}
 
-abbrev pub coming_at : Stage → Before → Option Records → Option Coming
-coming_at stage.Header before left = option_map file_rows left
-coming_at stage.Data before left = rows_after before.count before.names left
-coming_at (stage.Failed (fault.At f)) before left = Some (fault_only f)
-coming_at (stage.Failed fault.Memory) before left = None
+abbrev pub coming_at : Stage → Bool → Before → Option Records → Option Coming
+coming_at stage.Header check before left = option_map (file_rows check) left
+coming_at stage.Data check before left = rows_after check before.count before.names left
+coming_at (stage.Failed (fault.At f)) check before left = Some (fault_only f)
+coming_at (stage.Failed fault.Memory) check before left = None
 
 -- before the header nothing was read
 abbrev pub IsFresh : Stage → Inside → Type 0
@@ -28,4 +28,4 @@ abbrev pub before_at : Inside → Before
 before_at a = record { count = a.count; names = a.names.keys }
 
 abbrev pub coming_from : Inside → Option Coming
-coming_from a = coming_at a.stage (before_at a) a.records
+coming_from a = coming_at a.stage a.check (before_at a) a.records

@@ -18,27 +18,27 @@ coming_count None = 0
 coming_count (Some coming) = length coming.rows
 
 -- after so many rows of a file: the outline has them, they are counted, and kept where they are to be
-pub record IsWalked (raw : List ℕ) (keep : Bool) (before kept : List Row) (outline : Outline) (number : ℕ) (left : Option Coming) : Type 0 where
+pub record IsWalked (check : Bool) (raw : List ℕ) (keep : Bool) (before kept : List Row) (outline : Outline) (number : ℕ) (left : Option Coming) : Type 0 where
   pub taken : List Row
   pub more : Coming
   pub left_is : left ≡ Some more
-  pub all : coming_of raw ≡ rows_then taken more
+  pub all : coming_of check raw ≡ rows_then taken more
   pub outlined : Outlines outline taken
   pub numbered : number ≡ length taken + 2
   pub kept_are : keep ≡ true → kept ≡ before ++ taken
 
 -- the rows of a file without a fault of a row: their outline, and how many they are
-pub record HasRows (raw : List ℕ) (keep : Bool) (before kept : List Row) (outline : Outline) (count : ℕ) : Type 0 where
+pub record HasRows (check : Bool) (raw : List ℕ) (keep : Bool) (before kept : List Row) (outline : Outline) (count : ℕ) : Type 0 where
   pub taken : List Row
-  pub all : coming_of raw ≡ record { rows = taken; fault = None }
+  pub all : coming_of check raw ≡ record { rows = taken; fault = None }
   pub outlined : Outlines outline taken
   pub counted : count ≡ length taken
   pub kept_are : keep ≡ true → kept ≡ before ++ taken
 
 -- the fault of a row is told, unless memory was refused
-abbrev pub TellsRowFault : List ℕ → ImportFault → Type 0
-TellsRowFault raw (fault.At f) = (taken : List Row) × (coming_of raw ≡ record { rows = taken; fault = Some f })
-TellsRowFault raw fault.Memory = ⊤
+abbrev pub TellsRowFault : Bool → List ℕ → ImportFault → Type 0
+TellsRowFault check raw (fault.At f) = (taken : List Row) × (coming_of check raw ≡ record { rows = taken; fault = Some f })
+TellsRowFault check raw fault.Memory = ⊤
 
 -- what a batch file holds is refused with its first fault, unless memory was refused
 abbrev pub IsRefused : Result (List Row) RowFault → ImportFault → Type 0

@@ -68,8 +68,8 @@ fn checked(alloc: Global, raw: &[u8], p: &Product, keep: bool, kept: &mut Vec<Ro
 
 // Walks the rows of a file, and puts them at the end of `kept` where they are to be kept.
 fn walk(alloc: Global, raw: &[u8], p: &Product, keep: bool, kept: &mut Vec<Row>) -> Result<(Outline, u32), ImportFault>
-    ensures rows { IfOk result (λ r. HasRows raw.now keep kept.old.items kept.new.items r.0 r.1) }
-    ensures fault { IfErr result (TellsRowFault raw.now) }
+    ensures rows { IfOk result (λ r. HasRows p.now.check raw.now keep kept.old.items kept.new.items r.0 r.1) }
+    ensures fault { IfErr result (TellsRowFault p.now.check raw.now) }
 {
     let mut stream = rows(alloc, raw, p);
     let mut outline = Outline::new(alloc);

@@ -1,9 +1,10 @@
 //! The rows of a batch file, one at a time.
 ghost use Rattle.std.specs.Prelude.{◌≡◌, ◌+◌, ◌<◌, ◌≤◌, Some, IfOk, IfSome};
 ghost use Rattle.csv.specs.Records.{fields_of};
+ghost use Rattle.dgi.specs.Coding.{whole_of};
 ghost use Rattle.store_data.specs.Groups.{with_key};
 ghost use Rattle.store_data.specs.Sequence.{IsRow};
-ghost use Rattle.batch_import.specs.Batch.{coming_of, header_of, row_of};
+ghost use Rattle.batch_import.specs.Batch.{as_record, breaks_check, coming_of, header_of, holds_record, is_for_record, row_of};
 ghost use Rattle.batch_import.specs.Refusals.{Gives};
 ghost use Rattle.batch_import.specs.Rows.{FindsRow, ReadsHeader, ReadsRow, TakesRow, rows_after};
 
@@ -11,10 +12,12 @@ use crate::fault::{ImportFault, Kind, Refusal, RowFault};
 use crate::fields::{is_header, typed};
 use crate::records::{CsvRecords, six_fields};
 use csv::ByteRecord;
+use dgi::read_whole;
 use indexmap::IndexSet;
 use std::alloc::Global;
 use std::marker::Model;
-use store_data::{Name, Product, Row};
+use store_data::{Enc, Name, Product, Row};
+use tlv_check::is_record;
 
 /// The most data rows of a batch (this project's profile).
 const MOST_ROWS: u32 = 4096;
@@ -41,6 +44,7 @@ pub struct BatchRows<'a> {
     fields: ByteRecord,
     names: IndexSet<Name>,
     count: u32,
+    check: bool,
     stage: Stage,
 }
 
@@ -58,15 +62,15 @@ impl<'a> Model for BatchRows<'a> {
 
 /// The rows of the file `raw`, which takes no memory.
 pub fn rows<'a>(alloc: Global, raw: &'a [u8], product: &Product) -> BatchRows<'a>
-    ensures { result ≡ Some (coming_of raw.now) }
+    ensures { result ≡ Some (coming_of product.now.check raw.now) }
 {
-    let _ = product;
     BatchRows {
         alloc,
         records: CsvRecords::new(alloc, raw),
         fields: ByteRecord::new(alloc),
         names: IndexSet::new(alloc),
         count: 0,
+        check: product.check,
         stage: Stage::Header,
     }
 }
@@ -92,18 +96,18 @@ impl<'a> BatchRows<'a> {
         match self.stage {
             Stage::Failed(fault) => Err(fault),
             Stage::Header => {
-                read_header(&mut self.records, &mut self.fields)?;
+                read_header(self.check, &mut self.records, &mut self.fields)?;
                 self.stage = Stage::Data;
-                take_row(self.alloc, &mut self.records, &mut self.fields, &mut self.names, &mut self.count)
+                take_row(self.alloc, self.check, &mut self.records, &mut self.fields, &mut self.names, &mut self.count)
             }
-            Stage::Data => take_row(self.alloc, &mut self.records, &mut self.fields, &mut self.names, &mut self.count),
+            Stage::Data => take_row(self.alloc, self.check, &mut self.records, &mut self.fields, &mut self.names, &mut self.count),
         }
     }
 }
 
 // Reads the header, the first record of a file.
-fn read_header(records: &mut CsvRecords<'_>, fields: &mut ByteRecord) -> Result<(), ImportFault>
-    ensures { ReadsHeader records.old result records.new }
+fn read_header(check: bool, records: &mut CsvRecords<'_>, fields: &mut ByteRecord) -> Result<(), ImportFault>
+    ensures { ReadsHeader check records.old result records.new }
 {
     if !records.next(fields)? {
         return Err(fault_at(1, Kind::Header));
@@ -124,13 +128,13 @@ fn check_header(fields: &ByteRecord) -> Result<(), Kind>
 }
 
 // Reads a data row and counts it.
-fn take_row(alloc: Global, records: &mut CsvRecords<'_>, fields: &mut ByteRecord, names: &mut IndexSet<Name>, count: &mut u32) -> Result<Option<Row>, ImportFault>
+fn take_row(alloc: Global, check: bool, records: &mut CsvRecords<'_>, fields: &mut ByteRecord, names: &mut IndexSet<Name>, count: &mut u32) -> Result<Option<Row>, ImportFault>
     requires { count.old ≤ 4096 }
-    ensures found { FindsRow (rows_after count.old names.old.keys records.old) result (rows_after count.new names.new.keys records.new) }
+    ensures found { FindsRow (rows_after check count.old names.old.keys records.old) result (rows_after check count.new names.new.keys records.new) }
     ensures counted { count.new ≤ 4096 }
     ensures row { IfOk result (λ o. IfSome o IsRow) }
 {
-    match read_row(alloc, records, fields, names, *count)? {
+    match read_row(alloc, check, records, fields, names, *count)? {
         None => Ok(None),
         Some(row) => {
             *count += 1;
@@ -140,16 +144,16 @@ fn take_row(alloc: Global, records: &mut CsvRecords<'_>, fields: &mut ByteRecord
 }
 
 // Reads a data row, of which `count` came before, with records of these names.
-fn read_row(alloc: Global, records: &mut CsvRecords<'_>, fields: &mut ByteRecord, names: &mut IndexSet<Name>, count: u32) -> Result<Option<Row>, ImportFault>
+fn read_row(alloc: Global, check: bool, records: &mut CsvRecords<'_>, fields: &mut ByteRecord, names: &mut IndexSet<Name>, count: u32) -> Result<Option<Row>, ImportFault>
     requires { count ≤ 4096 }
-    ensures read { ReadsRow (record { count = count; names = names.old.keys }) records.old result records.new }
+    ensures read { ReadsRow check (record { count = count; names = names.old.keys }) records.old result records.new }
     ensures counted { IfOk result (λ o. IfSome o (λ row. (count < 4096) × (names.new.keys ≡ with_key names.old.keys row.rec))) }
     ensures row { IfOk result (λ o. IfSome o IsRow) }
 {
     if !records.next(fields)? {
         return Ok(None);
     }
-    match data_row(alloc, fields, names, count) {
+    match data_row(alloc, check, fields, names, count) {
         Ok(row) => Ok(Some(row)),
         Err(Refusal::Memory) => Err(ImportFault::Memory),
         Err(Refusal::Fault(kind)) => Err(fault_at(count + 2, kind)),
@@ -158,13 +162,13 @@ fn read_row(alloc: Global, records: &mut CsvRecords<'_>, fields: &mut ByteRecord
 
 // The data row of these fields.
 #[tactic(auto, unfolding(crate::specs::Batch::row_of))]
-fn data_row(alloc: Global, fields: &ByteRecord, names: &mut IndexSet<Name>, count: u32) -> Result<Row, Refusal>
-    ensures given { Gives result (row_of (record { count = count; names = names.old.keys }) (fields_of fields.now)) }
+fn data_row(alloc: Global, check: bool, fields: &ByteRecord, names: &mut IndexSet<Name>, count: u32) -> Result<Row, Refusal>
+    ensures given { Gives result (row_of check (record { count = count; names = names.old.keys }) (fields_of fields.now)) }
     ensures counted { IfOk result (λ row. (count < 4096) × (names.new.keys ≡ with_key names.old.keys row.rec)) }
     ensures row { IfOk result IsRow }
 {
     let texts = six_fields(fields).ok_or(Kind::NotSixFields)?;
-    let row = typed(alloc, &texts)?;
+    let row = as_record(check, typed(alloc, &texts)?)?;
     if count >= MOST_ROWS {
         return Err(Refusal::Fault(Kind::TooManyRows));
     }
@@ -173,6 +177,40 @@ fn data_row(alloc: Global, fields: &ByteRecord, names: &mut IndexSet<Name>, coun
         return Err(Refusal::Fault(Kind::TooManyRecords));
     }
     Ok(row)
+}
+
+// The row, if it passes the record check where the product asks for it.
+fn as_record(check: bool, row: Row) -> Result<Row, Kind>
+    ensures { result ≡ as_record check row }
+{
+    if check && breaks_check(&row) { Err(Kind::NotARecord) } else { Ok(row) }
+}
+
+// Whether the row breaks the record check.
+#[tactic(auto, unfolding(crate::specs::Batch::breaks_check))]
+fn breaks_check(row: &Row) -> bool
+    ensures { result ≡ breaks_check row.now }
+{
+    let coded = row.coded.as_slice();
+    row.enc == Enc::Plain && is_for_record(coded) && !holds_record(coded)
+}
+
+fn is_for_record(coded: &[u8]) -> bool
+    ensures { result ≡ is_for_record coded.now }
+{
+    match coded {
+        [first, second, ..] => 1 <= *first && *first <= 10 && *second != 0,
+        _ => false,
+    }
+}
+
+fn holds_record(coded: &[u8]) -> bool
+    ensures { result ≡ holds_record (whole_of coded.now) }
+{
+    match read_whole(coded) {
+        Ok(grouping) => is_record(grouping.body),
+        Err(_) => false,
+    }
 }
 
 fn fault_at(row: u32, kind: Kind) -> ImportFault
