@@ -1,0 +1,25 @@
+-- What `persod plan` prints.
+use Rattle.std.specs.Prelude.{ℕ, List, [], ◌∷◌, ◌++◌, codes}
+use Rattle.std.specs.List.{flat_map}
+use Rattle.hex.specs.Hex.{encode_upper}
+use Rattle.store_data.specs.Groups.{grouped}
+use Rattle.store_data.specs.Sequence.{sequence_of}
+use Rattle.store_data.specs.declared.row.Product.{Product}
+use Rattle.store_data.specs.declared.row.Row.{Row}
+
+-- a line, which ends in LF
+abbrev pub line : List ℕ → List ℕ
+line text = text ++ 10 ∷ []
+
+-- the name that a record's rows share
+abbrev pub name_of : List Row → List ℕ
+name_of [] = []
+name_of (row ∷ more) = row.rec
+
+-- a record's name line, and its commands in upper case hexadecimal, a line each
+unfoldable pub record_text : Product → List Row → List ℕ
+record_text p rows = line (codes "record " ++ name_of rows) ++ flat_map (λ command. line (encode_upper command)) (sequence_of p rows)
+
+-- the same for each record of a batch, by first appearance
+unfoldable pub printed : Product → List Row → List ℕ
+printed p rows = flat_map (record_text p) (grouped (λ (row : Row). row.rec) rows)
