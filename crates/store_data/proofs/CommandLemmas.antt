@@ -1,12 +1,12 @@
 -- The commands of an application and of a plan, one more at a time.
-use Rattle.std.proofs.Common.{◌≡◌, ℕ, zero, suc, ◌+◌, ◌*◌, ◌<◌, ◌≤◌, eqb, List, [], ◌∷◌, ◌++◌, length, get_or, take, map, All, refl, sym, ap, ◌∙◌, arith, append_assoc, length-append, length-take}
+use Rattle.std.proofs.Common.{◌≡◌, ℕ, ◌+◌, ◌*◌, ◌<◌, ◌≤◌, eqb, List, [], ◌∷◌, ◌++◌, length, get_or, take, map, All, sym, ap, ◌∙◌, arith, append_assoc, length-append, length-take}
 use Rattle.std.specs.List.{flat_map, range_with_len, enumerate_from}
 use Rattle.std.proofs.lemmas.Grind.{flat_map-append}
 use Rattle.std.proofs.lemmas.List.{map_push, take_more, take_all, length-map, append-nil}
 use Rattle.std.proofs.lemmas.List.Elements.{All-head, All-tail, All-nil, All-append, All-map, All-same, All-weaker}
 use Rattle.std.proofs.lemmas.List.FromFn.{length-enumerate_from, map-range_with_len_more}
 use Rattle.std.proofs.lemmas.List.Folds.{length-flat_map-take}
-use Rattle.store_data.specs.Sequence.{Piece, Segment, Application, Command, piece_of, piece_count, pieces_of, select_command, store_data_command, store_data_commands, application_commands, IsApplication, IsPlan, Plan, commands_of, sequence}
+use Rattle.store_data.specs.Sequence.{Piece, Segment, Application, Command, piece_count, pieces_of, select_command, store_data_command, store_data_commands, application_commands, IsApplication}
 
 -- ---- lists
 
@@ -65,8 +65,8 @@ module _ {V : Type 0} (f : V → List ℕ) where
       let bytes : Command → List ℕ = λ c. c.bytes in
       let before : List (ℕ × Piece) = enumerate_from 0 (take i pieces) in
       let upto : commands_upto low pieces (i + 1) ≡ commands_upto low pieces i ++ bytes (g (i, p)) ∷ []
-          = ap (λ es. map bytes (map g es)) (enumerate_more pieces i p within here)
-            ∙ ap (map bytes) (map_push g before (i, p)) ∙ map_push bytes (map g before) (g (i, p)) in
+      = ap (λ es. map bytes (map g es)) (enumerate_more pieces i p within here)
+      ∙ ap (map bytes) (map_push g before (i, p)) ∙ map_push bytes (map g before) (g (i, p)) in
       ap (map f) pushed ∙ map_push f vs v ∙ ap (λ xs. xs ++ f v ∷ []) so_far ∙ ap (λ y. (start ++ commands_upto low pieces i) ++ y ∷ []) command
       ∙ append_assoc start (commands_upto low pieces i) (bytes (g (i, p)) ∷ []) ∙ ap (λ ys. start ++ ys) (sym upto)
 
@@ -102,7 +102,7 @@ pub length-commands : (max low : ℕ) (applications : List Application) → All 
     → length (flat_map (application_commands max low) applications) ≤ 1052672
 length-commands max low applications each many =
     let at_most : All (λ (a : Application). length (application_commands max low a) ≤ 257) applications
-        = λ i d within. omega (arith, length-application_commands max low (get_or applications i d), (each i d within).blocks) in
+    = λ i d within. omega (arith, length-application_commands max low (get_or applications i d), (each i d within).blocks) in
     omega (arith, length-flat_map-at_most (application_commands max low) 257 applications at_most)
 
 pub length-flat_map_more : {A B : Type 0} (f : A → List B) (xs : List A) (i : ℕ) (x : A) → i < length xs → x ≡ get_or xs i x

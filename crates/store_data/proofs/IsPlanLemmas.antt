@@ -1,22 +1,19 @@
 -- Rows without a fault have a plan in its limits.
-use Rattle.std.proofs.Common.{◌≡◌, ℕ, ◌+◌, ◌*◌, ◌<◌, ◌≤◌, Bool, true, false, cond, ltb, ◌||◌, List, [], ◌∷◌, ◌++◌, length, get_or, map, filter, fold, All, Option, Some, None, refl, sym, ap, ◌∙◌, subst, arith, inl, inr, length-append}
-use Rattle.std.specs.Prelude.{bytes_eq, nat_lt, if◌then◌else◌}
+use Rattle.std.proofs.Common.{◌≡◌, ℕ, ◌+◌, ◌≤◌, Bool, true, false, List, [], ◌∷◌, length, get_or, map, fold, All, Some, None, refl, sym, ap, ◌∙◌, subst, arith, inl, inr, length-append}
+use Rattle.std.specs.Prelude.{bytes_eq, if◌then◌else◌}
 use Rattle.std.specs.List.{flat_map, list_any}
 use Rattle.std.proofs.lemmas.Bool.{cases_Bool, ltb-false, both_ways, or_cases, or_parts}
 use Rattle.std.proofs.lemmas.List.{length-map, length_push}
-use Rattle.std.proofs.lemmas.List.Concat.{length-flat_map}
-use Rattle.std.proofs.lemmas.List.Elements.{All-nil, All-cons, All-head, All-tail, All-append, All-map, All-filter, All-weaker}
+use Rattle.std.proofs.lemmas.List.Elements.{All-nil, All-cons, All-head, All-append, All-map, All-filter, All-weaker}
 use Rattle.std.proofs.lemmas.List.Folds.{list_any_at}
 use Rattle.std.proofs.lemmas.List.FromFn.{length-range_with_len}
-use Rattle.std.proofs.lemmas.List.Sums.{sum_by-le}
 use Rattle.store_data.specs.declared.row.Product.{Product}
 use Rattle.store_data.specs.declared.row.Row.{Row}
-use Rattle.store_data.specs.declared.faults.PlanFault.{PlanFault}
 use Rattle.store_data.specs.declared.faults.PlanFault.TheVariants.{MarksDiffer, IdentifierTwice, TooManyBlocks}
 use Rattle.store_data.specs.Groups.{with_key, first_appearances, with_the_key, grouped}
 use Rattle.dgi.specs.Coding.{IsSent}
 use Rattle.dgi.proofs.Sent.{length-sent}
-use Rattle.store_data.specs.Sequence.{IsProduct, IsRow, AreRows, Segment, Application, ranks, rows_of_rank, segment_of, segments_of, aid_of, application_of, applications_of, pieces_of, IsApplication, IsPlan, plan_of}
+use Rattle.store_data.specs.Sequence.{IsProduct, IsRow, AreRows, Segment, ranks, rows_of_rank, segment_of, segments_of, aid_of, application_of, applications_of, pieces_of, IsApplication, IsPlan, plan_of}
 use Rattle.store_data.specs.RecordFaults.{marks_differ, identifier_twice, has_too_many_blocks, fault_among, record_fault}
 use Rattle.store_data.proofs.GroupLemmas.{bytes_eq-same, same-bytes_eq, list_any-first_appearances}
 
@@ -69,8 +66,8 @@ module _ {X : Type 0} (key : X → List ℕ) where
   All-grouped P Q items each whole =
       All-map Q (with_the_key key items) (first_appearances (map key items))
       (All-weaker (λ k. list_any (bytes_eq k) (map key items) ≡ true) (λ k. Q (with_the_key key items k))
-        (λ k there. whole (with_the_key key items k) (All-filter (λ x. bytes_eq (key x) k) P items each) (with_the_key-some items k there))
-        (first_appearances (map key items)) (keys_there (map key items)))
+      (λ k there. whole (with_the_key key items k) (All-filter (λ x. bytes_eq (key x) k) P items each) (with_the_key-some items k there))
+      (first_appearances (map key items)) (keys_there (map key items)))
 
 -- ---- applications
 
@@ -155,8 +152,8 @@ IsPlan-plan_of p rows product are none =
     let groups : List (List Row) = grouped (λ (row : Row). row.aid) rows in
     let few : All (λ g. has_too_many_blocks p.max g ≡ false) groups = All-from_list_any (has_too_many_blocks p.max) groups (few_among p.max groups none) in
     let sound : All (λ g. has_too_many_blocks p.max g ≡ false → IsApplication p.max (application_of g)) groups =
-        All-grouped (λ (row : Row). row.aid) IsRow (λ g. has_too_many_blocks p.max g ≡ false → IsApplication p.max (application_of g)) rows are.each
-        (λ g each some. IsApplication-application_of p.max g each some) in
+    All-grouped (λ (row : Row). row.aid) IsRow (λ g. has_too_many_blocks p.max g ≡ false → IsApplication p.max (application_of g)) rows are.each
+    (λ g each some. IsApplication-application_of p.max g each some) in
     record {
       max_least = product.least;
       max_most = product.most;
@@ -164,5 +161,5 @@ IsPlan-plan_of p rows product are none =
       many = omega (arith, length-map groups application_of, length-grouped (λ (row : Row). row.aid) rows, are.most);
       each = All-map (IsApplication p.max) application_of groups
           (All-both (λ g. has_too_many_blocks p.max g ≡ false → IsApplication p.max (application_of g)) (λ g. has_too_many_blocks p.max g ≡ false) (λ g. IsApplication p.max (application_of g))
-            (λ g whole small. whole small) groups sound few);
+          (λ g whole small. whole small) groups sound few);
     }

@@ -37,12 +37,19 @@ pub fn list(alloc: Global, p: &RecordPlan<'_>) -> Result<Vec<Vec<u8>>, AllocErro
 }
 
 // Puts an application's commands at the end.
-fn push_application(alloc: Global, max: u8, low: u8, application: &Application<'_>, commands: &mut Vec<Vec<u8>>) -> Result<(), AllocError>
+fn push_application(
+    alloc: Global,
+    max: u8,
+    low: u8,
+    application: &Application<'_>,
+    commands: &mut Vec<Vec<u8>>,
+) -> Result<(), AllocError>
     requires room { 1 ≤ max }
     requires low { low ≤ 31 }
     requires application { IsApplication max application.now }
     ensures { OnOk result (map (λ c. c.items) commands.new.items
-        ≡ map (λ c. c.items) commands.old.items ++ map (λ c. c.bytes) (application_commands max low application.now)) }
+        ≡ map (λ c. c.items) commands.old.items
+        ++ map (λ c. c.bytes) (application_commands max low application.now)) }
 {
     commands.push(select(alloc, application.aid)?)?;
     let pieces = pieces(alloc, max, application.segments.as_slice())?;
@@ -50,12 +57,18 @@ fn push_application(alloc: Global, max: u8, low: u8, application: &Application<'
 }
 
 // Puts a STORE DATA command for each piece at the end.
-fn push_store_data(alloc: Global, low: u8, pieces: &[Piece<'_>], commands: &mut Vec<Vec<u8>>) -> Result<(), AllocError>
+fn push_store_data(
+    alloc: Global,
+    low: u8,
+    pieces: &[Piece<'_>],
+    commands: &mut Vec<Vec<u8>>,
+) -> Result<(), AllocError>
     requires low { low ≤ 31 }
     requires few { length pieces.now ≤ 256 }
     requires short { All (λ p. length p.bytes ≤ 255) pieces.now }
     ensures { OnOk result (map (λ c. c.items) commands.new.items
-        ≡ map (λ c. c.items) commands.old.items ++ map (λ c. c.bytes) (store_data_commands low pieces.now)) }
+        ≡ map (λ c. c.items) commands.old.items
+        ++ map (λ c. c.bytes) (store_data_commands low pieces.now)) }
 {
     for (block, piece) in pieces.iter().enumerate() {
         let is_last = block + 1 == pieces.len();
@@ -73,10 +86,17 @@ fn select(alloc: Global, aid: &[u8]) -> Result<Vec<u8>, AllocError>
     Ok(command)
 }
 
-fn store_data(alloc: Global, low: u8, is_last: bool, block: u8, piece: &Piece<'_>) -> Result<Vec<u8>, AllocError>
+fn store_data(
+    alloc: Global,
+    low: u8,
+    is_last: bool,
+    block: u8,
+    piece: &Piece<'_>,
+) -> Result<Vec<u8>, AllocError>
     requires low { low ≤ 31 }
     requires short { length piece.now.bytes ≤ 255 }
-    ensures { IfOk result (λ command. command.items ≡ (store_data_command low is_last block piece.now).bytes) }
+    ensures { IfOk result
+        (λ command. command.items ≡ (store_data_command low is_last block piece.now).bytes) }
 {
     let p1 = store_data_p1(low, is_last, piece.enc);
     let mut command = Vec::from_array(alloc, [0x80, 0xE2, p1, block, piece.bytes.len() as u8])?;
@@ -110,7 +130,11 @@ fn pieces<'a>(alloc: Global, max: u8, segments: &'a [Segment]) -> Result<Vec<Pie
 }
 
 // Puts a segment's pieces at the end.
-fn push_pieces<'a>(max: usize, segment: &'a Segment, pieces: &mut Vec<Piece<'a>>) -> Result<(), AllocError>
+fn push_pieces<'a>(
+    max: usize,
+    segment: &'a Segment,
+    pieces: &mut Vec<Piece<'a>>,
+) -> Result<(), AllocError>
     requires { 1 ≤ max }
     ensures { OnOk result (pieces.new.items ≡ pieces.old.items ++ pieces_of max segment.now) }
 {
