@@ -12,6 +12,8 @@ mod row;
 mod short;
 mod status;
 mod summary;
+#[cfg(test)]
+mod tests;
 mod words;
 
 pub use aid::Aid;
