@@ -1,4 +1,4 @@
--- What a read of a data row does to the rows that are to come.
+-- What a read of the header or of a data row does to the rows that are to come.
 use Rattle.std.proofs.Common.{◌≡◌, ℕ, ◌+◌, List, [], ◌∷◌, Option, Some, None, option_map, Result, Ok, Err, Bool, true, false, refl, sym, subst, ap, ◌∙◌}
 use Rattle.std.proofs.lemmas.Bool.{false≢true}
 use Rattle.store_data.specs.Groups.{with_key}
@@ -7,9 +7,9 @@ use Rattle.batch_import.specs.declared.fault.Kind.{Kind}
 use Rattle.batch_import.specs.declared.fault.ImportFault.{ImportFault}
 use Rattle.batch_import.specs.declared.fault.ImportFault.TheVariants as fault
 use Rattle.batch_import.specs.declared.fault.RowFault.{RowFault}
-use Rattle.batch_import.specs.Batch.{Before, Coming, data_rows, first_then, row_of, with_row}
+use Rattle.batch_import.specs.Batch.{Before, Coming, data_rows, file_rows, first_then, nothing, row_of, with_row}
 use Rattle.batch_import.specs.Records.{ReadsOne}
-use Rattle.batch_import.specs.Rows.{Records, ReadsRow, TakesRow, fault_only, row_then, rows_after}
+use Rattle.batch_import.specs.Rows.{Records, FindsRow, ReadsHeader, ReadsRow, TakesRow, fault_only, row_then, rows_after}
 
 pub row_taken : (check : Bool) (before : Before) (old new : Option Records) (found : Bool) (fields : List (List ℕ)) (row : Row)
     → found ≡ true → ReadsOne old found fields new → row_of check before fields ≡ Ok row → ReadsRow check before old (Ok (Some row)) new
@@ -52,3 +52,16 @@ pub end_found : (check : Bool) (count : ℕ) (names keys : List (List ℕ)) (old
 unfolding data_rows
 end_found check count names keys old new reads =
     (ap (option_map (data_rows check (record { count = count; names = names }))) reads.0, ap (option_map (data_rows check (record { count = count; names = keys }))) reads.1)
+
+-- a fault of the header is that of the rows to come
+pub header_refused : (check : Bool) (old new : Option Records) (coming later : Option Coming) (e : ImportFault) → ReadsHeader check old (Err e) new
+    → coming ≡ option_map (file_rows check) old → FindsRow coming (Err e) later
+header_refused check old new coming later (fault.At f) reads is = is ∙ ap (option_map (file_rows check)) reads.1 ∙ ap Some reads.2
+header_refused check old new coming later fault.Memory reads is = tt
+
+-- behind the header the rows to come are those of the data rows
+pub header_read : (check : Bool) (before : Before) (old new : Option Records) (coming : Option Coming) (u : Unit {0}) → ReadsHeader check old (Ok u) new
+    → before.count ≡ 0 → before.names ≡ [] → coming ≡ option_map (file_rows check) old → rows_after check before.count before.names new ≡ coming
+header_read check before old new coming u reads none empty is =
+    ap (λ n. rows_after check n before.names new) none ∙ ap (λ names. rows_after check 0 names new) empty
+    ∙ ap (option_map (data_rows check nothing)) reads.3 ∙ ap Some (sym reads.4) ∙ ap (option_map (file_rows check)) (sym reads.2) ∙ sym is

@@ -1,5 +1,5 @@
 //! The rows of a batch file, one at a time.
-ghost use Rattle.std.specs.Prelude.{◌≡◌, ◌+◌, ◌<◌, ◌≤◌, Some, IfOk, IfSome};
+ghost use Rattle.std.specs.Prelude.{◌≡◌, ◌+◌, ◌<◌, ◌≤◌, Bool, Some, IfOk, IfSome};
 ghost use Rattle.csv.specs.Records.{fields_of};
 ghost use Rattle.dgi.specs.Coding.{whole_of};
 ghost use Rattle.store_data.specs.Groups.{with_key};
@@ -96,7 +96,7 @@ impl<'a> BatchRows<'a> {
         match self.stage {
             Stage::Failed(fault) => Err(fault),
             Stage::Header => {
-                read_header(self.check, &mut self.records, &mut self.fields)?;
+                read_header(&mut self.records, &mut self.fields)?;
                 self.stage = Stage::Data;
                 take_row(self.alloc, self.check, &mut self.records, &mut self.fields, &mut self.names, &mut self.count)
             }
@@ -106,8 +106,8 @@ impl<'a> BatchRows<'a> {
 }
 
 // Reads the header, the first record of a file.
-fn read_header(check: bool, records: &mut CsvRecords<'_>, fields: &mut ByteRecord) -> Result<(), ImportFault>
-    ensures { ReadsHeader check records.old result records.new }
+fn read_header(records: &mut CsvRecords<'_>, fields: &mut ByteRecord) -> Result<(), ImportFault>
+    ensures { (check : Bool) → ReadsHeader check records.old result records.new }
 {
     if !records.next(fields)? {
         return Err(fault_at(1, Kind::Header));
