@@ -1,3 +1,4 @@
 mod NumberLemmas
 mod PlanLemmas
 mod TakenLemmas
+mod TextLemmas

@@ -1,6 +1,10 @@
 -- How `persod plan` ends.
 use Rattle.std.specs.Prelude.{◌≡◌, ◌<◌, ◌≤◌, ⊤, ℕ, List, ◌++◌, length, Option, IfSome, Result, Ok, Err}
+use Rattle.std.specs.Prelude.{Vec}
+use Rattle.std.specs.Global.{Global}
 use Rattle.std.specs.Io.KnownBytes.{Appends, Keeps}
+use Rattle.batch_import.specs.declared.fault.ImportFault.{ImportFault}
+use Rattle.batch_import.specs.declared.fault.ImportFault.TheVariants as fault
 use Rattle.store_data.specs.declared.row.Product.{Product}
 use Rattle.store_data.specs.declared.row.Row.{Row}
 use Rattle.batch_import.specs.Batch.{batch_of}
@@ -28,3 +32,36 @@ PlanEnds p raw before after (Err stop.TooLarge) = (most_input < length raw) × K
 PlanEnds p raw before after (Err stop.WriteFailed) = (rows : List Row) × (length raw ≤ most_input) × (batch_of p raw ≡ Ok rows) × AppendsBeginning before after (printed p rows)
 PlanEnds p raw before after (Err stop.ReadFailed) = Keeps before after
 PlanEnds p raw before after (Err stop.Memory) = Keeps before after
+
+-- ---- the steps on the way
+
+abbrev pub stop_of : ImportFault → PlanStop
+stop_of (fault.At f) = stop.Refused f
+stop_of fault.Memory = stop.Memory
+
+-- the input was read, or it is too large
+abbrev pub ReadsInput : List ℕ → Result (Vec ℕ Global) PlanStop → Type 0
+ReadsInput raw (Ok v) = (v.items ≡ raw) × (length raw ≤ most_input)
+ReadsInput raw (Err stop.TooLarge) = most_input < length raw
+ReadsInput raw (Err stop.ReadFailed) = ⊤
+ReadsInput raw (Err stop.Memory) = ⊤
+ReadsInput raw (Err stop.WriteFailed) = ⊥
+ReadsInput raw (Err (stop.Refused f)) = ⊥
+
+-- the text of a batch was composed, or it is refused
+abbrev pub Composes : Product → List ℕ → Result (Vec ℕ Global) PlanStop → Type 0
+Composes p raw (Ok text) = (rows : List Row) × (batch_of p raw ≡ Ok rows) × (text.items ≡ printed p rows)
+Composes p raw (Err (stop.Refused f)) = batch_of p raw ≡ Err f
+Composes p raw (Err stop.Memory) = ⊤
+Composes p raw (Err stop.TooLarge) = ⊥
+Composes p raw (Err stop.ReadFailed) = ⊥
+Composes p raw (Err stop.WriteFailed) = ⊥
+
+-- a text was written, or a beginning of it
+abbrev pub Writes : Option (List ℕ) → Option (List ℕ) → List ℕ → Result (Unit {0}) PlanStop → Type 0
+Writes before after text (Ok u) = Appends before after text
+Writes before after text (Err stop.WriteFailed) = AppendsBeginning before after text
+Writes before after text (Err stop.TooLarge) = ⊥
+Writes before after text (Err stop.ReadFailed) = ⊥
+Writes before after text (Err stop.Memory) = ⊥
+Writes before after text (Err (stop.Refused f)) = ⊥

@@ -1,0 +1,103 @@
+-- The text that `persod plan` prints, and its input.
+use Rattle.std.proofs.Common.{◌≡◌, ℕ, suc, ◌+◌, ◌-◌, ◌<◌, ◌≤◌, ◌/◌, ◌%◌, List, [], ◌∷◌, ◌++◌, length, take, drop, get_or, map, All, Option, Some, None, option_map, unwrap_or, IfSome, refl, sym, subst, ap, ◌∙◌, arith, take-append-drop}
+use Rattle.std.specs.Prelude.{bytes_eq, slice_index}
+use Rattle.std.specs.List.{flat_map}
+use Rattle.std.specs.Io.KnownBytes.{Appends, Keeps}
+use Rattle.std.proofs.KnownBytes.{Appends-trans, Appends-kept, Appends-nil}
+use Rattle.std.proofs.lemmas.Grind.{flat_map-append}
+use Rattle.std.proofs.lemmas.List.{append_assoc, append-nil, length-take, take_all, take_more, take_rest, take-map, map_push, flat_map_more}
+use Rattle.std.proofs.lemmas.List.Sums.{length-filter, count_by-le-length}
+use Rattle.std.proofs.Math.Seq.{take-add}
+use Rattle.hex.specs.Hex.{encode_with, encode_upper, upper_digits}
+use Rattle.store_data.specs.Groups.{grouped}
+use Rattle.store_data.specs.Sequence.{AreRows, IsRow}
+use Rattle.store_data.specs.declared.row.Row.{Row}
+use Rattle.store_data.proofs.FaultLemmas.{All-from_map, grouped_each}
+use Rattle.store_data.proofs.IsPlanLemmas.{All-grouped}
+use Rattle.batch_import.specs.Outlines.{AreBatchRows}
+use Rattle.persod.specs.PlanEnds.{AppendsBeginning, Tells}
+
+-- ---- hexadecimal
+
+pub encode_with-push : (t xs : List ℕ) (b : ℕ) → encode_with t (xs ++ b ∷ []) ≡ encode_with t xs ++ slice_index t (b / 16) ∷ slice_index t (b % 16) ∷ []
+unfolding encode_with
+encode_with-push t [] b = refl
+encode_with-push t (x ∷ xs) b = ap (λ ys. slice_index t (x / 16) ∷ slice_index t (x % 16) ∷ ys) (encode_with-push t xs b)
+
+pub hex_more : (start bytes text first second : List ℕ) (i b high low : ℕ) → i < length bytes → b ≡ get_or bytes i 0
+    → text ≡ start ++ encode_upper (take i bytes) → high ≡ slice_index upper_digits (b / 16) → low ≡ slice_index upper_digits (b % 16)
+    → first ≡ text ++ high ∷ [] → second ≡ first ++ low ∷ [] → second ≡ start ++ encode_upper (take (i + 1) bytes)
+hex_more start bytes text first second i b high low inside is so_far of_high of_low one two =
+    two ∙ ap (λ ys. ys ++ low ∷ []) (one ∙ ap (λ ys. ys ++ high ∷ []) so_far)
+    ∙ append_assoc (start ++ encode_upper (take i bytes)) (high ∷ []) (low ∷ [])
+    ∙ append_assoc start (encode_upper (take i bytes)) (high ∷ low ∷ [])
+    ∙ ap (λ h. start ++ (encode_upper (take i bytes) ++ h ∷ low ∷ [])) of_high
+    ∙ ap (λ l. start ++ (encode_upper (take i bytes) ++ slice_index upper_digits (b / 16) ∷ l ∷ [])) of_low
+    ∙ ap (λ ys. start ++ ys) (sym (encode_with-push upper_digits (take i bytes) b) ∙ ap (encode_with upper_digits) (ap (λ d. take i bytes ++ d ∷ []) is ∙ sym (take_more bytes i 0 inside)))
+
+-- ---- input
+
+pub tells_some : (known : Option (List ℕ)) → Tells known (unwrap_or known [])
+tells_some None = tt
+tells_some (Some all) = refl
+
+pub tells_whole : (known : Option (List ℕ)) (limit : ℕ) (old items : List ℕ) → old ≡ [] → IfSome (option_map (take limit) known) (λ xs. items ≡ old ++ xs)
+    → length items < limit → Tells known items
+tells_whole None limit old items empty read few = tt
+tells_whole (Some all) limit old items empty read few =
+    let taken : items ≡ take limit all = read ∙ ap (λ ys. ys ++ take limit all) empty in
+    sym (taken ∙ take_all limit all (omega (arith, ap length taken, length-take limit all)))
+
+pub tells_over : (known : Option (List ℕ)) (limit : ℕ) (old items : List ℕ) → old ≡ [] → IfSome (option_map (take limit) known) (λ xs. items ≡ old ++ xs)
+    → limit ≤ length items → (raw : List ℕ) × Tells known raw × (limit ≤ length raw)
+tells_over None limit old items empty read many = (items, tt, many)
+tells_over (Some all) limit old items empty read many =
+    let taken : items ≡ take limit all = read ∙ ap (λ ys. ys ++ take limit all) empty in
+    (all, refl, omega (arith, ap length taken, length-take limit all))
+
+-- ---- records
+
+abbrev record_key : Row → List ℕ
+record_key row = row.rec
+
+-- the rows of each record of a batch are those of a record
+pub record_rows : (rows : List Row) → AreBatchRows rows → All AreRows (grouped record_key rows)
+record_rows rows fits =
+    let Filled : List Row → Type 0 = λ group. (1 ≤ length group) × All IsRow group in
+    let Few : List Row → Type 0 = λ group. length group ≤ 4096 in
+    let filled : All Filled (grouped record_key rows) = All-grouped record_key IsRow Filled rows fits.each (λ group each some. (some, each)) in
+    let few : All Few (grouped record_key rows) = grouped_each record_key Few rows (λ k. omega (
+      arith,
+      length-filter (λ (row : Row). bytes_eq row.rec k) rows,
+      count_by-le-length (λ (row : Row). bytes_eq row.rec k) rows,
+      fits.few,
+    )) in
+    λ k d inside. record { least = (filled k d inside).0; most = few k d inside; each = (filled k d inside).1 }
+
+-- ---- what is composed
+
+pub text_more : {V X : Type 0} (view : V → X) (f : X → List ℕ) (vs : List V) (i : ℕ) (v : V) (start text next : List ℕ) → i < length vs → v ≡ get_or vs i v
+    → text ≡ start ++ flat_map f (take i (map view vs)) → next ≡ text ++ f (view v) → next ≡ start ++ flat_map f (take (i + 1) (map view vs))
+text_more view f vs i v start text next inside is so_far e =
+    let grown : take (i + 1) (map view vs) ≡ take i (map view vs) ++ view v ∷ [] =
+        take-map view (i + 1) vs ∙ ap (map view) (take_more vs i v inside ∙ ap (λ u. take i vs ++ u ∷ []) (sym is)) ∙ map_push view (take i vs) v
+        ∙ ap (λ xs. xs ++ view v ∷ []) (sym (take-map view i vs)) in
+    e ∙ ap (λ ys. ys ++ f (view v)) so_far ∙ flat_map_more f start (take i (map view vs)) (view v) ∙ ap (λ xs. start ++ flat_map f xs) (sym grown)
+
+-- ---- what is written
+
+pub beginning : (before after : Option (List ℕ)) (text : List ℕ) (at : ℕ) → Appends before after (take at text) → AppendsBeginning before after text
+beginning before after text at written = (take at text, drop at text, take-append-drop at text, written)
+
+pub written_more : (a b c : Option (List ℕ)) (text : List ℕ) (at n : ℕ) → Appends a b (take at text) → Appends b c (take n (take (length text - at) (drop at text)))
+    → Appends a c (take (at + n) text)
+written_more a b c text at n first second =
+    let more : Appends b c (take n (drop at text)) = subst (λ (rest : List ℕ). Appends b c (take n rest)) (take_rest text at) second in
+    subst (Appends a c) (sym (take-add at n text)) (Appends-trans a b c (take at text) (take n (drop at text)) first more)
+
+-- the rows of the record at a place
+pub record_at : {V : Type 0} (view : V → List Row) (vs : List V) (rows : List Row) (i : ℕ) (v : V) (slice : List Row) → AreBatchRows rows
+    → map view vs ≡ grouped record_key rows → i < length vs → v ≡ get_or vs i v → slice ≡ view v → AreRows slice
+record_at view vs rows i v slice fits groups inside is same =
+    let each : All (λ u. AreRows (view u)) vs = All-from_map view AreRows vs (subst (All AreRows) (sym groups) (record_rows rows fits)) in
+    subst AreRows (sym (same ∙ ap view is)) (each i v inside)
