@@ -71,8 +71,8 @@ outlined_more o next rows row summary p number outlined ranged numbered few is_s
           ∙ ap (λ s. joined_at (map (map numbered_summary) (records_of_rows rows)) p (number, s)) is_summary
           ∙ sym (map-joined_at numbered_summary (records_of_rows rows) p x)
           ∙ ap (map (map numbered_summary))
-            (groups_more rec_of (enumerate_from 2 rows) o.names.keys (records_of_rows rows) x row.rec p (joined_at (records_of_rows rows) p x) (of_names o rows outlined) refl refl of_place refl
-              ∙ ap (grouped rec_of) (sym grown));
+          (groups_more rec_of (enumerate_from 2 rows) o.names.keys (records_of_rows rows) x row.rec p (joined_at (records_of_rows rows) p x) (of_names o rows outlined) refl refl of_place refl
+          ∙ ap (grouped rec_of) (sym grown));
       few = omega (arith, length-append rows (row ∷ []));
       each = All-push IsRow rows row outlined.each ranged;
     }
@@ -99,7 +99,7 @@ module _ (group : List (ℕ × Summary)) (rows : List (ℕ × Row)) (fits : IsGr
   pub group_ranked : All HasRank (map summary_in group)
   group_ranked = subst (All HasRank) (sym summaries_are)
       (All-map HasRank summary_of (map row_in rows) (All-map (λ (row : Row). HasRank (summary_of row)) row_in rows
-        (All-weaker (λ (e : ℕ × Row). IsRow e.1) (λ (e : ℕ × Row). HasRank (summary_of e.1)) (λ e ranged. (ranged.rank_least, ranged.rank_most)) rows fits.each)))
+      (All-weaker (λ (e : ℕ × Row). IsRow e.1) (λ (e : ℕ × Row). HasRank (summary_of e.1)) (λ e ranged. (ranged.rank_least, ranged.rank_most)) rows fits.each)))
 
   pub group_fault_is : (m : ℕ) → 1 ≤ m → summarised.record_fault m (map summary_in group) ≡ record_fault m (map row_in rows)
   group_fault_is m some = ap (summarised.record_fault m) summaries_are ∙ record_fault-summaries m (map row_in rows) some

@@ -34,8 +34,7 @@ pub row_found : (check : Bool) (count next : ℕ) (names keys : List (List ℕ))
 row_found check count next names keys old new row reads one_more with_it =
     let before : Before = record { count = count; names = names } in
     let after : Before = record { count = next; names = keys } in
-    let same : after ≡ with_row before row = ap (λ n. record { count = n; names = keys }) one_more ∙ ap (λ ks. record { count = count + 1; names = ks }) with_it in
-    (
+    let same : after ≡ with_row before row = ap (λ n. record { count = n; names = keys }) one_more ∙ ap (λ ks. record { count = count + 1; names = ks }) with_it in (
       data_rows check (with_row before row) reads.1,
       ap (option_map (data_rows check before)) reads.2 ∙ ap Some reads.4,
       ap (option_map (data_rows check after)) reads.3 ∙ ap (λ b. Some (data_rows check b reads.1)) same,

@@ -56,7 +56,13 @@ pub fn check_batch(alloc: Global, raw: &[u8], p: &Product) -> Result<Totals, Imp
 
 // The outline of a batch and the number of its rows, or the first fault of its file. The rows are put at the end of
 // `kept` where they are to be kept.
-fn checked(alloc: Global, raw: &[u8], p: &Product, keep: bool, kept: &mut Vec<Row>) -> Result<(Outline, u32), ImportFault>
+fn checked(
+    alloc: Global,
+    raw: &[u8],
+    p: &Product,
+    keep: bool,
+    kept: &mut Vec<Row>,
+) -> Result<(Outline, u32), ImportFault>
     requires { IsProduct p.now }
     ensures rows { IfOk result (λ r. IsBatch (batch_of p.now raw.now) keep kept.old.items kept.new.items r.0 r.1) }
     ensures fault { IfErr result (IsRefused (batch_of p.now raw.now)) }
@@ -67,7 +73,13 @@ fn checked(alloc: Global, raw: &[u8], p: &Product, keep: bool, kept: &mut Vec<Ro
 }
 
 // Walks the rows of a file, and puts them at the end of `kept` where they are to be kept.
-fn walk(alloc: Global, raw: &[u8], p: &Product, keep: bool, kept: &mut Vec<Row>) -> Result<(Outline, u32), ImportFault>
+fn walk(
+    alloc: Global,
+    raw: &[u8],
+    p: &Product,
+    keep: bool,
+    kept: &mut Vec<Row>,
+) -> Result<(Outline, u32), ImportFault>
     ensures rows { IfOk result (λ r. HasRows p.now.check raw.now keep kept.old.items kept.new.items r.0 r.1) }
     ensures fault { IfErr result (TellsRowFault p.now.check raw.now) }
 {

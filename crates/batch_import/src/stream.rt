@@ -98,9 +98,23 @@ impl<'a> BatchRows<'a> {
             Stage::Header => {
                 read_header(&mut self.records, &mut self.fields)?;
                 self.stage = Stage::Data;
-                take_row(self.alloc, self.check, &mut self.records, &mut self.fields, &mut self.names, &mut self.count)
+                take_row(
+                    self.alloc,
+                    self.check,
+                    &mut self.records,
+                    &mut self.fields,
+                    &mut self.names,
+                    &mut self.count,
+                )
             }
-            Stage::Data => take_row(self.alloc, self.check, &mut self.records, &mut self.fields, &mut self.names, &mut self.count),
+            Stage::Data => take_row(
+                self.alloc,
+                self.check,
+                &mut self.records,
+                &mut self.fields,
+                &mut self.names,
+                &mut self.count,
+            ),
         }
     }
 }
@@ -124,11 +138,22 @@ fn check_header(fields: &ByteRecord) -> Result<(), Kind>
     ensures { result ≡ header_of (fields_of fields.now) }
 {
     let texts = six_fields(fields).ok_or(Kind::NotSixFields)?;
-    if is_header(&texts) { Ok(()) } else { Err(Kind::Header) }
+    if is_header(&texts) {
+        Ok(())
+    } else {
+        Err(Kind::Header)
+    }
 }
 
 // Reads a data row and counts it.
-fn take_row(alloc: Global, check: bool, records: &mut CsvRecords<'_>, fields: &mut ByteRecord, names: &mut IndexSet<Name>, count: &mut u32) -> Result<Option<Row>, ImportFault>
+fn take_row(
+    alloc: Global,
+    check: bool,
+    records: &mut CsvRecords<'_>,
+    fields: &mut ByteRecord,
+    names: &mut IndexSet<Name>,
+    count: &mut u32,
+) -> Result<Option<Row>, ImportFault>
     requires { count.old ≤ 4096 }
     ensures found { FindsRow (rows_after check count.old names.old.keys records.old) result (rows_after check count.new names.new.keys records.new) }
     ensures counted { count.new ≤ 4096 }
@@ -144,7 +169,14 @@ fn take_row(alloc: Global, check: bool, records: &mut CsvRecords<'_>, fields: &m
 }
 
 // Reads a data row, of which `count` came before, with records of these names.
-fn read_row(alloc: Global, check: bool, records: &mut CsvRecords<'_>, fields: &mut ByteRecord, names: &mut IndexSet<Name>, count: u32) -> Result<Option<Row>, ImportFault>
+fn read_row(
+    alloc: Global,
+    check: bool,
+    records: &mut CsvRecords<'_>,
+    fields: &mut ByteRecord,
+    names: &mut IndexSet<Name>,
+    count: u32,
+) -> Result<Option<Row>, ImportFault>
     requires { count ≤ 4096 }
     ensures read { ReadsRow check (record { count = count; names = names.old.keys }) records.old result records.new }
     ensures counted { IfOk result (λ o. IfSome o (λ row. (count < 4096) × (names.new.keys ≡ with_key names.old.keys row.rec))) }
@@ -162,7 +194,13 @@ fn read_row(alloc: Global, check: bool, records: &mut CsvRecords<'_>, fields: &m
 
 // The data row of these fields.
 #[tactic(auto, unfolding(crate::specs::Batch::row_of))]
-fn data_row(alloc: Global, check: bool, fields: &ByteRecord, names: &mut IndexSet<Name>, count: u32) -> Result<Row, Refusal>
+fn data_row(
+    alloc: Global,
+    check: bool,
+    fields: &ByteRecord,
+    names: &mut IndexSet<Name>,
+    count: u32,
+) -> Result<Row, Refusal>
     ensures given { Gives result (row_of check (record { count = count; names = names.old.keys }) (fields_of fields.now)) }
     ensures counted { IfOk result (λ row. (count < 4096) × (names.new.keys ≡ with_key names.old.keys row.rec)) }
     ensures row { IfOk result IsRow }
@@ -183,7 +221,11 @@ fn data_row(alloc: Global, check: bool, fields: &ByteRecord, names: &mut IndexSe
 fn as_record(check: bool, row: Row) -> Result<Row, Kind>
     ensures { result ≡ as_record check row }
 {
-    if check && breaks_check(&row) { Err(Kind::NotARecord) } else { Ok(row) }
+    if check && breaks_check(&row) {
+        Err(Kind::NotARecord)
+    } else {
+        Ok(row)
+    }
 }
 
 // Whether the row breaks the record check.

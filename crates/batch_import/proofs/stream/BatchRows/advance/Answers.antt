@@ -9,10 +9,10 @@ pub returns-in_err-read_header-in-Header-clause-found : goal.returns-in_err-read
 returns-in_err-read_header-in-Header-clause-found c =
     let p = err_from_is_err_and c.from_residual.result c.from_residual.ensures.1 in
     rw (p.1, p.2) (header_refused c.self.inside.check c.self.inside.records c.read_header.new.records c.args.self.now _ c.in_err-read_header-in-Header.field-0.0
-      (c.in_err-read_header-in-Header.ensures c.self.inside.check) (sym (rw c.in-Header.is at c.self.view_is)))
+    (c.in_err-read_header-in-Header.ensures c.self.inside.check) (sym (rw c.in-Header.is at c.self.view_is)))
 
 pub returns-in_ok-read_header-in-Header-clause-found : goal.returns-in_ok-read_header-in-Header-clause-found
 returns-in_ok-read_header-in-Header-clause-found c =
     let fresh = rw c.in-Header.is at c.self.invariant.fresh in
     rw (header_read c.self.inside.check (before_at c.self.inside) c.self.inside.records c.read_header.new.records c.args.self.now c.in_ok-read_header-in-Header.field-0
-      (c.in_ok-read_header-in-Header.ensures c.self.inside.check) fresh.0 fresh.1 (sym (rw c.in-Header.is at c.self.view_is))) at c.take_row.ensures.found
+    (c.in_ok-read_header-in-Header.ensures c.self.inside.check) fresh.0 fresh.1 (sym (rw c.in-Header.is at c.self.view_is))) at c.take_row.ensures.found
