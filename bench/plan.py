@@ -10,6 +10,7 @@ Growth is the ratio of two times over the ratio of the two sizes: 1 is linear, m
 the time of a batch of one row, that is of starting and ending, is taken off both times.
 """
 import fcntl
+import os
 import pathlib
 import subprocess
 import sys
@@ -124,19 +125,21 @@ def best_time(words: list[str], path: pathlib.Path) -> float:
 def peak(words: list[str], path: pathlib.Path, written: int) -> int:
     """Takes all of the output but what the pipe can't hold, waits for the program to stand still, and looks."""
     with path.open("rb") as source:
-        child = subprocess.Popen(words, stdin=source, stdout=subprocess.PIPE, bufsize=0)
-        assert child.stdout
-        fcntl.fcntl(child.stdout, fcntl.F_SETPIPE_SZ, PIPE)
+        ours, theirs = os.pipe()
+        fcntl.fcntl(ours, fcntl.F_SETPIPE_SZ, PIPE)
+        child = subprocess.Popen(words, stdin=source, stdout=theirs)
+        os.close(theirs)
         left = written - PIPE - 1
-        while left > 0 and (some := child.stdout.read(left)):
+        while left > 0 and (some := os.read(ours, left)):
             left -= len(some)
         still = 0
         while still < 5:
             time.sleep(0.002)
             still = still + 1 if is_waiting(child.pid) else 0
         highest = high_water(child.pid)
-        child.stdout.read()
-        child.stdout.close()
+        while os.read(ours, PIPE):
+            pass
+        os.close(ours)
         child.wait()
     return highest
 

@@ -1,3 +1,4 @@
 pub mod Words
 pub mod Printed
 pub mod PlanEnds
+pub mod Ends
