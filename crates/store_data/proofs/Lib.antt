@@ -6,3 +6,5 @@ pub mod PieceLemmas
 pub mod CommandLemmas
 pub mod IsPlanLemmas
 pub mod SummaryLemmas
+pub mod WalkLemmas
+pub mod CursorLemmas
