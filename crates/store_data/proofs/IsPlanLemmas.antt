@@ -1,12 +1,12 @@
 -- Rows without a fault have a plan in its limits.
-use Rattle.std.proofs.Common.{◌≡◌, ℕ, ◌+◌, ◌≤◌, Bool, true, false, List, [], ◌∷◌, length, get_or, map, fold, All, Some, None, refl, sym, ap, ◌∙◌, subst, arith, inl, inr, length-append}
+use Rattle.std.proofs.Common.{◌≡◌, ℕ, ◌+◌, ◌≤◌, Bool, true, false, List, [], ◌∷◌, length, get_or, map, fold, All, Some, None, refl, sym, ap, ◌∙◌, subst, arith, inl, inr, length-append, ◌-◌}
 use Rattle.std.specs.Prelude.{bytes_eq, if◌then◌else◌}
 use Rattle.std.specs.List.{flat_map, list_any}
-use Rattle.std.proofs.lemmas.Bool.{cases_Bool, ltb-false, both_ways, or_cases, or_parts}
+use Rattle.std.proofs.lemmas.Bool.{cases_Bool, eq-eqb, ltb-false, both_ways, or_cases, or_parts}
 use Rattle.std.proofs.lemmas.List.{length-map, length_push}
 use Rattle.std.proofs.lemmas.List.Elements.{All-nil, All-cons, All-head, All-append, All-map, All-filter, All-weaker}
-use Rattle.std.proofs.lemmas.List.Folds.{list_any_at}
-use Rattle.std.proofs.lemmas.List.FromFn.{length-range_with_len}
+use Rattle.std.proofs.lemmas.List.Folds.{list_any_at, length-flat_map-take}
+use Rattle.std.proofs.lemmas.List.FromFn.{length-range_with_len, get_or-range_with_len}
 use Rattle.store_data.specs.declared.row.Product.{Product}
 use Rattle.store_data.specs.declared.row.Row.{Row}
 use Rattle.store_data.specs.declared.faults.PlanFault.TheVariants.{MarksDiffer, IdentifierTwice, TooManyBlocks}
@@ -111,6 +111,18 @@ length-segments_of rows =
     subst (λ (n : ℕ). length (flat_map (λ r. segment_of (rows_of_rank rows r)) ranks) ≤ n) length-ranks
     (length-flat_map-le (λ r. segment_of (rows_of_rank rows r)) (λ r. length-segment_of (rows_of_rank rows r)) ranks)
 
+-- the segment of the first row's rank
+segments_of-some : (rows : List Row) → All IsRow rows → 1 ≤ length rows → 1 ≤ length (segments_of rows)
+unfolding segments_of ranks
+segments_of-some [] each some = absurd (omega arith)
+segments_of-some (row ∷ more) each some =
+    let row_is = All-head IsRow row more each in
+    let f : ℕ → List Segment = λ r. segment_of (rows_of_rank (row ∷ more) r) in
+    let place : row.rank - 1 < 999 = omega (arith, row_is.rank_least, row_is.rank_most) in
+    let rank : get_or ranks (row.rank - 1) 0 ≡ row.rank = get_or-range_with_len 1 999 (row.rank - 1) 0 place ∙ omega (arith, row_is.rank_least) in
+    let kept : 1 ≤ length (f row.rank) = rw (eq-eqb row.rank row.rank refl) (omega arith) in
+    omega (arith, ap (λ r. length (f r)) rank, length-flat_map-take f ranks (row.rank - 1) 0 (omega (arith, length-range_with_len 1 999)))
+
 IsFilled-segments_of : (rows : List Row) → All IsRow rows → All IsFilled (segments_of rows)
 unfolding segments_of
 IsFilled-segments_of rows each =
@@ -121,6 +133,7 @@ unfolding has_too_many_blocks
 IsApplication-application_of m rows each some few = record {
   aid_least = aid-least rows each some;
   aid_most = aid-most rows each;
+  segments_least = segments_of-some rows each some;
   segments = length-segments_of rows;
   filled = IsFilled-segments_of rows each;
   blocks = ltb-false 256 (length (flat_map (pieces_of m) (segments_of rows))) few;
