@@ -387,3 +387,43 @@ first_cursor m (x ∷ applications) = refl
 pub first_there_of : (plan : Plan) → cursor_at plan 0 ≡ Some (select_cursor 0)
 unfolding cursors_of
 first_there_of plan = first_cursor plan.max plan.applications
+
+-- ---- the command and the next cursor, at STORE DATA
+
+module _ (m : ℕ) (c : Cursor) (v : PlacedSegment) where
+  abbrev next_application : Cursor
+  next_application = select_cursor (c.app + 1)
+
+  abbrev next_segment : Cursor
+  next_segment = record { app = c.app; segment = c.segment + 1; offset = 0; block = c.block + 1 }
+
+  abbrev next_piece : Cursor
+  next_piece = record { app = c.app; segment = c.segment; offset = c.offset + m; block = c.block + 1 }
+
+  block_next-piece : (n : ℕ) → 1 ≤ n → block_next m c v n ≡ (if is_last_piece m c v.segment.bytes then (if v.last then next_application else next_segment) else next_piece)
+  block_next-piece zero some = absurd (omega arith)
+  block_next-piece (suc i) some = refl
+
+  pub next_from-piece : 1 ≤ c.block → is_last_piece m c v.segment.bytes ≡ false → next_from m c v ≡ next_piece
+  next_from-piece some more = block_next-piece c.block some ∙ cond-false (is_last_piece m c v.segment.bytes) (if v.last then next_application else next_segment) next_piece more
+
+  pub next_from-application : 1 ≤ c.block → is_last_piece m c v.segment.bytes ≡ true → v.last ≡ true → next_from m c v ≡ next_application
+  next_from-application some end last =
+      block_next-piece c.block some ∙ cond-true (is_last_piece m c v.segment.bytes) (if v.last then next_application else next_segment) next_piece end
+      ∙ cond-true v.last next_application next_segment last
+
+  pub next_from-segment : 1 ≤ c.block → is_last_piece m c v.segment.bytes ≡ true → v.last ≡ false → next_from m c v ≡ next_segment
+  next_from-segment some end last =
+      block_next-piece c.block some ∙ cond-true (is_last_piece m c v.segment.bytes) (if v.last then next_application else next_segment) next_piece end
+      ∙ cond-false v.last next_application next_segment last
+
+  block_command-piece : (low n : ℕ) → 1 ≤ n → (block_command m low c v n).bytes
+      ≡ (store_data_command low (v.last && is_last_piece m c v.segment.bytes) (n - 1) (record { enc = v.segment.enc; bytes = take m (drop c.offset v.segment.bytes); is_tolerant_last = false })).bytes
+  block_command-piece low zero some = absurd (omega arith)
+  block_command-piece low (suc i) some =
+      let same : i ≡ suc i - 1 = omega arith in
+      ap (λ b. (store_data_command low (v.last && is_last_piece m c v.segment.bytes) b (record { enc = v.segment.enc; bytes = take m (drop c.offset v.segment.bytes); is_tolerant_last = false })).bytes) same
+
+  pub command_from-piece : (low : ℕ) → 1 ≤ c.block → (command_from m low c v).bytes
+      ≡ (store_data_command low (v.last && is_last_piece m c v.segment.bytes) (c.block - 1) (record { enc = v.segment.enc; bytes = take m (drop c.offset v.segment.bytes); is_tolerant_last = false })).bytes
+  command_from-piece low some = block_command-piece low c.block some

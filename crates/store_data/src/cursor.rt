@@ -110,7 +110,7 @@ impl Cursor {
     pub fn at_end(&self, s: &SegmentView<'_>, max: u8) -> bool
         ensures piece { result ≡ is_last_piece max self.now s.now.bytes.now }
         ensures tolerance { (plan : Plan) (k : ℕ) → IsPlan plan → cursor_at plan k ≡ Some self.now → IsSegmentAt plan self.now s.now
-            → plan.max ≡ max → is_tolerant_last_at plan k ≡ Some (result && s.now.tol) }
+            → plan.max ≡ max → is_tolerant_last_at plan k ≡ Some (s.now.tol && result) }
     {
         self.block > 0 && s.bytes.len() <= self.offset as usize + usize::from(max)
     }
@@ -134,6 +134,8 @@ impl Cursor {
     // The cursor after this one.
     fn next(&self, s: &SegmentView<'_>, max: u8) -> Cursor
         requires { IsCursor self.now }
+        ensures { (plan : Plan) (k : ℕ) → IsPlan plan → cursor_at plan k ≡ Some self.now → IsSegmentAt plan self.now s.now
+            → plan.max ≡ max → cursor_at plan (k + 1) ≡ Some result }
     {
         if self.block == 0 {
             Cursor { block: 1, ..*self }
