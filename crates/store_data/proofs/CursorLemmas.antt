@@ -40,6 +40,12 @@ block_next m c v (suc i) =
 abbrev pub next_from : ℕ → Cursor → PlacedSegment → Cursor
 next_from m c v = block_next m c v c.block
 
+-- what a cursor and the segment there keep to
+pub record Fits (c : Cursor) (v : PlacedSegment) : Type 0 where
+  pub ranges : IsCursor c
+  pub aid : length v.aid ≤ 16
+  pub offset : c.offset ≤ length v.segment.bytes
+
 -- a command of a plan, with the cursor at it and the next
 pub record IsStep (plan : Plan) (c : Cursor) (d : Command) (n : Cursor) : Type 0 where
   pub segment : PlacedSegment
@@ -338,12 +344,19 @@ module _ (plan : Plan) (is : IsPlan plan) where
       | inr here ↦ here
     ]
 
-    -- so is one before the end
-    pub step_before : k < length (sequence plan) → StepAt (IsStep plan) cursors (commands_of plan) (select_cursor (length plan.applications)) k c
-    step_before before = elim (standing k c at) [
+    -- so is one before the end, and a segment stands there
+    pub segment_before : k < length (sequence plan) → (v : PlacedSegment) × (segment_at plan c.app c.segment ≡ Some v)
+    segment_before before = elim (standing k c at) [
       | inl end ↦ absurd (omega (arith, end.0, length-sequence))
-      | inr here ↦ here
+      | inr here ↦ (here.step.segment, here.step.there)
     ]
+
+    -- what a cursor and the segment there keep to
+    pub fits_there : (v : PlacedSegment) → segment_at plan c.app c.segment ≡ Some v → Fits c v
+    fits_there v there =
+        let here = step_at v there in
+        let fits : Fits c here.step.segment = record { ranges = here.step.ranges; aid = here.step.aid; offset = here.step.offset } in
+        subst (Fits c) (same_Some here.step.segment v (sym here.step.there ∙ there)) fits
 
     pub command_there : (v : PlacedSegment) → segment_at plan c.app c.segment ≡ Some v → slice_get (sequence plan) k ≡ Some (command_from plan.max plan.low c v).bytes
     unfolding sequence

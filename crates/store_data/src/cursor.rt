@@ -64,7 +64,8 @@ impl Cursor {
         ensures room { result ≤ 260 }
         ensures rest { drop result out.new ≡ drop result out.old }
     {
-        self.put_from(&self.segment_in(p), p.max, p.low, out)
+        let (max, low) = (p.max, p.low);
+        self.put_from(&self.segment_in(p), max, low, out)
     }
 
     /// Goes on to the next command, or to the end.
@@ -72,8 +73,9 @@ impl Cursor {
         requires { (k : ℕ) × (cursor_at p.now k ≡ Some self.old) × (k < length (sequence p.now)) }
         ensures { (k : ℕ) → cursor_at p.now k ≡ Some self.old → cursor_at p.now (k + 1) ≡ Some self.new }
     {
+        let max = p.max;
         let segment = self.segment_in(p);
-        self.step_from(&segment, p.max);
+        self.step_from(&segment, max);
     }
 
     /// Writes the command at the cursor as `put` does, from the segment there and the numbers of the plan's product.
@@ -90,9 +92,9 @@ impl Cursor {
         if self.block == 0 {
             return put_command([0x00, 0xA4, 0x04, 0x00, s.aid.len() as u8], s.aid, out);
         }
-        let rest = &s.bytes[self.offset as usize..];
-        let piece = &rest[..usize::from(max).min(rest.len())];
-        let p1 = store_data_p1(low, s.last && self.at_end(s, max), s.enc);
+        let piece = self.piece(s, max);
+        let is_last = s.last && self.at_end(s, max);
+        let p1 = store_data_p1(low, is_last, s.enc);
         put_command([0x80, 0xE2, p1, (self.block - 1) as u8, piece.len() as u8], piece, out)
     }
 
@@ -129,6 +131,15 @@ impl Cursor {
             tol: segment.tol,
             last: usize::from(self.segment) + 1 == application.segments.len(),
         }
+    }
+
+    // The piece at the cursor.
+    fn piece<'a>(&self, s: &SegmentView<'a>, max: u8) -> &'a [u8]
+        requires { self.now.offset ≤ length s.now.bytes.now }
+        ensures { result.now ≡ take max (drop self.now.offset s.now.bytes.now) }
+    {
+        let rest = &s.bytes[self.offset as usize..];
+        &rest[..usize::from(max).min(rest.len())]
     }
 
     // The cursor after this one.

@@ -1,13 +1,19 @@
-use Rattle.std.proofs.Common.{rules, ◌≡◌, ◌≤◌, ◌<◌, ◌+◌, ◌++◌, ◌&&◌, ℕ, Some, IsSome, IsTrue, ◌↔◌, length, take, drop, ◌-◌, ◌*◌, ◌/◌, ◌%◌, Bool, true, false, nat_eq, nat_lt, List, [], ◌∷◌, slice_index_or, slice_set, bit_and, bit_or, Fits, w8, w32, w64, Bor, MutBor}
-use Rattle.std.specs.List.{slice_get}
-use Rattle.store_data.specs.Sequence.{IsPlan, Plan, sequence}
-use Rattle.store_data.specs.Cursor.{IsCursor, IsSegmentAt, cursor_at, is_last_piece, is_tolerant_last_at, segment_at}
+use Rattle.std.proofs.Common.{◌≡◌, is_some, ap, sym, subst}
+use Rattle.store_data.specs.Sequence.{IsPlan, Plan}
+use Rattle.store_data.specs.Cursor.{shown}
+use Rattle.store_data.proofs.CursorLemmas.{fits_there, segment_before}
 use Rattle.store_data.proofs.cursor.Cursor.step.Goals as goal
 
--- src/cursor.rt:75:23
 pub segment_in-segment-requires : goal.segment_in-segment-requires
-segment_in-segment-requires c = ?
+segment_in-segment-requires c =
+    let found = segment_before c.args.p.now (subst IsPlan c.p.view_is c.p.invariant) c.requires.0 c.args.self.now c.requires.1 c.requires.2 in
+    ap is_some found.1
 
--- src/cursor.rt:76:9
 pub step_from-requires : goal.step_from-requires
-step_from-requires c = ?
+step_from-requires c =
+    let fits = fits_there c.args.p.now (subst IsPlan c.p.view_is c.p.invariant) c.requires.0 c.args.self.now c.requires.1 (shown c.segment_in-segment.result) c.segment_in-segment.ensures in
+    fits.ranges
+
+pub returns : goal.returns
+returns c = λ k at.
+    c.step_from.ensures c.args.p.now k (subst IsPlan c.p.view_is c.p.invariant) at c.segment_in-segment.ensures (ap (λ (p : Plan). p.max) (sym c.p.view_is))
