@@ -1,6 +1,6 @@
 //! Worked rows of the profile, and what no clause says.
-ghost use Rattle.std.specs.Prelude.{◌≤◌, All, IfOk};
-ghost use Rattle.store_data.specs.Sequence.{IsRow};
+ghost use Rattle.std.specs.Prelude.{◌≡◌, ◌≤◌, All, IfOk, map};
+ghost use Rattle.store_data.specs.Sequence.{IsRow, sequence};
 
 use super::*;
 use dgi::from_hex_text;
@@ -79,8 +79,29 @@ fn commands_of(
             if count(&planned) as usize != commands.len() {
                 return Err(Fail::new("another count"));
             }
+            walk(&planned, commands.as_slice())?;
             Ok(Ok(commands))
         }
+    }
+}
+
+// That a cursor writes these commands in turn and is then at the end.
+fn walk(planned: &RecordPlan<'_>, commands: &[Vec<u8>]) -> Result<(), Fail>
+    requires { map (λ c. c.items) commands.now ≡ sequence planned.now }
+{
+    let mut cursor = Cursor::start();
+    let mut out = [0; 260];
+    for command in commands {
+        let len = cursor.put(planned, &mut out);
+        if cursor.is_done(planned) || &out[..len] != command.as_slice() {
+            return Err(Fail::new("another command"));
+        }
+        cursor.step(planned);
+    }
+    if cursor.is_done(planned) {
+        Ok(())
+    } else {
+        Err(Fail::new("another end"))
     }
 }
 
@@ -197,6 +218,62 @@ fn an_application_has_256_blocks_at_most(rt: HostRuntime) -> Result<(), Fail> {
     let more = long_text(rt.alloc(), 4092)?;
     let told = commands_of(rt.alloc(), 16, 0, &[plain(1, more.as_bytes())])?;
     assert_eq!(rt; told.err(), Some(PlanFault::TooManyBlocks));
+    Ok(())
+}
+
+fn make_cursor(app: u16, offset: u32, block: u16) -> Cursor
+    ensures { result ≡ record { app = app; segment = 0; offset = offset; block = block } }
+{
+    Cursor {
+        app,
+        segment: 0,
+        offset,
+        block,
+    }
+}
+
+#[test]
+fn a_cursor_goes_over_a_segment(rt: HostRuntime) -> Result<(), Fail> {
+    let bytes = from_hex_text(rt.alloc(), b"90010E000102030405060708090A0B0C0D")?;
+    let view = SegmentView {
+        aid: FIRST,
+        bytes: &bytes,
+        enc: Enc::Plain,
+        tol: true,
+        last: true,
+    };
+    let table: [(Cursor, &str, bool, Cursor); 3] = [
+        (
+            make_cursor(0, 0, 0),
+            "00A4040006F00000000101",
+            false,
+            make_cursor(0, 0, 1),
+        ),
+        (
+            make_cursor(0, 0, 1),
+            "80E200001090010E000102030405060708090A0B0C",
+            false,
+            make_cursor(0, 16, 2),
+        ),
+        (
+            make_cursor(0, 16, 2),
+            "80E28001010D",
+            true,
+            make_cursor(1, 0, 0),
+        ),
+    ];
+    for (cursor, command, at_end, next) in table {
+        assert!(rt; cursor.app == 0 && cursor.segment == 0 && cursor.offset <= 16 && cursor.block <= 2);
+        assert!(rt; bytes.len() == 17);
+        let mut out = [0; 260];
+        let len = cursor.put_from(&view, 16, 0, &mut out);
+        let want = Vec::from_slice(rt.alloc(), &out[..len])?;
+        assert_eq!(rt; printed(rt.alloc(), &[want])?.trim_end(), command);
+        assert_eq!(rt; cursor.at_end(&view, 16), at_end);
+        let mut cursor = cursor;
+        cursor.step_from(&view, 16);
+        assert_eq!(rt; cursor, next);
+    }
     Ok(())
 }
 
