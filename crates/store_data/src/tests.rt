@@ -263,7 +263,9 @@ fn a_cursor_goes_over_a_segment(rt: HostRuntime) -> Result<(), Fail> {
         ),
     ];
     for (cursor, command, at_end, next) in table {
-        assert!(rt; cursor.app == 0 && cursor.segment == 0 && cursor.offset <= 16 && cursor.block <= 2);
+        assert!(rt;
+            cursor.app == 0 && cursor.segment == 0 && cursor.offset <= 16 && cursor.block <= 2
+        );
         assert!(rt; bytes.len() == 17);
         let mut out = [0; 260];
         let len = cursor.put_from(&view, 16, 0, &mut out);
