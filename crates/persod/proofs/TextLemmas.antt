@@ -80,8 +80,8 @@ pub text_more : {V X : Type 0} (view : V → X) (f : X → List ℕ) (vs : List 
     → text ≡ start ++ flat_map f (take i (map view vs)) → next ≡ text ++ f (view v) → next ≡ start ++ flat_map f (take (i + 1) (map view vs))
 text_more view f vs i v start text next inside is so_far e =
     let grown : take (i + 1) (map view vs) ≡ take i (map view vs) ++ view v ∷ [] =
-        take-map view (i + 1) vs ∙ ap (map view) (take_more vs i v inside ∙ ap (λ u. take i vs ++ u ∷ []) (sym is)) ∙ map_push view (take i vs) v
-        ∙ ap (λ xs. xs ++ view v ∷ []) (sym (take-map view i vs)) in
+    take-map view (i + 1) vs ∙ ap (map view) (take_more vs i v inside ∙ ap (λ u. take i vs ++ u ∷ []) (sym is)) ∙ map_push view (take i vs) v
+    ∙ ap (λ xs. xs ++ view v ∷ []) (sym (take-map view i vs)) in
     e ∙ ap (λ ys. ys ++ f (view v)) so_far ∙ flat_map_more f start (take i (map view vs)) (view v) ∙ ap (λ xs. start ++ flat_map f xs) (sym grown)
 
 -- ---- what is written

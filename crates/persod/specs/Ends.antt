@@ -18,9 +18,9 @@ status_of Memory = 3
 
 -- done ends with 0, a usage fault with 2; neither has words of the program's own
 abbrev pub exit_of : End → Exit
-exit_of Done = record { status = 0; words = None; }
-exit_of Usage = record { status = 2; words = None; }
-exit_of (Stopped told) = record { status = status_of told; words = Some told; }
+exit_of Done = record { status = 0; words = None }
+exit_of Usage = record { status = 2; words = None }
+exit_of (Stopped told) = record { status = status_of told; words = Some told }
 
 -- a fault is told by its number and row, an input that is too large by 413 alone
 abbrev pub told_of : PlanStop → Told

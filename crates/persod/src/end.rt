@@ -38,7 +38,10 @@ impl From<PlanStop> for Told {
 
     fn from(stop: PlanStop) -> Told {
         match stop {
-            PlanStop::Refused(fault) => Told::RefusedRow { number: u16::from(fault.kind.code()), row: fault.row },
+            PlanStop::Refused(fault) => Told::RefusedRow {
+                number: u16::from(fault.kind.code()),
+                row: fault.row,
+            },
             PlanStop::TooLarge => Told::Refused { number: 413 },
             PlanStop::ReadFailed | PlanStop::WriteFailed => Told::Device,
             PlanStop::Memory => Told::Memory,
@@ -60,9 +63,18 @@ pub fn exit_of(end: End) -> Exit
     ensures { result ≡ exit_of end }
 {
     match end {
-        End::Done => Exit { status: 0, words: None },
-        End::Usage => Exit { status: 2, words: None },
-        End::Stopped(told) => Exit { status: status_of(told), words: Some(told) },
+        End::Done => Exit {
+            status: 0,
+            words: None,
+        },
+        End::Usage => Exit {
+            status: 2,
+            words: None,
+        },
+        End::Stopped(told) => Exit {
+            status: status_of(told),
+            words: Some(told),
+        },
     }
 }
 

@@ -56,7 +56,12 @@ impl From<AllocError> for PlanStop {
 
 /// Prints the commands of the batch that the reader gives: for each record its name line, and its command sequence in
 /// upper case hexadecimal. It writes only after every record was planned.
-pub fn plan_engine<R: Read, W: Write>(alloc: Global, product: &Product, reader: &mut R, writer: &mut W) -> Result<(), PlanStop>
+pub fn plan_engine<R: Read, W: Write>(
+    alloc: Global,
+    product: &Product,
+    reader: &mut R,
+    writer: &mut W,
+) -> Result<(), PlanStop>
     requires { IsProduct product.now }
     ensures { (raw : List ℕ) × Tells (R.remaining reader.old) raw
         × PlanEnds product.now raw (W.contents writer.old) (W.contents writer.new) result }
@@ -97,7 +102,12 @@ fn compose(alloc: Global, product: &Product, raw: &[u8]) -> Result<Vec<u8>, Plan
 
 // Puts what is printed for a record at the end. A record of a batch has a plan, so that it fails for memory alone.
 #[tactic(auto, unfolding(crate::specs::Printed::record_text))]
-fn push_record(alloc: Global, product: &Product, rows: &[Row], text: &mut Vec<u8>) -> Result<(), AllocError>
+fn push_record(
+    alloc: Global,
+    product: &Product,
+    rows: &[Row],
+    text: &mut Vec<u8>,
+) -> Result<(), AllocError>
     requires product { IsProduct product.now }
     requires rows { AreRows rows.now }
     ensures { OnOk result (text.new.items ≡ text.old.items ++ record_text product.now rows.now) }
@@ -169,3 +179,6 @@ fn write_some<W: Write>(writer: &mut W, text: &[u8]) -> usize
 {
     writer.write(text).unwrap_or(0)
 }
+
+#[cfg(test)]
+mod tests;
