@@ -1,4 +1,4 @@
-use Rattle.std.proofs.Common.{◌≡◌, ap, sym, ◌∙◌, subst}
+use Rattle.std.proofs.Common.{ap, sym, ◌∙◌, subst}
 use Rattle.std.specs.Prelude.{All}
 use Rattle.store_data.specs.Faults.{HasRank, record_fault}
 use Rattle.batch_import.proofs.OutlineLemmas.{group_ranked, group_sound, group_told}
