@@ -2,3 +2,4 @@ mod NumberLemmas
 mod PlanLemmas
 mod TakenLemmas
 mod TextLemmas
+mod PrintLemmas

@@ -1,18 +1,16 @@
 -- The text that `persod plan` prints, and its input.
-use Rattle.std.proofs.Common.{◌≡◌, ℕ, suc, ◌+◌, ◌-◌, ◌<◌, ◌≤◌, ◌/◌, ◌%◌, List, [], ◌∷◌, ◌++◌, length, take, drop, get_or, map, All, Option, Some, None, option_map, unwrap_or, IfSome, refl, sym, subst, ap, ◌∙◌, arith, take-append-drop}
+use Rattle.std.proofs.Common.{◌≡◌, ℕ, ◌+◌, ◌-◌, ◌<◌, ◌≤◌, ◌/◌, ◌%◌, List, [], ◌∷◌, ◌++◌, length, take, drop, get_or, All, Option, Some, None, option_map, unwrap_or, IfSome, refl, sym, subst, ap, ◌∙◌, arith, take-append-drop}
 use Rattle.std.specs.Prelude.{bytes_eq, slice_index}
-use Rattle.std.specs.List.{flat_map}
-use Rattle.std.specs.Io.KnownBytes.{Appends, Keeps}
-use Rattle.std.proofs.KnownBytes.{Appends-trans, Appends-kept, Appends-nil}
-use Rattle.std.proofs.lemmas.Grind.{flat_map-append}
-use Rattle.std.proofs.lemmas.List.{append_assoc, append-nil, length-take, take_all, take_more, take_rest, take-map, map_push, flat_map_more}
+use Rattle.std.specs.Io.KnownBytes.{Appends}
+use Rattle.std.proofs.KnownBytes.{Appends-trans}
+use Rattle.std.proofs.lemmas.List.{append_assoc, length-take, take_all, take_more, take_rest}
 use Rattle.std.proofs.lemmas.List.Sums.{length-filter, count_by-le-length}
 use Rattle.std.proofs.Math.Seq.{take-add}
 use Rattle.hex.specs.Hex.{encode_with, encode_upper, upper_digits}
 use Rattle.store_data.specs.Groups.{grouped}
 use Rattle.store_data.specs.Sequence.{AreRows, IsRow}
 use Rattle.store_data.specs.declared.row.Row.{Row}
-use Rattle.store_data.proofs.FaultLemmas.{All-from_map, grouped_each}
+use Rattle.store_data.proofs.FaultLemmas.{grouped_each}
 use Rattle.store_data.proofs.IsPlanLemmas.{All-grouped}
 use Rattle.batch_import.specs.Outlines.{AreBatchRows}
 use Rattle.persod.specs.PlanEnds.{AppendsBeginning, Tells}
@@ -57,7 +55,7 @@ tells_over (Some all) limit old items empty read many =
 
 -- ---- records
 
-abbrev record_key : Row → List ℕ
+abbrev pub record_key : Row → List ℕ
 record_key row = row.rec
 
 -- the rows of each record of a batch are those of a record
@@ -74,16 +72,6 @@ record_rows rows fits =
     )) in
     λ k d inside. record { least = (filled k d inside).0; most = few k d inside; each = (filled k d inside).1 }
 
--- ---- what is composed
-
-pub text_more : {V X : Type 0} (view : V → X) (f : X → List ℕ) (vs : List V) (i : ℕ) (v : V) (start text next : List ℕ) → i < length vs → v ≡ get_or vs i v
-    → text ≡ start ++ flat_map f (take i (map view vs)) → next ≡ text ++ f (view v) → next ≡ start ++ flat_map f (take (i + 1) (map view vs))
-text_more view f vs i v start text next inside is so_far e =
-    let grown : take (i + 1) (map view vs) ≡ take i (map view vs) ++ view v ∷ [] =
-    take-map view (i + 1) vs ∙ ap (map view) (take_more vs i v inside ∙ ap (λ u. take i vs ++ u ∷ []) (sym is)) ∙ map_push view (take i vs) v
-    ∙ ap (λ xs. xs ++ view v ∷ []) (sym (take-map view i vs)) in
-    e ∙ ap (λ ys. ys ++ f (view v)) so_far ∙ flat_map_more f start (take i (map view vs)) (view v) ∙ ap (λ xs. start ++ flat_map f xs) (sym grown)
-
 -- ---- what is written
 
 pub beginning : (before after : Option (List ℕ)) (text : List ℕ) (at : ℕ) → Appends before after (take at text) → AppendsBeginning before after text
@@ -94,10 +82,3 @@ pub written_more : (a b c : Option (List ℕ)) (text : List ℕ) (at n : ℕ) �
 written_more a b c text at n first second =
     let more : Appends b c (take n (drop at text)) = subst (λ (rest : List ℕ). Appends b c (take n rest)) (take_rest text at) second in
     subst (Appends a c) (sym (take-add at n text)) (Appends-trans a b c (take at text) (take n (drop at text)) first more)
-
--- the rows of the record at a place
-pub record_at : {V : Type 0} (view : V → List Row) (vs : List V) (rows : List Row) (i : ℕ) (v : V) (slice : List Row) → AreBatchRows rows
-    → map view vs ≡ grouped record_key rows → i < length vs → v ≡ get_or vs i v → slice ≡ view v → AreRows slice
-record_at view vs rows i v slice fits groups inside is same =
-    let each : All (λ u. AreRows (view u)) vs = All-from_map view AreRows vs (subst (All AreRows) (sym groups) (record_rows rows fits)) in
-    subst AreRows (sym (same ∙ ap view is)) (each i v inside)

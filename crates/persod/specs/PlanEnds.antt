@@ -1,5 +1,5 @@
 -- How `persod plan` ends.
-use Rattle.std.specs.Prelude.{◌≡◌, ◌<◌, ◌≤◌, ⊤, ℕ, List, ◌++◌, length, Option, IfSome, Result, Ok, Err}
+use Rattle.std.specs.Prelude.{◌≡◌, ◌<◌, ◌≤◌, ⊤, ℕ, List, ◌++◌, length, map, Option, IfSome, Result, Ok, Err}
 use Rattle.std.specs.Prelude.{Vec}
 use Rattle.std.specs.Global.{Global}
 use Rattle.std.specs.Io.KnownBytes.{Appends, Keeps}
@@ -8,6 +8,9 @@ use Rattle.batch_import.specs.declared.fault.ImportFault.TheVariants as fault
 use Rattle.store_data.specs.declared.row.Product.{Product}
 use Rattle.store_data.specs.declared.row.Row.{Row}
 use Rattle.batch_import.specs.Batch.{batch_of}
+use Rattle.batch_import.specs.Outlines.{AreBatchRows}
+use Rattle.store_data.specs.Groups.{grouped}
+use Rattle.persod.specs.declared.print.WriteFailed.{WriteFailed}
 use Rattle.persod.specs.Printed.{printed}
 use Rattle.persod.specs.declared.plan.PlanStop.{PlanStop}
 use Rattle.persod.specs.declared.plan.PlanStop.TheVariants as stop
@@ -48,20 +51,16 @@ ReadsInput raw (Err stop.Memory) = ⊤
 ReadsInput raw (Err stop.WriteFailed) = ⊥
 ReadsInput raw (Err (stop.Refused f)) = ⊥
 
--- the text of a batch was composed, or it is refused
-abbrev pub Composes : Product → List ℕ → Result (Vec ℕ Global) PlanStop → Type 0
-Composes p raw (Ok text) = (rows : List Row) × (batch_of p raw ≡ Ok rows) × (text.items ≡ printed p rows)
-Composes p raw (Err (stop.Refused f)) = batch_of p raw ≡ Err f
-Composes p raw (Err stop.Memory) = ⊤
-Composes p raw (Err stop.TooLarge) = ⊥
-Composes p raw (Err stop.ReadFailed) = ⊥
-Composes p raw (Err stop.WriteFailed) = ⊥
+-- the rows of each record of a batch, or its fault
+abbrev pub GroupsBatch : Product → List ℕ → Result (Vec (Vec Row Global) Global) PlanStop → Type 0
+GroupsBatch p raw (Ok records) = (rows : List Row) × (batch_of p raw ≡ Ok rows) × AreBatchRows rows × (map (λ v. v.items) records.items ≡ grouped (λ (row : Row). row.rec) rows)
+GroupsBatch p raw (Err (stop.Refused f)) = batch_of p raw ≡ Err f
+GroupsBatch p raw (Err stop.Memory) = ⊤
+GroupsBatch p raw (Err stop.TooLarge) = ⊥
+GroupsBatch p raw (Err stop.ReadFailed) = ⊥
+GroupsBatch p raw (Err stop.WriteFailed) = ⊥
 
 -- a text was written, or a beginning of it
-abbrev pub Writes : Option (List ℕ) → Option (List ℕ) → List ℕ → Result (Unit {0}) PlanStop → Type 0
+abbrev pub Writes : Option (List ℕ) → Option (List ℕ) → List ℕ → Result (Unit {0}) WriteFailed → Type 0
 Writes before after text (Ok u) = Appends before after text
-Writes before after text (Err stop.WriteFailed) = AppendsBeginning before after text
-Writes before after text (Err stop.TooLarge) = ⊥
-Writes before after text (Err stop.ReadFailed) = ⊥
-Writes before after text (Err stop.Memory) = ⊥
-Writes before after text (Err (stop.Refused f)) = ⊥
+Writes before after text (Err e) = AppendsBeginning before after text
