@@ -1,14 +1,17 @@
--- Where `clap` takes the program's words, they name `plan`, and each of its options has a number.
-use Rattle.std.proofs.Common.{◌≡◌, ◌&&◌, ◌||◌, Bool, true, false, true≢false, cond, codes, inl, inr, refl, sym, subst, List, [], ◌∷◌, Option, Some, None, is_some}
+-- Where `clap` takes the program's words, they name `plan`, each of its options has a number, and its
+-- flag is on or off.
+use Rattle.std.proofs.Common.{◌≡◌, ◌∙◌, ◌&&◌, ◌||◌, Bool, true, false, true≢false, cond, codes, inl, inr, refl, sym, ap, subst, List, [], ◌∷◌, Option, Some, None, is_some}
 use Rattle.std.specs.Prelude.{option_map}
 use Rattle.std.specs.Option.{option_map_or}
 use Rattle.std.specs.Str.{bytes_eq}
 use Rattle.std.proofs.lemmas.Slice.Eq.{bytes_eq-Decides}
-use Rattle.clap.specs.Walk.{Row, Text, nothing_held, rows_after, walk}
+use Rattle.clap.specs.Values.{bool_text}
+use Rattle.clap.specs.Walk.{Row, Text, nothing_held, one_of, rows_after, walk}
 use Rattle.clap.specs.Simple.{Shape, argument_words, built, entered, names_of, new_shape, rows_at, subcommand_of}
 use Rattle.clap.specs.Faults.{entered_fault, fault_of, level_fault}
+use Rattle.clap.specs.declared.builder.value_parser.ValueParser.TheVariants as vp
 use Rattle.clap.proofs.ValueTestLemmas.{accepts-Accepts}
-use Rattle.persod.specs.Words.{HasNumber, IsPlan, numbers, program}
+use Rattle.persod.specs.Words.{HasNumber, IsFlag, IsPlan, numbers, program}
 use Rattle.persod.proofs.TakenLemmas.{Each, OptionOf, SomeDefault, StopFits, level_below, level_stop, level_subcommand, level_value}
 
 abbrev shape_at : List Shape → Shape
@@ -21,7 +24,7 @@ plan_built = shape_at (built program).subs
 max_option : Each (OptionOf (codes "max") (numbers 16 255)) plan_built.rules
 max_option = (
   (λ same. record { setting = refl; filled = inl refl; parser = refl; ignore_case = refl }),
-  ((λ bad. absurd (true≢false (sym bad))), ((λ bad. absurd (true≢false (sym bad))), tt)),
+  ((λ bad. absurd (true≢false (sym bad))), ((λ bad. absurd (true≢false (sym bad))), ((λ bad. absurd (true≢false (sym bad))), tt))),
 )
 
 low_option : Each (OptionOf (codes "low") (numbers 0 31)) plan_built.rules
@@ -29,7 +32,19 @@ low_option = (
   (λ bad. absurd (true≢false (sym bad))),
   (
     (λ same. record { setting = refl; filled = inl refl; parser = refl; ignore_case = refl }),
-    ((λ bad. absurd (true≢false (sym bad))), tt),
+    ((λ bad. absurd (true≢false (sym bad))), ((λ bad. absurd (true≢false (sym bad))), tt)),
+  ),
+)
+
+check_option : Each (OptionOf (codes "check") vp.Bool) plan_built.rules
+check_option = (
+  (λ bad. absurd (true≢false (sym bad))),
+  (
+    (λ bad. absurd (true≢false (sym bad))),
+    (
+      (λ same. record { setting = refl; filled = inr (codes "true", [], refl); parser = refl; ignore_case = refl }),
+      ((λ bad. absurd (true≢false (sym bad))), tt),
+    ),
   ),
 )
 
@@ -39,13 +54,27 @@ max_default = inl (record { own = refl; first = codes "255"; rest = []; defaults
 low_default : SomeDefault (codes "low") (numbers 0 31) plan_built.rules
 low_default = inr (inl (record { own = refl; first = codes "0"; rest = []; defaults = refl }))
 
+check_default : SomeDefault (codes "check") vp.Bool plan_built.rules
+check_default = inr (inr (inl (record { own = refl; first = codes "false"; rest = []; defaults = refl })))
+
+-- the flag that a text which the parser of flags takes says
+flag_at : (t : Text) (o : Option Text) → o ≡ Some t → (b c : Bool) → (b ≡ true → t ≡ codes "true") → (c ≡ true → t ≡ codes "false")
+    → (b || c) ≡ true → (on : Bool) × (o ≡ Some (bool_text on))
+flag_at t o is true c say_on say_off taken = (true, is ∙ ap Some (say_on refl))
+flag_at t o is false true say_on say_off taken = (false, is ∙ ap Some (say_off refl))
+flag_at t o is false false say_on say_off taken = absurd (true≢false (sym taken))
+
 plan_values : (words : List Text) → level_fault plan_built [] nothing_held words false [] ≡ []
     → HasNumber (codes "max") 16 255 (rows_after plan_built.rules [] words) × HasNumber (codes "low") 0 31 (rows_after plan_built.rules [] words)
+    × ((on : Bool) × IsFlag (codes "check") (rows_after plan_built.rules [] words) on)
 plan_values words none =
     let max = level_value (codes "max") (numbers 16 255) plan_built [] words false [] max_option max_default none in
-    let low = level_value (codes "low") (numbers 0 31) plan_built [] words false [] low_option low_default none in (
+    let low = level_value (codes "low") (numbers 0 31) plan_built [] words false [] low_option low_default none in
+    let check = level_value (codes "check") vp.Bool plan_built [] words false [] check_option check_default none in (
       (max.0, max.1, accepts-Accepts false (numbers 16 255) max.0 max.2),
       (low.0, low.1, accepts-Accepts false (numbers 0 31) low.0 low.2),
+      flag_at check.0 (one_of (codes "check") (rows_after plan_built.rules [] words)) check.1 (bytes_eq check.0 (codes "true")) (bytes_eq check.0 (codes "false"))
+          (bytes_eq-Decides check.0 (codes "true")).0 (bytes_eq-Decides check.0 (codes "false")).0 check.2,
     )
 
 -- ---- the subcommand
@@ -98,4 +127,4 @@ plan_taken words none =
     let some = level_subcommand top names given (is_some sub) (entered_fault (built program) stop) refl none in
     let plan = entered_plan stop fits some below in
     let values = plan_values plan.0 plan.2 in
-    (rows_after plan_built.rules [] plan.0, plan.1, values.0, values.1)
+    (rows_after plan_built.rules [] plan.0, plan.1, values.0, values.1, values.2)

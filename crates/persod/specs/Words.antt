@@ -1,9 +1,11 @@
 -- What the words of the program mean: this project's profile, as a command of `clap`.
-use Rattle.std.specs.Prelude.{◌≡◌, ◌≢◌, ◌≤◌, ⊤, ℕ, List, [], ◌∷◌, Option, Some, true, codes, pos}
-use Rattle.std.specs.Prelude.{option_map}
+use Rattle.std.specs.Prelude.{◌≡◌, ◌≢◌, ◌≤◌, ⊤, ℕ, Bool, List, [], ◌∷◌, Option, Some, true, codes}
+use Rattle.std.specs.Prelude.{option_map, pos}
 use Rattle.std.specs.Str.Parse.{digits_value, without_leading_plus}
 use Rattle.clap.specs.Words.{App, IsAmong, IsSignedIn, Kinds, Row, Rule, Text, new_app, new_rule}
 use Rattle.clap.specs.Words.{one_of, subcommand_of, with_rule, with_subcommand, without_minus}
+use Rattle.clap.specs.Values.{bool_text}
+use Rattle.clap.specs.declared.builder.action.ArgAction.TheVariants.{SetTrue}
 use Rattle.clap.specs.declared.builder.value_parser.ValueParser.{ValueParser}
 use Rattle.clap.specs.declared.builder.value_parser.ValueParser.TheVariants.{Signed}
 use Rattle.clap.specs.declared.error.kind.ErrorKind.{ErrorKind}
@@ -28,12 +30,17 @@ number_option name parser default = record (new_rule name) {
   defaults = default ∷ [];
 }
 
--- `plan [--max N] [--low N]`
+-- `--name`, which is on where it is given
+abbrev pub flag : Text → Rule
+flag name = record (new_rule name) { long = Some name; action = Some SetTrue }
+
+-- `plan [--max N] [--low N] [--check]`
 abbrev pub plan_command : App
 plan_command =
-    with_rule (with_rule (new_app (codes "plan"))
+    with_rule (with_rule (with_rule (new_app (codes "plan"))
     (number_option (codes "max") (numbers 16 255) (codes "255")))
-    (number_option (codes "low") (numbers 0 31) (codes "0"))
+    (number_option (codes "low") (numbers 0 31) (codes "0")))
+    (flag (codes "check"))
 
 -- the command of these subcommands, one of which has to be named
 abbrev pub needs_subcommand : App → App
@@ -47,17 +54,22 @@ program = with_subcommand (needs_subcommand (new_app (codes "persod"))) plan_com
 
 -- each value is in its range
 abbrev pub InRange : Words → Type 0
-InRange (Plan max low) = (16 ≤ max) × (max ≤ 255) × (low ≤ 31)
+InRange (Plan max low check) = (16 ≤ max) × (max ≤ 255) × (low ≤ 31)
 
 -- the number that an option has, by the words or by default: what its text says in decimal digits
 abbrev pub number_of : Text → List Row → Option ℕ
 number_of name rows =
     option_map (λ t. digits_value 10 (without_leading_plus t)) (one_of name rows)
 
+-- the flag is on or off, by the words or by default
+abbrev pub IsFlag : Text → List Row → Bool → Type 0
+IsFlag name rows on = one_of name rows ≡ Some (bool_text on)
+
 -- a subcommand with its options is read as this answer
 abbrev pub ReadsAs : Option (Text × List Row) → Words → Type 0
-ReadsAs sub (Plan max low) = (rows : List Row) × (sub ≡ Some (codes "plan", rows))
+ReadsAs sub (Plan max low check) = (rows : List Row) × (sub ≡ Some (codes "plan", rows))
     × (number_of (codes "max") rows ≡ Some max) × (number_of (codes "low") rows ≡ Some low)
+    × IsFlag (codes "check") rows check
 
 -- the words ask for this: it is how clap's subcommand of the words reads
 abbrev pub Means : List Text → Words → Type 0
@@ -77,7 +89,8 @@ abbrev pub HasNumber : Text → ℕ → ℕ → List Row → Type 0
 HasNumber name low high rows = (t : Text) × (one_of name rows ≡ Some (without_minus t))
     × IsSignedIn (pos low) (pos high) t
 
--- the subcommand is `plan`, with a number for each option
+-- the subcommand is `plan`, with a number for each option, and its flag on or off
 abbrev pub IsPlan : Option (Text × List Row) → Type 0
 IsPlan sub = (rows : List Row) × (sub ≡ Some (codes "plan", rows))
     × HasNumber (codes "max") 16 255 rows × HasNumber (codes "low") 0 31 rows
+    × ((on : Bool) × IsFlag (codes "check") rows on)

@@ -3,13 +3,13 @@ ghost use Rattle.std.specs.Prelude.{◌≡◌, [], IfOk, IfErr, false, map};
 ghost use Rattle.clap.specs.Words.{HasKind, Kinds, app_of, fault_of, rule_of};
 ghost use Rattle.clap.specs.declared.builder.command.Command.TheViews.{out-Command as fields_of};
 ghost use Rattle.clap.specs.Words.{subcommand_rows_of};
-ghost use Rattle.persod.specs.Words.{InRange, IsPlan, IsRefusal, Means, ReadsAs, number_option};
-ghost use Rattle.persod.specs.Words.{plan_command, program};
+ghost use Rattle.persod.specs.Words.{InRange, IsPlan, IsRefusal, Means, ReadsAs, flag};
+ghost use Rattle.persod.specs.Words.{number_option, plan_command, program};
 ghost use Rattle.persod.specs.declared.words.WordsFault.TheVariants.{Memory};
 
 use clap::builder::ValueParser;
 use clap::error::ErrorKind;
-use clap::{Arg, ArgMatches, Command, Error, value_parser};
+use clap::{Arg, ArgAction, ArgMatches, Command, Error, value_parser};
 use std::alloc::{AllocError, Global};
 use std::convert::AsStr;
 
@@ -17,8 +17,8 @@ use std::convert::AsStr;
 #[derive(Clone, Copy, Debug, PartialEq, Eq)]
 pub enum Words {
     /// Prints the commands of a batch, with at most `max` bytes of data in each STORE DATA, 16 to
-    /// 255, and the product's number `low` in its P1, 0 to 31.
-    Plan { max: u8, low: u8 },
+    /// 255, the product's number `low` in its P1, 0 to 31, and whether plain records are checked.
+    Plan { max: u8, low: u8, check: bool },
 }
 
 /// Why the words give no subcommand.
@@ -73,10 +73,14 @@ fn plan_command<'a>(alloc: Global) -> Result<Command<'a>, AllocError>
     let low = number_option(alloc, "low", value_parser!(u8).range(0..=31), "0").help(
         "Bits 5 to 1 of P1 in each STORE DATA, 0 to 31",
     );
+    let check = flag(alloc, "check").help(
+        "Checks each plain record of a card's files (EMV Book 3)",
+    );
     Command::new(alloc, "plan")
         .about("Prints the commands for each record of a batch, read from standard input")
         .arg(max)?
-        .arg(low)
+        .arg(low)?
+        .arg(check)
 }
 
 // `--name N`, and the default where it is not given.
@@ -96,6 +100,14 @@ fn number_option<'a>(
         .default_value(default)
 }
 
+// `--name`, which is on where it is given.
+fn flag<'a>(alloc: Global, name: &'a str) -> Arg<'a>
+    ensures rule { rule_of result ≡ flag name.entry.now }
+    ensures own { result.global ≡ false }
+{
+    Arg::new(alloc, name).long(name).action(ArgAction::SetTrue)
+}
+
 fn words_of(matches: &ArgMatches<'_>) -> Words
     requires { IsPlan (subcommand_rows_of matches.now) }
     ensures ranges { InRange result }
@@ -105,6 +117,7 @@ fn words_of(matches: &ArgMatches<'_>) -> Words
         Some(("plan", plan)) => Words::Plan {
             max: plan.get_one("max").unwrap(),
             low: plan.get_one("low").unwrap(),
+            check: plan.get_flag("check"),
         },
         _ => unreachable!(),
     }

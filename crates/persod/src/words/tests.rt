@@ -3,23 +3,30 @@ use super::{Words, WordsFault, read_words};
 #[test]
 fn plan_has_its_values_or_the_defaults(rt: HostRuntime) {
     let alloc = rt.alloc();
-    let cases: [(&[&str], u8, u8); 5] = [
-        (&["persod", "plan"], 255, 0),
-        (&["persod", "plan", "--max", "16", "--low", "31"], 16, 31),
-        (&["persod", "plan", "--low=7"], 255, 7),
-        (&["persod", "plan", "--max", "016"], 16, 0),
-        (&["persod", "plan", "--max", "+16"], 16, 0),
+    let cases: [(&[&str], u8, u8, bool); 7] = [
+        (&["persod", "plan"], 255, 0, false),
+        (
+            &["persod", "plan", "--max", "16", "--low", "31"],
+            16,
+            31,
+            false,
+        ),
+        (&["persod", "plan", "--low=7"], 255, 7, false),
+        (&["persod", "plan", "--max", "016"], 16, 0, false),
+        (&["persod", "plan", "--max", "+16"], 16, 0, false),
+        (&["persod", "plan", "--check"], 255, 0, true),
+        (&["persod", "plan", "--check", "--low", "7"], 255, 7, true),
     ];
-    for (words, max, low) in cases {
+    for (words, max, low, check) in cases {
         let read = read_words(alloc, words).ok();
-        assert_eq!(rt; read, Some(Words::Plan { max, low }), "at {words:?}");
+        assert_eq!(rt; read, Some(Words::Plan { max, low, check }), "at {words:?}");
     }
 }
 
 #[test]
 fn a_usage_fault_says_what_is_wrong(rt: HostRuntime) {
     let alloc = rt.alloc();
-    let cases: [(&[&str], &str); 12] = [
+    let cases: [(&[&str], &str); 15] = [
         (&["persod", "plan", "--max", "15"], "'15'"),
         (&["persod", "plan", "--max", "256"], "'256'"),
         (&["persod", "plan", "--max", "x"], "'x'"),
@@ -27,6 +34,9 @@ fn a_usage_fault_says_what_is_wrong(rt: HostRuntime) {
         (&["persod", "plan", "--low", "32"], "'32'"),
         (&["persod", "plan", "--low", "-1"], "'-1'"),
         (&["persod", "plan", "--max", "16", "--max", "16"], "--max"),
+        (&["persod", "plan", "--check", "--check"], "--check"),
+        (&["persod", "plan", "--check=true"], "--check"),
+        (&["persod", "plan", "--check", "true"], "true"),
         (&["persod", "plan", "--size", "16"], "--size"),
         (&["persod", "plan", "batch.csv"], "batch.csv"),
         (&["persod", "print"], "print"),
@@ -46,7 +56,7 @@ fn a_usage_fault_says_what_is_wrong(rt: HostRuntime) {
 #[test]
 fn help_names_the_subcommands_and_the_options(rt: HostRuntime) {
     let alloc = rt.alloc();
-    let cases: [(&[&str], &[&str]); 4] = [
+    let cases: [(&[&str], &[&str]); 5] = [
         (&["persod", "--help"], &["plan", "--help"]),
         (&["persod", "help"], &["plan", "--help"]),
         (
@@ -56,6 +66,10 @@ fn help_names_the_subcommands_and_the_options(rt: HostRuntime) {
         (
             &["persod", "plan", "-h"],
             &["--low <N>", "0 to 31", "[default: 0]"],
+        ),
+        (
+            &["persod", "plan", "--help"],
+            &["--check", "Checks each plain record"],
         ),
     ];
     for (words, told) in cases {
@@ -83,7 +97,14 @@ fn refused_memory_is_told(rt: HostRuntime) {
     ];
     for words in cases {
         match read_words(alloc, words) {
-            Ok(read) => assert_eq!(rt; read, Words::Plan { max: 16, low: 0 }),
+            Ok(read) => assert_eq!(rt;
+                read,
+                Words::Plan {
+                    max: 16,
+                    low: 0,
+                    check: false,
+                }
+            ),
             Err(WordsFault::Usage(text)) => assert_eq!(rt; text.as_str(), usage),
             Err(WordsFault::Help(text)) => {
                 assert!(rt;

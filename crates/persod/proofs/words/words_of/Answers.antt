@@ -3,7 +3,7 @@ use Rattle.std.specs.Prelude.{option_map, is_some, codes, Result}
 use Rattle.std.specs.Str.Parse.{ExplainsUnsignedError, HasUnsignedDigitsIfOk, ParsesUnsigned}
 use Rattle.std.specs.declared.num.ParseIntError.{ParseIntError}
 use Rattle.clap.specs.Words.{Row, Text, found_of}
-use Rattle.persod.proofs.NumberLemmas.{number_given, number_read}
+use Rattle.persod.proofs.NumberLemmas.{flag_given, number_given, number_read}
 use Rattle.persod.proofs.words.words_of.Goals as goal
 
 abbrev Gives : Text → Result ℕ ParseIntError → Type 0
@@ -45,4 +45,6 @@ returns-clause-meaning c =
     let low = number_given ParseIntError Gives 8 0 31 (codes "low") (found_of c.in-Some-plan-default.plan.now) c.requires.0
     c.get_one-in-Some-plan-default.result c.unwrap-in-Some-plan-default.result (λ u x g. g.0) (omega arith) rows c.requires.3
     c.get_one-in-Some-plan-default.ensures.value c.unwrap-in-Some-plan-default.ensures in
-    (c.requires.0, c.requires.1, max.2, low.2)
+    let check = flag_given (codes "check") (found_of c.in-Some-plan-default.plan.now) c.requires.0 c.get_flag.result c.requires.4.0 rows c.requires.4.1
+    c.get_flag.ensures.value c.get_flag.ensures.other in
+    (c.requires.0, c.requires.1, max.2, low.2, check)
