@@ -5,6 +5,7 @@ ghost use Rattle.store_data.specs.Sequence.{IsRow, sequence};
 use super::*;
 use dgi::from_hex_text;
 use std::alloc::{AllocError, Global};
+use std::process::Abort;
 use std::test::Fail;
 
 const FIRST: &[u8] = &[0xF0, 0, 0, 0, 1, 1];
@@ -117,22 +118,25 @@ fn printed(alloc: Global, commands: &[Vec<u8>]) -> Result<String, Fail> {
     Ok(text)
 }
 
+// Each batch of these lines, with these most bytes and this low, has these commands.
+fn check_commands(
+    rt: &impl Abort,
+    alloc: Global,
+    table: &[(u8, u8, &[Line<'_>], &str)],
+) -> Result<(), Fail> {
+    for (max, low, lines, want) in table {
+        assert!(rt; *max >= 16 && *low <= 31);
+        let commands = commands_of(alloc, *max, *low, lines)??;
+        let text = printed(alloc, &commands)?;
+        assert_eq!(rt; text.as_str(), *want);
+    }
+    Ok(())
+}
+
 #[test]
 fn commands_are_those_of_the_worked_rows(rt: HostRuntime) -> Result<(), Fail> {
     let marked = [Line(FIRST, 1, Enc::All, false, SECRET), plain(2, OTHER)];
-    let two_applications = [
-        Line(SECOND, 2, Enc::Plain, false, b"0201027000"),
-        plain(1, SMALL),
-        Line(SECOND, 1, Enc::All, false, SECRET),
-    ];
-    let long = Line(
-        FIRST,
-        1,
-        Enc::Plain,
-        true,
-        b"90010E000102030405060708090A0B0C0D",
-    );
-    let table: [(u8, u8, &[Line<'_>], &str); 6] = [
+    let table: [(u8, u8, &[Line<'_>], &str); 4] = [
         (
             255,
             0,
@@ -154,14 +158,33 @@ fn commands_are_those_of_the_worked_rows(rt: HostRuntime) -> Result<(), Fail> {
         (
             255,
             0,
-            &two_applications,
-            "00A4040007F0000000020202 80E260000B8000081122334455667788 80E28001050201027000 00A4040006F00000000101 80E28000050101027000 ",
+            &[plain(1, SMALL), plain(1, OTHER)],
+            "00A4040006F00000000101 80E280000A01010270000102027000 ",
         ),
+    ];
+    check_commands(&rt, rt.alloc(), &table)
+}
+
+#[test]
+fn applications_and_pieces_are_those_of_the_worked_rows(rt: HostRuntime) -> Result<(), Fail> {
+    let two_applications = [
+        Line(SECOND, 2, Enc::Plain, false, b"0201027000"),
+        plain(1, SMALL),
+        Line(SECOND, 1, Enc::All, false, SECRET),
+    ];
+    let long = Line(
+        FIRST,
+        1,
+        Enc::Plain,
+        true,
+        b"90010E000102030405060708090A0B0C0D",
+    );
+    let table: [(u8, u8, &[Line<'_>], &str); 2] = [
         (
             255,
             0,
-            &[plain(1, SMALL), plain(1, OTHER)],
-            "00A4040006F00000000101 80E280000A01010270000102027000 ",
+            &two_applications,
+            "00A4040007F0000000020202 80E260000B8000081122334455667788 80E28001050201027000 00A4040006F00000000101 80E28000050101027000 ",
         ),
         (
             16,
@@ -170,13 +193,7 @@ fn commands_are_those_of_the_worked_rows(rt: HostRuntime) -> Result<(), Fail> {
             "00A4040006F00000000101 80E200001090010E000102030405060708090A0B0C 80E28001010D ",
         ),
     ];
-    for (max, low, lines, want) in &table {
-        assert!(rt; *max >= 16 && *low <= 31);
-        let commands = commands_of(rt.alloc(), *max, *low, lines)??;
-        let text = printed(rt.alloc(), &commands)?;
-        assert_eq!(rt; text.as_str(), *want);
-    }
-    Ok(())
+    check_commands(&rt, rt.alloc(), &table)
 }
 
 // The grouping 8000 with as many data bytes 5A.
@@ -262,17 +279,15 @@ fn a_cursor_goes_over_a_segment(rt: HostRuntime) -> Result<(), Fail> {
             make_cursor(1, 0, 0),
         ),
     ];
-    for (cursor, command, at_end, next) in table {
-        assert!(rt;
-            cursor.app == 0 && cursor.segment == 0 && cursor.offset <= 16 && cursor.block <= 2
-        );
+    for (mut cursor, command, at_end, next) in table {
+        assert!(rt; cursor.app == 0 && cursor.segment == 0);
+        assert!(rt; cursor.offset <= 16 && cursor.block <= 2);
         assert!(rt; bytes.len() == 17);
         let mut out = [0; 260];
         let len = cursor.put_from(&view, 16, 0, &mut out);
         let want = Vec::from_slice(rt.alloc(), &out[..len])?;
         assert_eq!(rt; printed(rt.alloc(), &[want])?.trim_end(), command);
         assert_eq!(rt; cursor.at_end(&view, 16), at_end);
-        let mut cursor = cursor;
         cursor.step_from(&view, 16);
         assert_eq!(rt; cursor, next);
     }
