@@ -9,23 +9,20 @@ Peak is the highest resident size, read while the program waits to write the las
 Growth is the ratio of two times over the ratio of the two sizes: 1 is linear, more is worse. For it alone
 the time of a batch of one row, that is of starting and ending, is taken off both times.
 """
-import fcntl
-import os
 import pathlib
 import subprocess
 import sys
 import tempfile
-import time
 from typing import Iterator, NamedTuple
 
 from make_batch import coded
+from process import PIPE, best_time, peak
 
 HERE = pathlib.Path(__file__).resolve().parent
 PERSOD = HERE.parent / "crates" / "persod" / "out" / "persod"
 HEADER = "record,aid,rank,enc,tol,dgi"
 AID = "F00000000101"
 RUNS = 25
-PIPE = 4096
 
 
 class Batch(NamedTuple):
@@ -90,18 +87,6 @@ def large_groupings(rows: int) -> Batch:
     return batch(f"{rows} groupings of 16384 bytes", 1, made)
 
 
-def is_waiting(child: int) -> bool:
-    """Whether the process sleeps, as it does in a write to a full pipe."""
-    return pathlib.Path(f"/proc/{child}/stat").read_text().rpartition(")")[2].split()[0] == "S"
-
-
-def high_water(child: int) -> int:
-    for line in pathlib.Path(f"/proc/{child}/status").read_text().splitlines():
-        if line.startswith("VmHWM:"):
-            return int(line.split()[1]) * 1024
-    sys.exit("no VmHWM in /proc: peak memory can't be measured here")
-
-
 def output_of(words: list[str], path: pathlib.Path, records: int) -> int:
     """Runs once, and answers the size of the output, which has a line for each record."""
     with path.open("rb") as source:
@@ -112,43 +97,13 @@ def output_of(words: list[str], path: pathlib.Path, records: int) -> int:
     return len(ran.stdout)
 
 
-def best_time(words: list[str], path: pathlib.Path) -> float:
-    best = float("inf")
-    for _ in range(RUNS):
-        with path.open("rb") as source:
-            start = time.perf_counter()
-            subprocess.run(words, stdin=source, stdout=subprocess.DEVNULL, check=True)
-            best = min(best, time.perf_counter() - start)
-    return best
-
-
-def peak(words: list[str], path: pathlib.Path, written: int) -> int:
-    """Takes all of the output but what the pipe can't hold, waits for the program to stand still, and looks."""
-    with path.open("rb") as source:
-        ours, theirs = os.pipe()
-        fcntl.fcntl(ours, fcntl.F_SETPIPE_SZ, PIPE)
-        child = subprocess.Popen(words, stdin=source, stdout=theirs)
-        os.close(theirs)
-        left = written - PIPE - 1
-        while left > 0 and (some := os.read(ours, left)):
-            left -= len(some)
-        still = 0
-        while still < 5:
-            time.sleep(0.002)
-            still = still + 1 if is_waiting(child.pid) else 0
-        highest = high_water(child.pid)
-        while os.read(ours, PIPE):
-            pass
-        os.close(ours)
-        child.wait()
-    return highest
-
-
 def measure(words: list[str], made: Batch, folder: pathlib.Path) -> Measured:
     path = folder / f"{made.name.replace(' ', '-')}.csv"
     path.write_bytes(made.text)
     written = output_of(words, path, made.records)
-    return Measured(len(made.text), best_time(words, path), peak(words, path, written) if written > PIPE else 0)
+    # All of the output is taken but what the pipe can't hold.
+    highest = peak(words, path, 0, written - PIPE - 1) if written > PIPE else 0
+    return Measured(len(made.text), best_time(words, path, RUNS), highest)
 
 
 def main() -> None:

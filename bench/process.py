@@ -1,0 +1,53 @@
+"""Runs of a program and what they cost: the best time of several, and the highest resident size. Linux alone."""
+import fcntl
+import os
+import pathlib
+import subprocess
+import sys
+import time
+
+PIPE = 4096
+
+
+def is_waiting(child: int) -> bool:
+    """Whether the process sleeps, as it does in a write to a full pipe."""
+    return pathlib.Path(f"/proc/{child}/stat").read_text().rpartition(")")[2].split()[0] == "S"
+
+
+def high_water(child: int) -> int:
+    for line in pathlib.Path(f"/proc/{child}/status").read_text().splitlines():
+        if line.startswith("VmHWM:"):
+            return int(line.split()[1]) * 1024
+    sys.exit("no VmHWM in /proc: peak memory can't be measured here")
+
+
+def best_time(words: list[str], path: pathlib.Path, runs: int) -> float:
+    best = float("inf")
+    for _ in range(runs):
+        with path.open("rb") as source:
+            start = time.perf_counter()
+            subprocess.run(words, stdin=source, stdout=subprocess.DEVNULL, check=True)
+            best = min(best, time.perf_counter() - start)
+    return best
+
+
+def peak(words: list[str], path: pathlib.Path, filled: int, taken: int) -> int:
+    """Starts with `filled` bytes in the pipe for the output, takes `taken` out of it, waits for the program to stand still in a write, and looks."""
+    with path.open("rb") as source:
+        ours, theirs = os.pipe()
+        fcntl.fcntl(ours, fcntl.F_SETPIPE_SZ, PIPE)
+        os.write(theirs, bytes(filled))
+        child = subprocess.Popen(words, stdin=source, stdout=theirs)
+        os.close(theirs)
+        while taken > 0 and (some := os.read(ours, taken)):
+            taken -= len(some)
+        still = 0
+        while still < 5:
+            time.sleep(0.002)
+            still = still + 1 if is_waiting(child.pid) else 0
+        highest = high_water(child.pid)
+        while os.read(ours, PIPE):
+            pass
+        os.close(ours)
+        child.wait()
+    return highest

@@ -1,0 +1,119 @@
+//! The program `measure`: calls the record check or the check of a batch on standard input, so that each is timed and weighed alone.
+#![tactic(auto)]
+
+ghost use Rattle.std.specs.Prelude.{◌≡◌, ◌↔◌, Some, codes, filter, length};
+ghost use Rattle.store_data.specs.Sequence.{IsProduct};
+ghost use Rattle.tlv_check.specs.RecordTest.{is_record_of};
+ghost use Rattle.measure.specs.Pieces.{pieces_of};
+
+use batch_import::{ImportFault, check_batch};
+use std::env;
+use std::io::{self, ErrorKind, Read};
+use std::process::ExitCode;
+use store_data::{Name, Product};
+use tlv_check::is_record;
+
+/// The room that is asked for at once, in bytes: one more than a batch may have, so that reading a batch moves nothing.
+const ROOM: usize = 1_048_577;
+
+/// How many bytes a record has that is to be checked.
+const PIECE: usize = 16_000;
+
+const USAGE: &str = "usage: measure raw|records|batch <input";
+
+/// What is done with the bytes of standard input.
+#[derive(Clone, Copy)]
+enum Work {
+    /// They are counted.
+    Raw,
+    /// They are cut into pieces, and the records among those are counted.
+    Records,
+    /// They are checked as a batch.
+    Batch,
+}
+
+fn main(rt: HostRuntime) -> ExitCode {
+    let done = match asked(&rt) {
+        Ok(Some(work)) => run(&rt, work),
+        Ok(None) => {
+            let _ = eprintln!(rt; "{USAGE}");
+            return ExitCode::from(2);
+        }
+        Err(error) => Err(error),
+    };
+    match done {
+        Ok(()) => ExitCode::SUCCESS,
+        Err(_) => ExitCode::from(3),
+    }
+}
+
+// The work that the words of the process ask for, if they are one word and it names some.
+fn asked(rt: &HostRuntime) -> io::Result<Option<Work>> {
+    let words = match env::args(rt) {
+        Ok(words) => words.collect::<Vec<String>>(rt.alloc())?,
+        Err(error) if error.kind() == ErrorKind::OutOfMemory => return Err(error),
+        Err(_) => return Ok(None),
+    };
+    match words.as_slice() {
+        [_, word] => Ok(work_of(word.as_str())),
+        _ => Ok(None),
+    }
+}
+
+// The work of this name.
+fn work_of(word: &str) -> Option<Work>
+    ensures raw { (result ≡ Some Work.Raw) ↔ (word.now ≡ codes "raw") }
+    ensures records { (result ≡ Some Work.Records) ↔ (word.now ≡ codes "records") }
+    ensures batch { (result ≡ Some Work.Batch) ↔ (word.now ≡ codes "batch") }
+{
+    match word {
+        "raw" => Some(Work::Raw),
+        "records" => Some(Work::Records),
+        "batch" => Some(Work::Batch),
+        _ => None,
+    }
+}
+
+fn run(rt: &HostRuntime, work: Work) -> io::Result<()> {
+    let raw = input(rt)?;
+    match work {
+        Work::Raw => println!(rt; "{}", raw.len()),
+        Work::Records => println!(rt; "{}", accepted(raw.as_slice())),
+        Work::Batch => print_totals(rt, raw.as_slice()),
+    }
+}
+
+fn input(rt: &HostRuntime) -> io::Result<Vec<u8>> {
+    let mut raw = Vec::with_capacity(rt.alloc(), ROOM)?;
+    rt.reader().read_to_end(&mut raw)?;
+    Ok(raw)
+}
+
+// How many of the pieces of 16,000 bytes, the last of which may be shorter, are records.
+fn accepted(raw: &[u8]) -> usize
+    ensures { result ≡ length (filter is_record_of (pieces_of PIECE raw.now)) }
+{
+    raw.chunks(PIECE).filter(|piece| is_record(piece)).count()
+}
+
+fn print_totals(rt: &HostRuntime, raw: &[u8]) -> io::Result<()> {
+    match check_batch(rt.alloc(), raw, &product()) {
+        Ok(totals) => println!(rt; "rows {} records {}", totals.rows, totals.records),
+        Err(ImportFault::At(fault)) => {
+            println!(rt; "refused {} row {}", fault.kind.code(), fault.row)
+        }
+        Err(ImportFault::Memory) => Err(ErrorKind::OutOfMemory.into()),
+    }
+}
+
+// The product that a batch is checked for.
+fn product() -> Product
+    ensures { IsProduct result }
+{
+    Product {
+        code: Name::new(b"measure").unwrap(),
+        max: 255,
+        low: 0,
+        check: false,
+    }
+}
