@@ -1,0 +1,23 @@
+use Rattle.std.proofs.Common.{◌≡◌, ◌+◌, length, ap, sym, ◌∙◌}
+use Rattle.job_core.specs.Facts.{new_session, with_session}
+use Rattle.job_core.specs.States.{command_at}
+use Rattle.job_core.specs.declared.reply.Reply.TheVariants as reply
+use Rattle.job_core.proofs.RunningLemmas.{command_under}
+use Rattle.job_core.proofs.SoundSessions.{sound_open}
+use Rattle.job_core.proofs.decision.sessions.opened.Goals as goal
+
+pub returns : goal.returns
+returns c = λ f plan sound may session there command.
+    let b = c.args.batch.now in
+    let r = c.args.rec in
+    let blank = c.args.blank in
+    let machine = c.args.client.now in
+    let bytes : command_at f b r 0 ≡ c.bytes_or_none-command.result = command_under f b r plan 0 c.args.command there command ∙ sym c.bytes_or_none-command.ensures in
+    record {
+      step_is = ap (λ bs. (with_session f (new_session machine b r blank), reply.Opened b blank bs r (length f.sessions + 1))) bytes
+          ∙ ap (λ n. (with_session f (new_session machine b r blank), reply.Opened b blank c.bytes_or_none-command.result r n)) (sym session);
+      keeps = record {
+        sound = sound_open f machine b r blank may.batch may.lot sound c.bytes-is_name.ensures.name may.there may.more may.idle may.lot_is may.product may.free may.waits;
+        after = tt;
+      };
+    }

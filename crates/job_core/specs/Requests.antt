@@ -1,0 +1,25 @@
+-- What callers owe of a request: its numbers are in their ranges (this project's profile).
+use Rattle.std.specs.Prelude.{◌≤◌, ◌+◌, ◌^◌, ⊤}
+use Rattle.store_data.specs.Sequence.{IsProduct}
+use Rattle.job_core.specs.declared.facts.Lot.{Lot}
+use Rattle.job_core.specs.declared.request.Request.{Request}
+use Rattle.job_core.specs.declared.request.Request.TheVariants as request
+
+-- 1 to 1,000,000 blanks, the last of at most 18 digits
+pub record IsLotRange (l : Lot) : Type 0 where
+  pub least : 1 ≤ l.count
+  pub most : l.count ≤ 1000000
+  pub range : l.first + l.count ≤ 10 ^ 18
+
+abbrev pub IsRequest : Request → Type 0
+IsRequest (request.Product p) = IsProduct p
+IsRequest (request.Lot l) = IsLotRange l
+IsRequest (request.Import b p raw) = ⊤
+IsRequest (request.Open b blank) = ⊤
+IsRequest (request.Answer s k sw) = ⊤
+IsRequest (request.Abort s) = ⊤
+IsRequest request.Reset = ⊤
+IsRequest (request.Discard blank) = ⊤
+IsRequest (request.Remake b r) = ⊤
+IsRequest (request.Withdraw b r) = ⊤
+IsRequest (request.Close b) = ⊤

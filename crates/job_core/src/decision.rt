@@ -1,0 +1,68 @@
+//! The decisions: what the plain machine answers to a request, and the one fact that it adds.
+//!
+//! Each reads what its request needs, in the order of the refusals, and then decides by what was read.
+mod commands;
+mod products;
+mod records;
+mod sessions;
+
+ghost use Rattle.std.specs.Prelude.{◌≡◌};
+ghost use Rattle.job_core.specs.Requests.{IsRequest};
+ghost use Rattle.job_core.specs.Sound.{Decides};
+ghost use Rattle.job_core.specs.Store.{HasCause, Reads, Stays};
+ghost use Rattle.job_core.specs.declared.change.Change.TheVariants.{Nothing};
+ghost use Rattle.job_core.specs.declared.reply.Reply.TheVariants.{Refused};
+
+use crate::change::Change;
+use crate::refusal::Refusal;
+use crate::reply::Reply;
+use crate::request::Request;
+use crate::store::{JobStore, StoreFault};
+use std::alloc::Global;
+use store_data::Name;
+
+/// A reply, and the one fact that the request adds.
+pub(crate) type Decision<'a> = (Reply, Change<'a>);
+
+/// What the plain machine answers to a client's request, and the one fact that it adds. The store is only read.
+///
+/// `StoreFault` where the store has one, or where memory is refused.
+pub fn decide<'a, S: JobStore>(
+    alloc: Global,
+    store: &mut S,
+    client: &Name,
+    request: &'a Request,
+) -> Result<(Reply, Change<'a>), StoreFault>
+    requires { IsRequest request.now }
+    ensures stays { Stays (S.state store.old) (S.state store.new) }
+    ensures value { Reads (S.state store.old) (S.state store.new) result
+        (λ c answer. Decides c.facts client.now request.now answer.0 answer.1) }
+    ensures cause { HasCause (S.state store.new) result }
+{
+    match request {
+        Request::Product { product } => products::product(store, client, product),
+        Request::Lot { lot } => products::lot(store, client, lot),
+        Request::Import {
+            batch,
+            product,
+            raw,
+        } => products::import(alloc, store, client, batch, product, raw.as_slice()),
+        Request::Open { batch, blank } => sessions::open(alloc, store, client, batch, *blank),
+        Request::Answer { session, index, sw } => {
+            sessions::answer(alloc, store, client, *session, *index, *sw)
+        }
+        Request::Abort { session } => sessions::abort(store, client, *session),
+        Request::Reset => sessions::reset(store, client),
+        Request::Discard { blank } => records::discard(store, client, *blank),
+        Request::Remake { batch, rec } => records::remake(store, client, batch, rec),
+        Request::Withdraw { batch, rec } => records::withdraw(store, client, batch, rec),
+        Request::Close { batch } => records::close(store, client, batch),
+    }
+}
+
+// The refusal, which adds nothing.
+fn refused(refusal: Refusal) -> Decision<'static>
+    ensures { result ≡ (Refused refusal, Nothing) }
+{
+    (Reply::Refused { refusal }, Change::Nothing)
+}

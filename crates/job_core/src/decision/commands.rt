@@ -1,0 +1,65 @@
+//! Commands handed out from a record's segments.
+ghost use Rattle.std.specs.Prelude.{◌≡◌, ◌≤◌, ℕ, Some, IfOk, length, slice_get};
+ghost use Rattle.store_data.specs.Cursor.{cursor_at, segment_at, shown};
+ghost use Rattle.store_data.specs.Sequence.{IsPlan, Plan, sequence};
+ghost use Rattle.job_core.specs.Rows.{placed_of};
+ghost use Rattle.job_core.specs.States.{plan_for};
+ghost use Rattle.job_core.specs.Store.{HasCause, Reads, Stays};
+
+use crate::rows::SegmentRow;
+use crate::store::{JobStore, StoreFault};
+use std::alloc::{AllocError, Global};
+use store_data::{Bytes, Cursor, Name, SegmentView};
+
+/// The command at a cursor of a record's plan; at the plan's end there is none.
+pub(crate) fn command<S: JobStore>(
+    alloc: Global,
+    store: &mut S,
+    batch: &Name,
+    rec: &Name,
+    cursor: &Cursor,
+) -> Result<Option<Bytes>, StoreFault>
+    ensures stays { Stays (S.state store.old) (S.state store.new) }
+    ensures value { Reads (S.state store.old) (S.state store.new) result (λ c answer. (plan : Plan) (k : ℕ) → plan_for c.facts batch.now rec.now ≡ Some plan
+        → IsPlan plan → cursor_at plan k ≡ Some cursor.now → answer ≡ slice_get (sequence plan) k) }
+    ensures cause { HasCause (S.state store.new) result }
+{
+    match store.segment(batch, rec, cursor.app, cursor.segment)? {
+        None => Ok(None),
+        Some(segment) => Ok(command_in(alloc, &segment, cursor)?),
+    }
+}
+
+// The command at a cursor, from the segment there. A cursor that stands in no such segment has none.
+fn command_in(
+    alloc: Global,
+    segment: &SegmentRow,
+    cursor: &Cursor,
+) -> Result<Option<Bytes>, AllocError>
+    requires { segment.now.low ≤ 31 }
+    ensures { (plan : Plan) (k : ℕ) → IsPlan plan → cursor_at plan k ≡ Some cursor.now
+        → segment_at plan cursor.now.app cursor.now.segment ≡ Some (placed_of segment.now) → plan.max ≡ segment.now.max → plan.low ≡ segment.now.low
+        → IfOk result (λ answer. answer ≡ slice_get (sequence plan) k) }
+{
+    let view = view(segment);
+    if view.bytes.len() < cursor.offset as usize || cursor.block > 256 {
+        return Ok(None);
+    }
+    let mut out = [0; 260];
+    let size = cursor.put_from(&view, segment.max, segment.low, &mut out);
+    Ok(Some(Bytes::from_vec(Vec::from_slice(alloc, &out[..size])?)))
+}
+
+/// The segment as a cursor sees it.
+pub(crate) fn view(segment: &SegmentRow) -> SegmentView<'_>
+    ensures shown { shown result ≡ placed_of segment.now }
+    ensures few { length result.aid.now ≤ 16 }
+{
+    SegmentView {
+        aid: segment.aid.bytes(),
+        bytes: segment.bytes.as_slice(),
+        enc: segment.enc,
+        tol: segment.tol,
+        last: segment.last,
+    }
+}

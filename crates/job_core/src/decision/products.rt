@@ -1,0 +1,272 @@
+//! The decisions on products, lots and batches.
+ghost use Rattle.std.specs.Prelude.{◌≡◌, ◌<◌, None, Some, IfErr, IfOk, IfSome, length};
+ghost use Rattle.store_data.specs.Sequence.{IsProduct};
+ghost use Rattle.batch_import.specs.Batch.{batch_of};
+ghost use Rattle.job_core.specs.Facts.{Facts};
+ghost use Rattle.job_core.specs.Sound.{Decides, IsSound, Makes};
+ghost use Rattle.job_core.specs.Requests.{IsLotRange};
+ghost use Rattle.job_core.specs.Rows.{batch_has, batch_row_of};
+ghost use Rattle.job_core.specs.States.{any_overlaps, batch_named, lot_named, product_named};
+ghost use Rattle.job_core.specs.Steps.{new_batch, new_lot, same_lot, same_product, taken_in};
+ghost use Rattle.job_core.specs.Store.{HasCause, Reads, Stays};
+ghost use Rattle.job_core.specs.declared.request.Request.TheVariants as request;
+ghost use Rattle.job_core.specs.declared.store.StoreFault.TheVariants.{Memory};
+
+use super::{Decision, refused};
+use crate::change::Change;
+use crate::facts::Lot;
+use crate::refusal::Refusal;
+use crate::reply::{Made, Reply};
+use crate::rows::BatchRow;
+use crate::store::{JobStore, StoreFault};
+use batch_import::{ImportFault, check_batch};
+use std::alloc::Global;
+use store_data::{Name, Product};
+
+/// The most products (this project's profile).
+const MOST_PRODUCTS: u64 = 256;
+
+/// The most lots (this project's profile).
+const MOST_LOTS: u64 = 4096;
+
+/// The most batches (this project's profile).
+const MOST_BATCHES: u64 = 4096;
+
+/// The decision on a product.
+pub(crate) fn product<S: JobStore>(
+    store: &mut S,
+    client: &Name,
+    product: &Product,
+) -> Result<Decision<'static>, StoreFault>
+    requires { IsProduct product.now }
+    ensures stays { Stays (S.state store.old) (S.state store.new) }
+    ensures value { Reads (S.state store.old) (S.state store.new) result
+        (λ c answer. Decides c.facts client.now (request.Product product.now) answer.0 answer.1) }
+    ensures cause { HasCause (S.state store.new) result }
+{
+    let kept = store.product(&product.code)?;
+    let products = store.counts()?.products;
+    Ok(product_by(client, product, kept, products))
+}
+
+// By the product that is kept under its code, and how many there are.
+#[tactic(auto, unfolding(crate::specs::Steps::step))]
+fn product_by(
+    client: &Name,
+    product: &Product,
+    kept: Option<Product>,
+    products: u64,
+) -> Decision<'static>
+    requires { IsProduct product.now }
+    ensures { (f : Facts) → IsSound f → kept ≡ product_named f.products product.now.code → products ≡ length f.products
+        → Decides f client.now (request.Product product.now) result.0 result.1 }
+{
+    let code = product.code;
+    let _is_name = code.bytes();
+    match kept {
+        Some(kept) if same_product(&kept, product) => {
+            let made = Made::Known;
+            (
+                Reply::Product {
+                    product: code,
+                    made,
+                },
+                Change::Nothing,
+            )
+        }
+        Some(_) => refused(Refusal::ProductDiffers),
+        None if products >= MOST_PRODUCTS => refused(Refusal::Limit),
+        None => {
+            let (made, product) = (Made::Created, *product);
+            (
+                Reply::Product {
+                    product: code,
+                    made,
+                },
+                Change::AddsProduct { product },
+            )
+        }
+    }
+}
+
+fn same_product(p: &Product, q: &Product) -> bool
+    ensures { result ≡ same_product p.now q.now }
+{
+    p.code == q.code && p.max == q.max && p.low == q.low && p.check == q.check
+}
+
+/// The decision on a lot.
+pub(crate) fn lot<S: JobStore>(
+    store: &mut S,
+    client: &Name,
+    lot: &Lot,
+) -> Result<Decision<'static>, StoreFault>
+    requires { IsLotRange lot.now }
+    ensures stays { Stays (S.state store.old) (S.state store.new) }
+    ensures value { Reads (S.state store.old) (S.state store.new) result
+        (λ c answer. Decides c.facts client.now (request.Lot lot.now) answer.0 answer.1) }
+    ensures cause { HasCause (S.state store.new) result }
+{
+    let kept = store.lot(&lot.name)?;
+    let product = store.product(&lot.product)?;
+    let overlaps = store.overlaps(lot.first, lot.count)?;
+    let lots = store.counts()?.lots;
+    Ok(lot_by(client, lot, kept, product, overlaps, lots))
+}
+
+// By the lot that is kept under its name, its product, whether a serial of it lies in a lot, and how many lots there are.
+#[tactic(auto, unfolding(crate::specs::Steps::step))]
+fn lot_by(
+    client: &Name,
+    lot: &Lot,
+    kept: Option<Lot>,
+    product: Option<Product>,
+    overlaps: bool,
+    lots: u64,
+) -> Decision<'static>
+    requires { IsLotRange lot.now }
+    ensures { (f : Facts) → IsSound f → kept ≡ lot_named f.lots lot.now.name → product ≡ product_named f.products lot.now.product
+        → overlaps ≡ any_overlaps f.lots lot.now.first lot.now.count → lots ≡ length f.lots
+        → Decides f client.now (request.Lot lot.now) result.0 result.1 }
+{
+    match kept {
+        None => new_lot(lot, product, overlaps, lots),
+        Some(kept) if kept == *lot => {
+            let (lot, made) = (lot.name, Made::Known);
+            (Reply::Lot { lot, made }, Change::Nothing)
+        }
+        Some(_) => refused(Refusal::LotDiffers),
+    }
+}
+
+// A lot under a new name.
+fn new_lot(lot: &Lot, product: Option<Product>, overlaps: bool, lots: u64) -> Decision<'static>
+    requires { IsLotRange lot.now }
+    ensures { (f : Facts) → IsSound f → lot_named f.lots lot.now.name ≡ None → product ≡ product_named f.products lot.now.product
+        → overlaps ≡ any_overlaps f.lots lot.now.first lot.now.count → lots ≡ length f.lots
+        → Makes f (new_lot f lot.now) result.0 result.1 }
+{
+    let name = lot.name;
+    let _is_name = name.bytes();
+    match product {
+        None => refused(Refusal::ProductUnknown),
+        Some(_) if overlaps => refused(Refusal::SerialsOverlap),
+        Some(_) if lots >= MOST_LOTS => refused(Refusal::Limit),
+        Some(_) => {
+            let (made, lot) = (Made::Created, *lot);
+            (Reply::Lot { lot: name, made }, Change::AddsLot { lot })
+        }
+    }
+}
+
+/// The decision on a batch file.
+pub(crate) fn import<'a, S: JobStore>(
+    alloc: Global,
+    store: &mut S,
+    client: &Name,
+    batch: &Name,
+    product: &Name,
+    raw: &'a [u8],
+) -> Result<Decision<'a>, StoreFault>
+    ensures stays { Stays (S.state store.old) (S.state store.new) }
+    ensures value { Reads (S.state store.old) (S.state store.new) result
+        (λ c answer. Decides c.facts client.now (request.Import batch.now product.now raw.now) answer.0 answer.1) }
+    ensures cause { HasCause (S.state store.new) result }
+{
+    let kept = store.batch(batch)?;
+    let same = store.batch_has(batch, raw)?;
+    let under = store.product(product)?;
+    let batches = store.counts()?.batches;
+    import_by(
+        alloc, client, batch, product, raw, kept, same, under, batches,
+    )
+}
+
+// By the batch that is kept under its name, whether it has these bytes, the product, and how many batches there are.
+#[tactic(auto, unfolding(crate::specs::Steps::step))]
+fn import_by<'a>(
+    alloc: Global,
+    client: &Name,
+    batch: &Name,
+    product: &Name,
+    raw: &'a [u8],
+    kept: Option<BatchRow>,
+    same: bool,
+    under: Option<Product>,
+    batches: u64,
+) -> Result<Decision<'a>, StoreFault>
+    requires { IfSome under IsProduct }
+    ensures value { (f : Facts) → IsSound f → kept ≡ batch_row_of f batch.now → same ≡ batch_has f batch.now raw.now
+        → under ≡ product_named f.products product.now → batches ≡ length f.batches
+        → IfOk result (λ answer. Decides f client.now (request.Import batch.now product.now raw.now) answer.0 answer.1) }
+    ensures cause { IfErr result (λ fault. fault ≡ Memory) }
+{
+    let Some(kept) = kept else {
+        return new_batch(alloc, batch, product, raw, under, batches);
+    };
+    if kept.product != *product || !same {
+        return Ok(refused(Refusal::BatchDiffers));
+    }
+    let reply = Reply::Import {
+        batch: *batch,
+        records: kept.records,
+        made: Made::Known,
+        rows: kept.rows,
+    };
+    Ok((reply, Change::Nothing))
+}
+
+// A batch under a new name.
+fn new_batch<'a>(
+    alloc: Global,
+    batch: &Name,
+    product: &Name,
+    raw: &'a [u8],
+    under: Option<Product>,
+    batches: u64,
+) -> Result<Decision<'a>, StoreFault>
+    requires { IfSome under IsProduct }
+    ensures value { (f : Facts) → IsSound f → batch_named f.batches batch.now ≡ None → under ≡ product_named f.products product.now
+        → batches ≡ length f.batches → IfOk result (λ answer. Makes f (new_batch f batch.now product.now raw.now) answer.0 answer.1) }
+    ensures cause { IfErr result (λ fault. fault ≡ Memory) }
+{
+    match under {
+        None => Ok(refused(Refusal::ProductUnknown)),
+        Some(_) if batches >= MOST_BATCHES => Ok(refused(Refusal::Limit)),
+        Some(under) => taken_in(alloc, batch, product, raw, &under),
+    }
+}
+
+// By the totals of the batch file, or its first fault.
+fn taken_in<'a>(
+    alloc: Global,
+    batch: &Name,
+    product: &Name,
+    raw: &'a [u8],
+    under: &Product,
+) -> Result<Decision<'a>, StoreFault>
+    requires { IsProduct under.now }
+    ensures value { (f : Facts) → IsSound f → batch_named f.batches batch.now ≡ None → product_named f.products product.now ≡ Some under.now
+        → length f.batches < 4096 → IfOk result (λ answer. Makes f (taken_in f batch.now product.now raw.now (batch_of under.now raw.now)) answer.0 answer.1) }
+    ensures cause { IfErr result (λ fault. fault ≡ Memory) }
+{
+    let _is_name = batch.bytes();
+    let (batch, product) = (*batch, *product);
+    match check_batch(alloc, raw, under) {
+        Ok(totals) => Ok((
+            Reply::Import {
+                batch,
+                records: totals.records,
+                made: Made::Created,
+                rows: totals.rows,
+            },
+            Change::AddsBatch {
+                batch,
+                product,
+                raw,
+            },
+        )),
+        Err(ImportFault::At(fault)) => Ok((Reply::Faulty { fault }, Change::Nothing)),
+        Err(ImportFault::Memory) => Err(StoreFault::Memory),
+    }
+}

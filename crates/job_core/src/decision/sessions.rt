@@ -1,0 +1,352 @@
+//! The decisions on sessions.
+ghost use Rattle.std.specs.Prelude.{◌≡◌, ◌<◌, ◌+◌, ℕ, Some, IfSome, length, option_map, unwrap_or, [], IfOk, OnOk};
+ghost use Rattle.store_data.specs.Cursor.{IsCursor, cursor_at, segment_at};
+ghost use Rattle.store_data.specs.Sequence.{IsPlan, Plan, commands_of, sequence};
+ghost use Rattle.job_core.specs.Facts.{Facts, Session};
+ghost use Rattle.job_core.specs.Handing.{Hands, IsRunning, MayOpen, OpensOrTells, Runs, Went};
+ghost use Rattle.job_core.specs.Rows.{batch_row_of, segment_row, session_row, session_row_of};
+ghost use Rattle.store_data.specs.declared.cursor.Cursor.{Cursor as CursorValue};
+ghost use Rattle.job_core.specs.Sound.{Decides, IsSound, Makes};
+ghost use Rattle.job_core.specs.States.{first_waiting, is_charged, lot_of, plan_for, running_session, session_cursor};
+ghost use Rattle.job_core.specs.Steps.{opened, take_word};
+ghost use Rattle.job_core.specs.Store.{HasCause, Reads, Stays};
+ghost use Rattle.job_core.specs.declared.change.Change.TheVariants.{AddsWord};
+ghost use Rattle.job_core.specs.declared.request.Request.TheVariants as request;
+ghost use Rattle.job_core.specs.declared.rows.SessionRow.{SessionRow as SessionRowValue};
+ghost use Rattle.std.specs.List.{slice_get};
+
+use super::commands::{command, view};
+use super::{Decision, refused};
+use crate::change::Change;
+use crate::facts::{Lot, SessionState};
+use crate::refusal::Refusal;
+use crate::reply::Reply;
+use crate::rows::{BatchRow, SegmentRow, SessionRow};
+use crate::store::{JobStore, StoreFault};
+use std::alloc::Global;
+use store_data::{Bytes, Class, Cursor, Name, class};
+
+/// The decision on giving up a session.
+pub(crate) fn abort<S: JobStore>(
+    store: &mut S,
+    client: &Name,
+    session: u64,
+) -> Result<Decision<'static>, StoreFault>
+    ensures stays { Stays (S.state store.old) (S.state store.new) }
+    ensures value { Reads (S.state store.old) (S.state store.new) result
+        (λ c answer. Decides c.facts client.now (request.Abort session) answer.0 answer.1) }
+    ensures cause { HasCause (S.state store.new) result }
+{
+    let row = store.session(session)?;
+    Ok(abort_by(client, session, row))
+}
+
+// By the session.
+#[tactic(auto, unfolding(crate::specs::Steps::step))]
+fn abort_by(client: &Name, session: u64, row: Option<SessionRow>) -> Decision<'static>
+    ensures { (f : Facts) → IsSound f → row ≡ session_row_of f session → Decides f client.now (request.Abort session) result.0 result.1 }
+{
+    match running(client, session, row) {
+        Err(refusal) => refused(refusal),
+        Ok(_) => (Reply::Spoiled { session }, Change::Ends { session }),
+    }
+}
+
+// The row of a session that is the client's and runs, or the refusal.
+fn running(client: &Name, session: u64, row: Option<SessionRow>) -> Result<SessionRow, Refusal>
+    ensures is { (f : Facts) → row ≡ session_row_of f session → IsRunning f client.now session result }
+    ensures ranged { IfSome row (λ (x : SessionRowValue). IsCursor x.cursor) → IfOk result (λ (x : SessionRowValue). IsCursor x.cursor) }
+{
+    match row {
+        None => Err(Refusal::SessionUnknown),
+        Some(row) if row.machine != *client => Err(Refusal::NotYours),
+        Some(row) if row.stands != SessionState::Running => Err(Refusal::SessionEnded),
+        Some(row) => Ok(row),
+    }
+}
+
+/// The decision on giving up whatever session of the client runs.
+pub(crate) fn reset<S: JobStore>(
+    store: &mut S,
+    client: &Name,
+) -> Result<Decision<'static>, StoreFault>
+    ensures stays { Stays (S.state store.old) (S.state store.new) }
+    ensures value { Reads (S.state store.old) (S.state store.new) result
+        (λ c answer. Decides c.facts client.now request.Reset answer.0 answer.1) }
+    ensures cause { HasCause (S.state store.new) result }
+{
+    let session = store.running_session(client)?;
+    Ok(reset_by(client, session))
+}
+
+// By the running session.
+#[tactic(auto, unfolding(crate::specs::Steps::step))]
+fn reset_by(client: &Name, session: Option<u64>) -> Decision<'static>
+    ensures { (f : Facts) → IsSound f → session ≡ running_session f client.now → Decides f client.now request.Reset result.0 result.1 }
+{
+    match session {
+        None => (Reply::Reset { session: 0 }, Change::Nothing),
+        Some(session) => (Reply::Reset { session }, Change::Ends { session }),
+    }
+}
+
+#[tactic(auto, unfolding(crate::specs::Steps::step))]
+/// The decision on an opening.
+pub(crate) fn open<S: JobStore>(
+    alloc: Global,
+    store: &mut S,
+    client: &Name,
+    batch: &Name,
+    blank: u64,
+) -> Result<Decision<'static>, StoreFault>
+    ensures stays { Stays (S.state store.old) (S.state store.new) }
+    ensures value { Reads (S.state store.old) (S.state store.new) result
+        (λ c answer. Decides c.facts client.now (request.Open batch.now blank) answer.0 answer.1) }
+    ensures cause { HasCause (S.state store.new) result }
+{
+    let row = store.batch(batch)?;
+    let busy = store.running_session(client)?;
+    let lot = store.lot_of(blank)?;
+    let charged = store.is_charged(blank)?;
+    let waiting = store.first_waiting(batch)?;
+    let sessions = store.counts()?.sessions;
+    match to_open(client, batch, blank, row, busy, lot, charged, waiting) {
+        Err(reply) => Ok((reply, Change::Nothing)),
+        Ok(rec) => opening(alloc, store, client, batch, blank, rec, sessions + 1),
+    }
+}
+
+// The record that is opened, or the reply in place of that: by the batch, the client's running session, the blank's lot and
+// charge, and the first waiting record.
+fn to_open(
+    client: &Name,
+    batch: &Name,
+    blank: u64,
+    row: Option<BatchRow>,
+    busy: Option<u64>,
+    lot: Option<Lot>,
+    charged: bool,
+    waiting: Option<Name>,
+) -> Result<Name, Reply>
+    ensures { (f : Facts) → row ≡ batch_row_of f batch.now → busy ≡ running_session f client.now → lot ≡ lot_of f.lots blank
+        → charged ≡ is_charged f blank → waiting ≡ first_waiting f batch.now → OpensOrTells f client.now batch.now blank result }
+{
+    let refusal = match row {
+        None => Refusal::BatchUnknown,
+        Some(row) if row.is_closed => Refusal::BatchClosed,
+        Some(row) => match busy {
+            Some(session) => return Err(Reply::Busy { session }),
+            None => match lot {
+                None => Refusal::BlankUnknown,
+                Some(lot) if lot.product != row.product => Refusal::BlankOfOtherProduct,
+                Some(_) if charged => Refusal::BlankUsed,
+                Some(_) => match waiting {
+                    None => Refusal::NothingWaiting,
+                    Some(rec) => return Ok(rec),
+                },
+            },
+        },
+    };
+    Err(Reply::Refused { refusal })
+}
+
+// The record is opened, with its first command.
+fn opening<S: JobStore>(
+    alloc: Global,
+    store: &mut S,
+    client: &Name,
+    batch: &Name,
+    blank: u64,
+    rec: Name,
+    session: u64,
+) -> Result<Decision<'static>, StoreFault>
+    ensures stays { Stays (S.state store.old) (S.state store.new) }
+    ensures value { Reads (S.state store.old) (S.state store.new) result
+        (λ c answer. MayOpen c.facts client.now batch.now blank rec → session ≡ length c.facts.sessions + 1
+        → Makes c.facts (opened c.facts client.now batch.now blank rec) answer.0 answer.1) }
+    ensures cause { HasCause (S.state store.new) result }
+{
+    let command = command(alloc, store, batch, &rec, &Cursor::start())?;
+    Ok(opened(alloc, client, batch, blank, rec, session, command))
+}
+
+// A record is opened, and its first command handed out.
+fn opened(
+    alloc: Global,
+    client: &Name,
+    batch: &Name,
+    blank: u64,
+    rec: Name,
+    session: u64,
+    command: Option<Bytes>,
+) -> Decision<'static>
+    ensures { (f : Facts) (plan : Plan) → IsSound f → MayOpen f client.now batch.now blank rec → session ≡ length f.sessions + 1
+        → plan_for f batch.now rec ≡ Some plan → command ≡ slice_get (sequence plan) 0
+        → Makes f (opened f client.now batch.now blank rec) result.0 result.1 }
+{
+    let _is_name = client.bytes();
+    let (batch, machine) = (*batch, *client);
+    let command = bytes_or_none(alloc, command);
+    let reply = Reply::Opened {
+        batch,
+        blank,
+        command,
+        rec,
+        session,
+    };
+    let change = Change::Opens {
+        machine,
+        batch,
+        rec,
+        blank,
+    };
+    (reply, change)
+}
+
+fn bytes_or_none(alloc: Global, command: Option<Bytes>) -> Bytes
+    ensures { result ≡ unwrap_or command [] }
+{
+    match command {
+        None => Bytes::from_vec(Vec::new(alloc)),
+        Some(command) => command,
+    }
+}
+
+#[tactic(auto, unfolding(crate::specs::Steps::step))]
+/// The decision on a status word.
+pub(crate) fn answer<S: JobStore>(
+    alloc: Global,
+    store: &mut S,
+    client: &Name,
+    session: u64,
+    index: u32,
+    sw: u16,
+) -> Result<Decision<'static>, StoreFault>
+    ensures stays { Stays (S.state store.old) (S.state store.new) }
+    ensures value { Reads (S.state store.old) (S.state store.new) result
+        (λ c answer. Decides c.facts client.now (request.Answer session index sw) answer.0 answer.1) }
+    ensures cause { HasCause (S.state store.new) result }
+{
+    let row = match running(client, session, store.session(session)?) {
+        Err(refusal) => return Ok(refused(refusal)),
+        Ok(row) => row,
+    };
+    if row.words != u64::from(index) {
+        return Ok(refused(Refusal::OutOfTurn));
+    }
+    taking_word(alloc, store, session, &row, index, sw)
+}
+
+// The word is added to a running session, whose next command it is for.
+fn taking_word<S: JobStore>(
+    alloc: Global,
+    store: &mut S,
+    session: u64,
+    row: &SessionRow,
+    index: u32,
+    sw: u16,
+) -> Result<Decision<'static>, StoreFault>
+    requires { IsCursor row.now.cursor }
+    ensures stays { Stays (S.state store.old) (S.state store.new) }
+    ensures value { Reads (S.state store.old) (S.state store.new) result
+        (λ c answer. (x : Session) (plan : Plan) → Runs c.facts session x plan → row.now ≡ session_row c.facts x → index ≡ length x.words
+        → Makes c.facts (take_word c.facts session index sw x) answer.0 answer.1) }
+    ensures cause { HasCause (S.state store.new) result }
+{
+    let segment = store.segment(&row.batch, &row.rec, row.cursor.app, row.cursor.segment)?;
+    let next = after_word(&row.cursor, segment, sw);
+    let command = next_command(alloc, store, row, &next)?;
+    Ok(took_word(session, index, sw, row.cursor, next, command))
+}
+
+// The command at the next cursor, if there is one.
+fn next_command<S: JobStore>(
+    alloc: Global,
+    store: &mut S,
+    row: &SessionRow,
+    next: &Option<Cursor>,
+) -> Result<Option<Bytes>, StoreFault>
+    ensures stays { Stays (S.state store.old) (S.state store.new) }
+    ensures value { Reads (S.state store.old) (S.state store.new) result
+        (λ c answer. (plan : Plan) (k : ℕ) → plan_for c.facts row.now.batch row.now.rec ≡ Some plan → IsPlan plan
+        → IfSome next.now (λ (cursor : CursorValue). cursor_at plan (k + 1) ≡ Some cursor) → Hands plan k next.now answer) }
+    ensures cause { HasCause (S.state store.new) result }
+{
+    match next {
+        None => Ok(None),
+        Some(next) => command(alloc, store, &row.batch, &row.rec, next),
+    }
+}
+
+// Where the card stands after this word for the command at the cursor, if it goes.
+fn after_word(cursor: &Cursor, segment: Option<SegmentRow>, sw: u16) -> Option<Cursor>
+    requires { IsCursor cursor.now }
+    ensures { (plan : Plan) (k : ℕ) → IsPlan plan → cursor_at plan k ≡ Some cursor.now → k < length (commands_of plan)
+        → segment ≡ option_map (segment_row plan) (segment_at plan cursor.now.app cursor.now.segment) → Went plan k sw result }
+{
+    let segment = segment?;
+    let view = view(&segment);
+    let tolerated = segment.tol && cursor.at_end(&view, segment.max);
+    match class(sw, tolerated) {
+        Class::Stop => None,
+        Class::Go => {
+            let mut next = *cursor;
+            next.step_from(&view, segment.max);
+            Some(next)
+        }
+    }
+}
+
+// A word is added: the session is spoiled, goes on with its next command, or is good.
+fn took_word(
+    session: u64,
+    index: u32,
+    sw: u16,
+    cursor: Cursor,
+    next: Option<Cursor>,
+    command: Option<Bytes>,
+) -> Decision<'static>
+    ensures { (f : Facts) (x : Session) (plan : Plan) → IsSound f → Runs f session x plan → index ≡ length x.words → cursor ≡ session_cursor f x
+        → Went plan index sw next → Hands plan index next command → Makes f (take_word f session index sw x) result.0 result.1 }
+{
+    let Some(next) = next else {
+        let stands = SessionState::Spoiled;
+        return word(session, sw, Reply::Spoiled { session }, stands, cursor);
+    };
+    match command {
+        None => word(
+            session,
+            sw,
+            Reply::Good { session },
+            SessionState::Good,
+            next,
+        ),
+        Some(command) => {
+            let index = u64::from(index) + 1;
+            let reply = Reply::Next {
+                command,
+                index,
+                session,
+            };
+            word(session, sw, reply, SessionState::Running, next)
+        }
+    }
+}
+
+fn word(
+    session: u64,
+    sw: u16,
+    reply: Reply,
+    stands: SessionState,
+    cursor: Cursor,
+) -> Decision<'static>
+    ensures { result ≡ (reply, AddsWord session sw stands cursor) }
+{
+    let change = Change::AddsWord {
+        session,
+        sw,
+        stands,
+        cursor,
+    };
+    (reply, change)
+}

@@ -1,0 +1,22 @@
+//! The plain job machine: requests, what they do to the facts of batches, cards and blanks, and what a store of those promises.
+#![tactic(auto)]
+
+mod change;
+mod decision;
+mod facts;
+mod refusal;
+mod reply;
+mod request;
+mod rows;
+mod store;
+
+pub use change::Change;
+pub use decision::decide;
+pub use facts::{Lot, RecordState, SessionState};
+pub use refusal::Refusal;
+pub use reply::{Made, Reply};
+pub use request::Request;
+pub use rows::{
+    BatchRow, BatchTotals, BlankTotals, Counts, KeptReply, RecordLine, SegmentRow, SessionRow,
+};
+pub use store::{JobStore, StoreFault};
