@@ -1,0 +1,7 @@
+pub mod PlanLemmas
+pub mod CursorLemmas
+pub mod RecordLemmas
+pub mod SessionLemmas
+pub mod AccountLemmas
+pub mod ChangeLemmas
+pub mod StoreLemmas

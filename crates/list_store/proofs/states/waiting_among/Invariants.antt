@@ -1,0 +1,9 @@
+use Rattle.std.proofs.Common.{◌≡◌, drop}
+use Rattle.std.specs.Prelude.{find}
+use Rattle.job_core.specs.States.{is_waiting, record_state}
+use Rattle.list_store.proofs.states.waiting_among.Given as goal
+
+-- none so far waits
+abbrev pub invariant-loop-rec : goal.invariant-loop-rec
+invariant-loop-rec l =
+    find (λ r. is_waiting (record_state l.facts l.batch r)) (drop l.rec-index l.names) ≡ find (λ r. is_waiting (record_state l.facts l.batch r)) l.names

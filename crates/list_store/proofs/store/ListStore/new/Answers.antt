@@ -1,0 +1,6 @@
+use Rattle.std.proofs.Common.{rules}
+use Rattle.list_store.proofs.StoreLemmas.{nothing_sound}
+use Rattle.list_store.proofs.store.ListStore.new.Goals as goal
+
+pub returns : goal.returns
+returns c = (search rules, nothing_sound)

@@ -1,0 +1,19 @@
+-- What the lists stand for.
+use Rattle.std.specs.Prelude.{◌≡◌}
+use Rattle.job_core.specs.Store.{AreSound, Contents, State}
+use Rattle.list_store.specs.declared.store.ListStore.{ListStore}
+
+abbrev pub contents : ListStore → Contents
+contents s = record { facts = s.facts; kept = s.kept.items }
+
+-- Without a device, a crash finds what is there.
+abbrev pub state_of : Contents → State
+state_of c = record {
+  holds = λ d. (c ≡ d) × AreSound d;
+  doubts = 0;
+  faults = 0;
+  may_leave = λ d. d ≡ c;
+}
+
+abbrev pub state : ListStore → State
+state s = state_of (contents s)

@@ -1,0 +1,33 @@
+-- The plan of a session's record.
+use Rattle.std.specs.Prelude.{◌&&◌, ℕ, List, [], Option, bytes_eq, filter, find, option_map, unwrap_or}
+use Rattle.store_data.specs.declared.cursor.Cursor.{Cursor}
+use Rattle.store_data.specs.Cursor.{cursor_at, select_cursor}
+use Rattle.store_data.specs.Sequence.{Plan, commands_of}
+use Rattle.job_core.specs.declared.facts.Lot.{Lot}
+use Rattle.job_core.specs.Facts.{Facts, Session}
+use Rattle.job_core.specs.States.{going, is_running, numbered, plan_for, session_state}
+
+-- a plan without an application
+abbrev pub no_plan : Plan
+no_plan = record { max = 16; low = 0; applications = [] }
+
+-- the plan of a session's record, or one without commands
+abbrev pub plan_of_session : Facts → Session → Plan
+plan_of_session f s = unwrap_or (plan_for f s.batch s.rec) no_plan
+
+-- the cursor of a plan after the words that go
+abbrev pub cursor_after : Plan → Session → Cursor
+cursor_after plan s = unwrap_or (cursor_at plan (going (commands_of plan) s.words)) (select_cursor 0)
+
+-- the number of the first of these sessions that runs on a machine, the first having this number
+abbrev pub running_from : Facts → List ℕ → ℕ → List Session → Option ℕ
+running_from f machine n sessions =
+    option_map (λ (e : ℕ × Session). e.0) (find (λ (e : ℕ × Session). bytes_eq e.1.machine machine && is_running (session_state f e.1)) (numbered n sessions))
+
+-- those of the sessions that are of a record
+abbrev pub sessions_of_record : List Session → List ℕ → List ℕ → List Session
+sessions_of_record sessions b r = filter (λ (s : Session). bytes_eq s.batch b && bytes_eq s.rec r) sessions
+
+-- those of the lots that are of a product
+abbrev pub lots_for : List Lot → List ℕ → List Lot
+lots_for lots p = filter (λ (l : Lot). bytes_eq l.product p) lots

@@ -1,0 +1,288 @@
+//! The accounts of batches, records and blanks.
+ghost use Rattle.std.specs.Prelude.{◌≡◌, ◌∷◌, ◌&&◌, IfErr, IfOk, bytes_eq, count_by, filter, find, length, map, option_map, sum_by};
+ghost use Rattle.job_core.specs.declared.store.StoreFault.TheVariants.{Memory};
+ghost use Rattle.job_core.specs.declared.facts.Lot.{Lot as LotValue};
+ghost use Rattle.job_core.specs.Accounts.{batch_totals, blank_states, blank_totals, is_blank_of, is_failed_record, is_good_record, is_lot_of, is_running_record, is_withdrawn_record, record_line, record_line_at, record_states, session_states};
+ghost use Rattle.job_core.specs.Facts.{Session};
+ghost use Rattle.job_core.specs.States.{is_good, is_running, is_spoiled, is_waiting, lot_of, record_state, session_state};
+ghost use Rattle.list_store.specs.Sessions.{lots_for, sessions_of_record};
+
+use crate::blanks::lot_of;
+use crate::lists::{FactLists, KeptSession};
+use crate::records::record_names;
+use crate::sessions::session_state;
+use crate::states::{count_spoiled, record_state, states_among};
+use job_core::{BatchTotals, BlankTotals, Lot, RecordLine, RecordState, SessionState, StoreFault};
+use std::alloc::Global;
+use store_data::Name;
+
+// ---- a batch
+
+// The states of these records.
+fn record_states(
+    alloc: Global,
+    facts: &FactLists,
+    batch: &Name,
+    names: &[Name],
+) -> Result<Vec<RecordState>, StoreFault>
+    ensures value { IfOk result (λ states. states.items ≡ map (record_state facts.now batch.now) names.now) }
+    ensures cause { IfErr result (λ fault. fault ≡ Memory) }
+{
+    let mut states = Vec::new(alloc);
+    for rec in names {
+        states.push(record_state(alloc, facts, batch, rec)?)?;
+    }
+    Ok(states)
+}
+
+// The states of a batch's sessions among these.
+fn session_states(
+    alloc: Global,
+    facts: &FactLists,
+    sessions: &[KeptSession],
+    batch: &Name,
+) -> Result<Vec<SessionState>, StoreFault>
+    ensures value { IfOk result (λ states. states.items
+        ≡ map (session_state facts.now) (filter (λ (s : Session). bytes_eq s.batch batch.now) sessions.now)) }
+    ensures cause { IfErr result (λ fault. fault ≡ Memory) }
+{
+    let mut states = Vec::new(alloc);
+    for session in sessions {
+        if session.batch == *batch {
+            states.push(session_state(alloc, facts, session)?)?;
+        }
+    }
+    Ok(states)
+}
+
+fn count_waiting(states: &[RecordState]) -> u64
+    ensures { result ≡ count_by is_waiting states.now }
+{
+    states
+        .iter()
+        .filter(|state| matches!(state, RecordState::Waiting))
+        .count() as u64
+}
+
+fn count_running(states: &[RecordState]) -> u64
+    ensures { result ≡ count_by is_running_record states.now }
+{
+    states
+        .iter()
+        .filter(|state| matches!(state, RecordState::Running))
+        .count() as u64
+}
+
+fn count_failed(states: &[RecordState]) -> u64
+    ensures { result ≡ count_by is_failed_record states.now }
+{
+    states
+        .iter()
+        .filter(|state| matches!(state, RecordState::Failed))
+        .count() as u64
+}
+
+fn count_withdrawn(states: &[RecordState]) -> u64
+    ensures { result ≡ count_by is_withdrawn_record states.now }
+{
+    states
+        .iter()
+        .filter(|state| matches!(state, RecordState::Withdrawn))
+        .count() as u64
+}
+
+fn count_good(states: &[RecordState]) -> u64
+    ensures { result ≡ count_by is_good_record states.now }
+{
+    states
+        .iter()
+        .filter(|state| matches!(state, RecordState::Good))
+        .count() as u64
+}
+
+fn count_good_sessions(states: &[SessionState]) -> u64
+    ensures { result ≡ count_by is_good states.now }
+{
+    states
+        .iter()
+        .filter(|state| matches!(state, SessionState::Good))
+        .count() as u64
+}
+
+fn count_running_sessions(states: &[SessionState]) -> u64
+    ensures { result ≡ count_by is_running states.now }
+{
+    states
+        .iter()
+        .filter(|state| matches!(state, SessionState::Running))
+        .count() as u64
+}
+
+/// How a batch stands.
+#[tactic(auto, unfolding(job_core::specs::Accounts::batch_totals, job_core::specs::Accounts::record_states, job_core::specs::Accounts::session_states))]
+pub(crate) fn batch_totals(
+    alloc: Global,
+    facts: &FactLists,
+    batch: &Name,
+) -> Result<BatchTotals, StoreFault>
+    ensures value { IfOk result (λ totals. totals ≡ batch_totals facts.now batch.now) }
+    ensures cause { IfErr result (λ fault. fault ≡ Memory) }
+{
+    let names = record_names(alloc, facts, batch)?;
+    let records = record_states(alloc, facts, batch, &names)?;
+    let sessions = session_states(alloc, facts, &facts.sessions, batch)?;
+    Ok(BatchTotals {
+        records: records.len() as u64,
+        waiting: count_waiting(&records),
+        running: count_running(&records),
+        failed: count_failed(&records),
+        withdrawn: count_withdrawn(&records),
+        good: count_good(&records),
+        sessions: sessions.len() as u64,
+        spoiled: count_spoiled(&sessions),
+    })
+}
+
+// ---- a record
+
+// The blank of a record's first good session among these.
+fn good_blank(
+    alloc: Global,
+    facts: &FactLists,
+    sessions: &[KeptSession],
+    batch: &Name,
+    rec: &Name,
+) -> Result<Option<u64>, StoreFault>
+    ensures value { IfOk result (λ blank. blank
+        ≡ option_map (λ (s : Session). s.blank) (find (λ s. is_good (session_state facts.now s)) (sessions_of_record sessions.now batch.now rec.now))) }
+    ensures cause { IfErr result (λ fault. fault ≡ Memory) }
+{
+    for session in sessions {
+        if session.batch == *batch
+            && session.rec == *rec
+            && session_state(alloc, facts, session)? == SessionState::Good
+        {
+            return Ok(Some(session.blank));
+        }
+    }
+    Ok(None)
+}
+
+fn record_line(
+    alloc: Global,
+    facts: &FactLists,
+    batch: &Name,
+    rec: &Name,
+) -> Result<RecordLine, StoreFault>
+    ensures value { IfOk result (λ line. line ≡ record_line facts.now batch.now rec.now) }
+    ensures cause { IfErr result (λ fault. fault ≡ Memory) }
+{
+    let states = states_among(alloc, facts, &facts.sessions, batch, rec)?;
+    Ok(RecordLine {
+        rec: *rec,
+        stands: record_state(alloc, facts, batch, rec)?,
+        sessions: states.len() as u64,
+        blank: good_blank(alloc, facts, &facts.sessions, batch, rec)?,
+    })
+}
+
+/// How the record at a place of a batch stands, from 0, if the batch has as many.
+#[tactic(auto, unfolding(job_core::specs::Accounts::record_line_at))]
+pub(crate) fn record_line_at(
+    alloc: Global,
+    facts: &FactLists,
+    batch: &Name,
+    place: u32,
+) -> Result<Option<RecordLine>, StoreFault>
+    ensures value { IfOk result (λ line. line ≡ record_line_at facts.now batch.now place) }
+    ensures cause { IfErr result (λ fault. fault ≡ Memory) }
+{
+    let names = record_names(alloc, facts, batch)?;
+    match names.get(place as usize) {
+        None => Ok(None),
+        Some(rec) => Ok(Some(record_line(alloc, facts, batch, rec)?)),
+    }
+}
+
+// ---- a product's blanks
+
+fn is_blank_of(lots: &[Lot], product: &Name, blank: u64) -> bool
+    ensures { result ≡ is_lot_of product.now (lot_of lots.now blank) }
+{
+    match lot_of(lots, blank) {
+        None => false,
+        Some(lot) => lot.product == *product,
+    }
+}
+
+// The states of those of these sessions that are on a product's blanks.
+fn blank_states(
+    alloc: Global,
+    facts: &FactLists,
+    sessions: &[KeptSession],
+    product: &Name,
+) -> Result<Vec<SessionState>, StoreFault>
+    ensures value { IfOk result (λ states. states.items
+        ≡ map (session_state facts.now) (filter (λ (s : Session). is_blank_of facts.now product.now s.blank) sessions.now)) }
+    ensures cause { IfErr result (λ fault. fault ≡ Memory) }
+{
+    let mut states = Vec::new(alloc);
+    for session in sessions {
+        if is_blank_of(&facts.lots, product, session.blank) {
+            states.push(session_state(alloc, facts, session)?)?;
+        }
+    }
+    Ok(states)
+}
+
+fn count_discarded(lots: &[Lot], product: &Name, discarded: &[u64]) -> u64
+    ensures { result ≡ count_by (λ blank. is_lot_of product.now (lot_of lots.now blank)) discarded.now }
+{
+    discarded
+        .iter()
+        .filter(|blank| is_blank_of(lots, product, **blank))
+        .count() as u64
+}
+
+fn count_lots(lots: &[Lot], product: &Name) -> u64
+    ensures { result ≡ length (lots_for lots.now product.now) }
+{
+    lots.iter().filter(|lot| lot.product == *product).count() as u64
+}
+
+// How many blanks a product's lots have. A sum past 64 bits is told as refused memory: sound facts have none.
+fn sum_lots(lots: &[Lot], product: &Name) -> Result<u64, StoreFault>
+    ensures value { IfOk result (λ total. total ≡ sum_by (λ (l : LotValue). l.count) (lots_for lots.now product.now)) }
+    ensures cause { IfErr result (λ fault. fault ≡ Memory) }
+{
+    let mut total: u64 = 0;
+    for lot in lots {
+        if lot.product == *product {
+            total = total
+                .checked_add(u64::from(lot.count))
+                .ok_or(StoreFault::Memory)?;
+        }
+    }
+    Ok(total)
+}
+
+/// How a product's blanks stand.
+#[tactic(auto, unfolding(job_core::specs::Accounts::blank_totals, job_core::specs::Accounts::blank_states))]
+pub(crate) fn blank_totals(
+    alloc: Global,
+    facts: &FactLists,
+    product: &Name,
+) -> Result<BlankTotals, StoreFault>
+    ensures value { IfOk result (λ totals. totals ≡ blank_totals facts.now product.now) }
+    ensures cause { IfErr result (λ fault. fault ≡ Memory) }
+{
+    let states = blank_states(alloc, facts, &facts.sessions, product)?;
+    Ok(BlankTotals {
+        lots: count_lots(&facts.lots, product),
+        total: sum_lots(&facts.lots, product)?,
+        good: count_good_sessions(&states),
+        running: count_running_sessions(&states),
+        spoiled: count_spoiled(&states),
+        discarded: count_discarded(&facts.lots, product, &facts.discarded),
+    })
+}

@@ -1,0 +1,97 @@
+//! Facts with one change more.
+ghost use Rattle.std.specs.Prelude.{◌≡◌, IfErr, IfOk, Ok, OnErr, OnOk};
+ghost use Rattle.job_core.specs.declared.store.StoreFault.TheVariants.{Memory};
+ghost use Rattle.store_data.specs.Sequence.{IsProduct};
+ghost use Rattle.job_core.specs.Facts.{at_session, ended, new_session, worded};
+ghost use Rattle.job_core.specs.Sound.{changed};
+
+use crate::kept::copied;
+use crate::lists::{FactLists, KeptBatch, KeptRecord, KeptSession, KnownProduct};
+use job_core::{Change, StoreFault};
+use std::alloc::Global;
+use store_data::{Name, Product};
+
+/// Makes a change, or leaves the facts.
+pub(crate) fn change_facts(
+    alloc: Global,
+    facts: &mut FactLists,
+    change: &Change<'_>,
+) -> Result<(), StoreFault>
+    ensures ok { OnOk result (facts.new ≡ changed facts.old change.now) }
+    ensures err { OnErr result (facts.new ≡ facts.old) }
+    ensures cause { IfErr result (λ fault. fault ≡ Memory) }
+{
+    match *change {
+        Change::Nothing => (),
+        Change::AddsProduct { product } => facts.products.push(known(product)?)?,
+        Change::AddsLot { lot } => facts.lots.push(lot)?,
+        Change::AddsBatch {
+            batch,
+            product,
+            raw,
+        } => facts.batches.push(KeptBatch {
+            name: batch,
+            product,
+            raw: copied(alloc, raw)?,
+        })?,
+        Change::Opens {
+            machine,
+            batch,
+            rec,
+            blank,
+        } => facts
+            .sessions
+            .push(new_session(alloc, machine, batch, rec, blank))?,
+        Change::AddsWord { session, sw, .. } => add_word(&mut facts.sessions, session, sw)?,
+        Change::Ends { session } => end(&mut facts.sessions, session),
+        Change::Discards { blank } => facts.discarded.push(blank)?,
+        Change::Remakes { batch, rec } => facts.remakes.push(KeptRecord { batch, rec })?,
+        Change::Withdraws { batch, rec } => facts.withdrawn.push(KeptRecord { batch, rec })?,
+        Change::Closes { batch } => facts.closed.push(batch)?,
+    }
+    Ok(())
+}
+
+// A product that a change adds. One out of its ranges is told as refused memory: sound facts have none.
+fn known(product: Product) -> Result<KnownProduct, StoreFault>
+    ensures value { IfOk result (λ known. known ≡ product) }
+    ensures there { IsProduct product → result ≡ Ok product }
+    ensures cause { IfErr result (λ fault. fault ≡ Memory) }
+{
+    KnownProduct::new(product).ok_or(StoreFault::Memory)
+}
+
+// A session without a word.
+fn new_session(alloc: Global, machine: Name, batch: Name, rec: Name, blank: u64) -> KeptSession
+    ensures { result ≡ new_session machine batch rec blank }
+{
+    KeptSession {
+        machine,
+        batch,
+        rec,
+        blank,
+        words: Vec::new(alloc),
+        ended: false,
+    }
+}
+
+// Adds a word to a session.
+fn add_word(sessions: &mut [KeptSession], session: u64, sw: u16) -> Result<(), StoreFault>
+    ensures ok { OnOk result (sessions.new ≡ at_session session (worded sw) sessions.old) }
+    ensures err { OnErr result (sessions.new ≡ sessions.old) }
+    ensures cause { IfErr result (λ fault. fault ≡ Memory) }
+{
+    if session > 0 && session <= sessions.len() as u64 {
+        sessions[(session - 1) as usize].add_word(sw)?;
+    }
+    Ok(())
+}
+
+// Ends a session.
+fn end(sessions: &mut [KeptSession], session: u64)
+    ensures { sessions.new ≡ at_session session ended sessions.old }
+{
+    if session > 0 && session <= sessions.len() as u64 {
+        sessions[(session - 1) as usize].end();
+    }
+}

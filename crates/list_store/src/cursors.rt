@@ -1,0 +1,80 @@
+//! Where a card stands in a plan, and how its words leave its session.
+ghost use Rattle.std.specs.Prelude.{◌≡◌, ◌==◌, IfSome, length, slice_get};
+ghost use Rattle.store_data.specs.Cursor.{IsCursor, cursor_at};
+ghost use Rattle.store_data.specs.Sequence.{IsPlan, commands_of, goes_on};
+ghost use Rattle.job_core.specs.States.{going, is_tolerant, last_stops};
+
+use crate::plans::OpenPlan;
+use store_data::{Class, Cursor, class};
+
+/// The cursor at a command of the plan, or at its end.
+pub(crate) fn cursor_at(plan: &OpenPlan, count: usize) -> Option<Cursor>
+    ensures value { result ≡ cursor_at plan.now count }
+    ensures ranged { IfSome result IsCursor }
+    ensures plan { IsPlan plan.now }
+{
+    let max = plan.max();
+    let mut cursor = Cursor::start();
+    for _place in 0..count {
+        let segment = plan.segment(cursor.app, cursor.segment)?;
+        cursor.step_from(&segment, max);
+    }
+    Some(cursor)
+}
+
+/// Whether the plan has this many commands.
+pub(crate) fn ends_at(plan: &OpenPlan, count: usize) -> bool
+    ensures { result ≡ (count == length (commands_of plan.now)) }
+{
+    match cursor_at(plan, count) {
+        None => false,
+        Some(cursor) => plan.segment(cursor.app, cursor.segment).is_none(),
+    }
+}
+
+// Whether a command of the plan is the last of a tolerant segment.
+fn is_tolerant(plan: &OpenPlan, place: usize) -> bool
+    ensures { result ≡ is_tolerant (slice_get (commands_of plan.now) place) }
+{
+    match cursor_at(plan, place) {
+        None => false,
+        Some(cursor) => match plan.segment(cursor.app, cursor.segment) {
+            None => false,
+            Some(segment) => {
+                let at_end = cursor.at_end(&segment, plan.max());
+                segment.tol && at_end
+            }
+        },
+    }
+}
+
+/// Whether the last of the words does not go.
+pub(crate) fn last_stops(plan: &OpenPlan, words: &[u16]) -> bool
+    ensures { result ≡ last_stops (commands_of plan.now) words.now }
+{
+    if words.is_empty() {
+        return false;
+    }
+    let place = words.len() - 1;
+    !goes_on(words[place], is_tolerant(plan, place))
+}
+
+fn goes_on(sw: u16, is_tolerant: bool) -> bool
+    ensures { result ≡ goes_on sw is_tolerant }
+{
+    match class(sw, is_tolerant) {
+        Class::Go => true,
+        Class::Stop => false,
+    }
+}
+
+/// How many of the words go.
+pub(crate) fn going(plan: &OpenPlan, words: &[u16]) -> usize
+    ensures { result ≡ going (commands_of plan.now) words.now }
+{
+    if last_stops(plan, words) {
+        words.len() - 1
+    } else {
+        words.len()
+    }
+}

@@ -1,0 +1,59 @@
+//! Kept replies.
+ghost use Rattle.std.specs.Prelude.{◌≡◌, IfOk, IfErr, option_map};
+ghost use Rattle.job_core.specs.declared.store.StoreFault.TheVariants.{Memory};
+ghost use Rattle.job_core.specs.Store.{entry_of, reply_of_entry};
+
+use crate::lists::KeptRow;
+use job_core::{KeptReply, StoreFault};
+use std::alloc::Global;
+use store_data::{Bytes, Name};
+
+/// The reply under a number, copied.
+pub(crate) fn reply_of(
+    alloc: Global,
+    rows: &[KeptRow],
+    client: &Name,
+    number: u64,
+) -> Result<Option<KeptReply>, StoreFault>
+    ensures value { IfOk result (λ answer. answer ≡ option_map reply_of_entry (entry_of rows.now client.now number)) }
+    ensures cause { IfErr result (λ fault. fault ≡ Memory) }
+{
+    for row in rows {
+        if row.client == *client && row.number == number {
+            return Ok(Some(KeptReply {
+                ask: copied(alloc, row.ask.as_slice())?,
+                status: row.status,
+                body: copied(alloc, row.body.as_slice())?,
+            }));
+        }
+    }
+    Ok(None)
+}
+
+/// A row of copied bytes.
+pub(crate) fn row(
+    alloc: Global,
+    client: &Name,
+    number: u64,
+    ask: &[u8],
+    status: u16,
+    body: &[u8],
+) -> Result<KeptRow, StoreFault>
+    ensures value { IfOk result (λ row. row ≡ record { client = client.now; number = number; ask = ask.now; status = status; body = body.now }) }
+    ensures cause { IfErr result (λ fault. fault ≡ Memory) }
+{
+    Ok(KeptRow {
+        client: *client,
+        number,
+        ask: copied(alloc, ask)?,
+        status,
+        body: copied(alloc, body)?,
+    })
+}
+
+pub(crate) fn copied(alloc: Global, bytes: &[u8]) -> Result<Bytes, StoreFault>
+    ensures value { IfOk result (λ copy. copy ≡ bytes.now) }
+    ensures cause { IfErr result (λ fault. fault ≡ Memory) }
+{
+    Ok(Bytes::from_vec(bytes.to_vec(alloc)?))
+}

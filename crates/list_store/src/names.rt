@@ -1,0 +1,33 @@
+//! What stands under a name.
+ghost use Rattle.std.specs.Prelude.{◌≡◌, IfSome, option_copied};
+ghost use Rattle.store_data.specs.Sequence.{IsProduct};
+ghost use Rattle.job_core.specs.States.{batch_named, lot_named, product_named};
+
+use crate::lists::{KeptBatch, KnownProduct};
+use job_core::Lot;
+use store_data::{Name, Product};
+
+pub(crate) fn product_named(products: &[KnownProduct], code: &Name) -> Option<Product>
+    ensures value { result ≡ product_named products.now code.now }
+    ensures ranged { IfSome result IsProduct }
+{
+    for known in products {
+        let product = known.product();
+        if product.code == *code {
+            return Some(product);
+        }
+    }
+    None
+}
+
+pub(crate) fn lot_named<'a>(lots: &'a [Lot], name: &Name) -> Option<&'a Lot>
+    ensures { option_copied result ≡ lot_named lots.now name.now }
+{
+    lots.iter().find(|lot| lot.name == *name)
+}
+
+pub(crate) fn batch_named<'a>(batches: &'a [KeptBatch], name: &Name) -> Option<&'a KeptBatch>
+    ensures { option_copied result ≡ batch_named batches.now name.now }
+{
+    batches.iter().find(|batch| batch.name == *name)
+}

@@ -1,0 +1,164 @@
+//! The rows of a batch, its records, and their plans.
+ghost use Rattle.std.specs.Prelude.{◌≡◌, ◌≤◌, ◌∷◌, All, IfErr, IfOk, bytes_eq, length, map};
+ghost use Rattle.std.specs.List.{list_any};
+ghost use Rattle.store_data.specs.Groups.{first_appearances};
+ghost use Rattle.store_data.specs.Sequence.{IsRow};
+ghost use Rattle.store_data.specs.declared.row.Row.{Row as RowValue};
+ghost use Rattle.batch_import.specs.Batch.{records_of_rows};
+ghost use Rattle.job_core.specs.declared.store.StoreFault.TheVariants.{Memory};
+ghost use Rattle.job_core.specs.Rows.{batch_has, batch_row_of};
+ghost use Rattle.job_core.specs.States.{is_closed, plan_for, records_named, records_of, rows_of, rows_of_record};
+
+use crate::lists::{FactLists, KeptBatch};
+use crate::names::{batch_named, product_named};
+use crate::plans::OpenPlan;
+use batch_import::{ImportFault, Totals, check_batch, read_batch};
+use job_core::{BatchRow, StoreFault};
+use std::alloc::Global;
+use store_data::{Name, Row};
+
+// The rows of a batch.
+#[tactic(auto, unfolding(job_core::specs::States::rows_of))]
+fn rows(alloc: Global, facts: &FactLists, batch: &KeptBatch) -> Result<Vec<Row>, StoreFault>
+    ensures value { IfOk result (λ rows. rows.items ≡ rows_of facts.now.products batch.now) }
+    ensures few { IfOk result (λ rows. length rows.items ≤ 4096) }
+    ensures each { IfOk result (λ rows. All IsRow rows.items) }
+    ensures cause { IfErr result (λ fault. fault ≡ Memory) }
+{
+    match product_named(&facts.products, &batch.product) {
+        None => Ok(Vec::new(alloc)),
+        Some(product) => match read_batch(alloc, batch.raw.as_slice(), &product) {
+            Ok(read) => Ok(read.rows),
+            Err(ImportFault::At(_)) => Ok(Vec::new(alloc)),
+            Err(ImportFault::Memory) => Err(StoreFault::Memory),
+        },
+    }
+}
+
+// How many rows and records a batch has.
+#[tactic(auto, unfolding(job_core::specs::States::rows_of, store_data::specs::Groups::grouped))]
+fn totals(alloc: Global, facts: &FactLists, batch: &KeptBatch) -> Result<Totals, StoreFault>
+    ensures rows { IfOk result (λ totals. totals.rows ≡ length (rows_of facts.now.products batch.now)) }
+    ensures records { IfOk result (λ totals. totals.records ≡ length (records_of_rows (rows_of facts.now.products batch.now))) }
+    ensures cause { IfErr result (λ fault. fault ≡ Memory) }
+{
+    let none = Totals {
+        rows: 0,
+        records: 0,
+    };
+    match product_named(&facts.products, &batch.product) {
+        None => Ok(none),
+        Some(product) => match check_batch(alloc, batch.raw.as_slice(), &product) {
+            Ok(totals) => Ok(totals),
+            Err(ImportFault::At(_)) => Ok(none),
+            Err(ImportFault::Memory) => Err(StoreFault::Memory),
+        },
+    }
+}
+
+/// The batch of a name.
+pub(crate) fn batch_row(
+    alloc: Global,
+    facts: &FactLists,
+    name: &Name,
+) -> Result<Option<BatchRow>, StoreFault>
+    ensures value { IfOk result (λ row. row ≡ batch_row_of facts.now name.now) }
+    ensures cause { IfErr result (λ fault. fault ≡ Memory) }
+{
+    match batch_named(&facts.batches, name) {
+        None => Ok(None),
+        Some(batch) => {
+            let totals = totals(alloc, facts, batch)?;
+            Ok(Some(BatchRow {
+                product: batch.product,
+                is_closed: has_name(&facts.closed, name),
+                rows: totals.rows,
+                records: totals.records,
+            }))
+        }
+    }
+}
+
+/// Whether the batch of a name has these bytes.
+pub(crate) fn batch_has(facts: &FactLists, name: &Name, raw: &[u8]) -> bool
+    ensures { result ≡ batch_has facts.now name.now raw.now }
+{
+    match batch_named(&facts.batches, name) {
+        None => false,
+        Some(batch) => batch.raw.as_slice() == raw,
+    }
+}
+
+// The rows of one record.
+fn rows_of_record(alloc: Global, rows: Vec<Row>, rec: &Name) -> Result<Vec<Row>, StoreFault>
+    ensures value { IfOk result (λ kept. kept.items ≡ rows_of_record rows.items rec.now) }
+    ensures cause { IfErr result (λ fault. fault ≡ Memory) }
+{
+    let mut kept = Vec::new(alloc);
+    for row in rows {
+        if row.rec == *rec {
+            kept.push(row)?;
+        }
+    }
+    Ok(kept)
+}
+
+/// The plan of a record, if its batch and product are there.
+#[tactic(auto, unfolding(job_core::specs::States::plan_for))]
+pub(crate) fn record_plan(
+    alloc: Global,
+    facts: &FactLists,
+    batch: &Name,
+    rec: &Name,
+) -> Result<Option<OpenPlan>, StoreFault>
+    ensures value { IfOk result (λ plan. plan ≡ plan_for facts.now batch.now rec.now) }
+    ensures cause { IfErr result (λ fault. fault ≡ Memory) }
+{
+    let Some(kept) = batch_named(&facts.batches, batch) else {
+        return Ok(None);
+    };
+    match product_named(&facts.products, &kept.product) {
+        None => Ok(None),
+        Some(product) => {
+            let rows = rows_of_record(alloc, rows(alloc, facts, kept)?, rec)?;
+            Ok(Some(OpenPlan::new(alloc, rows.as_slice(), &product)?))
+        }
+    }
+}
+
+// The records of these rows, by first appearance.
+fn names(alloc: Global, rows: &[Row]) -> Result<Vec<Name>, StoreFault>
+    ensures value { IfOk result (λ names. names.items ≡ first_appearances (map (λ (row : RowValue). row.rec) rows.now)) }
+    ensures cause { IfErr result (λ fault. fault ≡ Memory) }
+{
+    let mut names = Vec::new(alloc);
+    for row in rows {
+        if !has_name(&names, &row.rec) {
+            names.push(row.rec)?;
+        }
+    }
+    Ok(names)
+}
+
+/// Whether a name is among these.
+pub(crate) fn has_name(names: &[Name], name: &Name) -> bool
+    ensures { result ≡ list_any (bytes_eq name.now) names.now }
+{
+    names.iter().any(|other| *name == *other)
+}
+
+/// The records of the batch of a name, in file order.
+#[tactic(auto, unfolding(job_core::specs::States::records_of))]
+pub(crate) fn record_names(
+    alloc: Global,
+    facts: &FactLists,
+    batch: &Name,
+) -> Result<Vec<Name>, StoreFault>
+    ensures value { IfOk result (λ names. names.items ≡ records_named facts.now batch.now) }
+    ensures cause { IfErr result (λ fault. fault ≡ Memory) }
+{
+    match batch_named(&facts.batches, batch) {
+        None => Ok(Vec::new(alloc)),
+        Some(kept) => names(alloc, rows(alloc, facts, kept)?.as_slice()),
+    }
+}

@@ -1,0 +1,58 @@
+//! The segments of a record's plan.
+ghost use Rattle.std.specs.Prelude.{◌≡◌, ◌≤◌, IfErr, IfOk, IfSome, length};
+ghost use Rattle.job_core.specs.declared.rows.SegmentRow.{SegmentRow as SegmentRowValue};
+ghost use Rattle.job_core.specs.declared.store.StoreFault.TheVariants.{Memory};
+ghost use Rattle.job_core.specs.Rows.{segment_row, segment_row_of};
+ghost use Rattle.store_data.specs.Cursor.{shown};
+
+use crate::kept::copied;
+use crate::lists::FactLists;
+use crate::plans::OpenPlan;
+use crate::records::record_plan;
+use job_core::{SegmentRow, StoreFault};
+use std::alloc::Global;
+use store_data::{Aid, Name, SegmentView};
+
+/// A segment of a record, if the record has it.
+pub(crate) fn segment_row_of(
+    alloc: Global,
+    facts: &FactLists,
+    batch: &Name,
+    rec: &Name,
+    app: u16,
+    segment: u16,
+) -> Result<Option<SegmentRow>, StoreFault>
+    ensures value { IfOk result (λ row. row ≡ segment_row_of facts.now batch.now rec.now app segment) }
+    ensures ranged { IfOk result (λ row. IfSome row (λ (row : SegmentRowValue). row.low ≤ 31)) }
+    ensures cause { IfErr result (λ fault. fault ≡ Memory) }
+{
+    let Some(plan) = record_plan(alloc, facts, batch, rec)? else {
+        return Ok(None);
+    };
+    match plan.segment(app, segment) {
+        None => Ok(None),
+        Some(view) => Ok(Some(segment_row(alloc, &plan, &view)?)),
+    }
+}
+
+fn segment_row(
+    alloc: Global,
+    plan: &OpenPlan,
+    view: &SegmentView<'_>,
+) -> Result<SegmentRow, StoreFault>
+    requires least { 5 ≤ length view.now.aid.now }
+    requires most { length view.now.aid.now ≤ 16 }
+    ensures value { IfOk result (λ row. row ≡ segment_row plan.now (shown view.now)) }
+    ensures ranged { IfOk result (λ (row : SegmentRowValue). row.low ≤ 31) }
+    ensures cause { IfErr result (λ fault. fault ≡ Memory) }
+{
+    Ok(SegmentRow {
+        aid: Aid::new(view.aid),
+        bytes: copied(alloc, view.bytes)?,
+        enc: view.enc,
+        tol: view.tol,
+        last: view.last,
+        max: plan.max(),
+        low: plan.low(),
+    })
+}

@@ -1,0 +1,168 @@
+//! Sessions, and how they stand by their words.
+ghost use Rattle.std.specs.Prelude.{◌≡◌, ◌∷◌, IfErr, IfOk, IfSome, length, option_copied};
+ghost use Rattle.store_data.specs.Cursor.{IsCursor};
+ghost use Rattle.store_data.specs.Sequence.{commands_of};
+ghost use Rattle.job_core.specs.declared.rows.SessionRow.{SessionRow as SessionRowValue};
+ghost use Rattle.job_core.specs.declared.store.StoreFault.TheVariants.{Memory};
+ghost use Rattle.job_core.specs.Rows.{session_row, session_row_of};
+ghost use Rattle.job_core.specs.States.{running_session, session_cursor, session_numbered, session_state, state_with};
+ghost use Rattle.list_store.specs.Sessions.{cursor_after, plan_of_session, running_from};
+
+use crate::cursors::{cursor_at, ends_at, going, last_stops};
+use crate::lists::{FactLists, KeptSession};
+use crate::plans::OpenPlan;
+use crate::records::record_plan;
+use job_core::{SessionRow, SessionState, StoreFault};
+use std::alloc::Global;
+use store_data::{Cursor, Name};
+
+/// The session of a number, from 1.
+pub(crate) fn session_numbered(sessions: &[KeptSession], number: u64) -> Option<&KeptSession>
+    ensures { option_copied result ≡ session_numbered sessions.now number }
+{
+    if number == 0 {
+        return None;
+    }
+    sessions.get((number - 1) as usize)
+}
+
+// The state of a session whose record has this plan.
+fn state_under(plan: &OpenPlan, session: &KeptSession) -> SessionState
+    ensures { result ≡ state_with (commands_of plan.now) session.now }
+{
+    if session.ended || last_stops(plan, &session.words) {
+        SessionState::Spoiled
+    } else if ends_at(plan, session.words.len()) {
+        SessionState::Good
+    } else {
+        SessionState::Running
+    }
+}
+
+// Where the card of a session stands whose record has this plan.
+fn cursor_under(plan: &OpenPlan, session: &KeptSession) -> Cursor
+    ensures value { result ≡ cursor_after plan.now session.now }
+    ensures ranged { IsCursor result }
+{
+    match cursor_at(plan, going(plan, &session.words)) {
+        None => Cursor {
+            app: 0,
+            segment: 0,
+            offset: 0,
+            block: 0,
+        },
+        Some(cursor) => cursor,
+    }
+}
+
+// The plan of a session's record, or one without commands.
+fn plan_of_session(
+    alloc: Global,
+    facts: &FactLists,
+    session: &KeptSession,
+) -> Result<OpenPlan, StoreFault>
+    ensures value { IfOk result (λ plan. plan ≡ plan_of_session facts.now session.now) }
+    ensures cause { IfErr result (λ fault. fault ≡ Memory) }
+{
+    match record_plan(alloc, facts, &session.batch, &session.rec)? {
+        None => Ok(OpenPlan::empty(alloc)),
+        Some(plan) => Ok(plan),
+    }
+}
+
+/// The state of a session.
+#[tactic(auto, using(crate::proofs::SessionLemmas::state_under_plan))]
+pub(crate) fn session_state(
+    alloc: Global,
+    facts: &FactLists,
+    session: &KeptSession,
+) -> Result<SessionState, StoreFault>
+    ensures value { IfOk result (λ state. state ≡ session_state facts.now session.now) }
+    ensures cause { IfErr result (λ fault. fault ≡ Memory) }
+{
+    let plan = plan_of_session(alloc, facts, session)?;
+    Ok(state_under(&plan, session))
+}
+
+// Where the card of a session stands.
+#[tactic(auto, using(crate::proofs::SessionLemmas::cursor_under_plan))]
+fn session_cursor(
+    alloc: Global,
+    facts: &FactLists,
+    session: &KeptSession,
+) -> Result<Cursor, StoreFault>
+    ensures value { IfOk result (λ cursor. cursor ≡ session_cursor facts.now session.now) }
+    ensures ranged { IfOk result IsCursor }
+    ensures cause { IfErr result (λ fault. fault ≡ Memory) }
+{
+    let plan = plan_of_session(alloc, facts, session)?;
+    Ok(cursor_under(&plan, session))
+}
+
+fn session_row(
+    alloc: Global,
+    facts: &FactLists,
+    session: &KeptSession,
+) -> Result<SessionRow, StoreFault>
+    ensures value { IfOk result (λ row. row ≡ session_row facts.now session.now) }
+    ensures ranged { IfOk result (λ (row : SessionRowValue). IsCursor row.cursor) }
+    ensures cause { IfErr result (λ fault. fault ≡ Memory) }
+{
+    Ok(SessionRow {
+        machine: session.machine,
+        batch: session.batch,
+        rec: session.rec,
+        stands: session_state(alloc, facts, session)?,
+        words: session.words.len() as u64,
+        cursor: session_cursor(alloc, facts, session)?,
+    })
+}
+
+/// The session of a number, with what follows from its words.
+pub(crate) fn session_row_of(
+    alloc: Global,
+    facts: &FactLists,
+    number: u64,
+) -> Result<Option<SessionRow>, StoreFault>
+    ensures value { IfOk result (λ row. row ≡ session_row_of facts.now number) }
+    ensures ranged { IfOk result (λ row. IfSome row (λ (row : SessionRowValue). IsCursor row.cursor)) }
+    ensures cause { IfErr result (λ fault. fault ≡ Memory) }
+{
+    match session_numbered(&facts.sessions, number) {
+        None => Ok(None),
+        Some(session) => Ok(Some(session_row(alloc, facts, session)?)),
+    }
+}
+
+/// The number of a machine's running session.
+#[tactic(auto, unfolding(job_core::specs::States::running_session))]
+pub(crate) fn running_session(
+    alloc: Global,
+    facts: &FactLists,
+    machine: &Name,
+) -> Result<Option<u64>, StoreFault>
+    ensures value { IfOk result (λ number. number ≡ running_session facts.now machine.now) }
+    ensures cause { IfErr result (λ fault. fault ≡ Memory) }
+{
+    running_among(alloc, facts, &facts.sessions, machine)
+}
+
+// The number of the first of these sessions that runs on a machine.
+fn running_among(
+    alloc: Global,
+    facts: &FactLists,
+    sessions: &[KeptSession],
+    machine: &Name,
+) -> Result<Option<u64>, StoreFault>
+    ensures value { IfOk result (λ number. number ≡ running_from facts.now machine.now 1 sessions.now) }
+    ensures cause { IfErr result (λ fault. fault ≡ Memory) }
+{
+    for (place, session) in sessions.iter().enumerate() {
+        if session.machine == *machine
+            && session_state(alloc, facts, session)? == SessionState::Running
+        {
+            return Ok(Some(place as u64 + 1));
+        }
+    }
+    Ok(None)
+}

@@ -1,0 +1,203 @@
+//! How records stand.
+ghost use Rattle.std.specs.Prelude.{◌≡◌, ◌∷◌, ◌&&◌, IfErr, IfOk, bytes_eq, count_by, filter, find, map};
+ghost use Rattle.std.specs.List.{list_all, list_any};
+ghost use Rattle.job_core.specs.declared.store.StoreFault.TheVariants.{Memory};
+ghost use Rattle.list_store.specs.Sessions.{sessions_of_record};
+ghost use Rattle.job_core.specs.States.{first_waiting, is_batch_finished, is_finished, is_good, is_record, is_running, is_spoiled, is_waiting, record_state, record_state_of, session_state, state_by, states_of};
+
+use crate::lists::{FactLists, KeptRecord, KeptSession};
+use crate::records::{has_name, record_names};
+use crate::sessions::session_state;
+use job_core::{RecordState, SessionState, StoreFault};
+use std::alloc::Global;
+use store_data::Name;
+
+/// The states of a record's sessions among these.
+pub(crate) fn states_among(
+    alloc: Global,
+    facts: &FactLists,
+    sessions: &[KeptSession],
+    batch: &Name,
+    rec: &Name,
+) -> Result<Vec<SessionState>, StoreFault>
+    ensures value { IfOk result (λ states. states.items ≡ map (session_state facts.now) (sessions_of_record sessions.now batch.now rec.now)) }
+    ensures cause { IfErr result (λ fault. fault ≡ Memory) }
+{
+    let mut states = Vec::new(alloc);
+    for session in sessions {
+        if session.batch == *batch && session.rec == *rec {
+            states.push(session_state(alloc, facts, session)?)?;
+        }
+    }
+    Ok(states)
+}
+
+fn is_record(kept: &KeptRecord, batch: &Name, rec: &Name) -> bool
+    ensures { result ≡ is_record batch.now rec.now kept.now }
+{
+    kept.batch == *batch && kept.rec == *rec
+}
+
+fn has_record(records: &[KeptRecord], batch: &Name, rec: &Name) -> bool
+    ensures { result ≡ list_any (is_record batch.now rec.now) records.now }
+{
+    records.iter().any(|record| is_record(record, batch, rec))
+}
+
+// How often a record stands among these.
+fn count_of(records: &[KeptRecord], batch: &Name, rec: &Name) -> u64
+    ensures { result ≡ count_by (is_record batch.now rec.now) records.now }
+{
+    records
+        .iter()
+        .filter(|record| is_record(record, batch, rec))
+        .count() as u64
+}
+
+/// How many of the sessions are spoiled.
+pub(crate) fn count_spoiled(states: &[SessionState]) -> u64
+    ensures { result ≡ count_by is_spoiled states.now }
+{
+    states
+        .iter()
+        .filter(|state| matches!(state, SessionState::Spoiled))
+        .count() as u64
+}
+
+fn has_good(states: &[SessionState]) -> bool
+    ensures { result ≡ list_any is_good states.now }
+{
+    states
+        .iter()
+        .any(|state| matches!(state, SessionState::Good))
+}
+
+fn has_running(states: &[SessionState]) -> bool
+    ensures { result ≡ list_any is_running states.now }
+{
+    states
+        .iter()
+        .any(|state| matches!(state, SessionState::Running))
+}
+
+fn state_by(states: &[SessionState], withdrawn: bool, remakes: u64) -> RecordState
+    ensures { result ≡ state_by states.now withdrawn remakes }
+{
+    if has_good(states) {
+        RecordState::Good
+    } else if has_running(states) {
+        RecordState::Running
+    } else if withdrawn {
+        RecordState::Withdrawn
+    } else if remakes < count_spoiled(states) {
+        RecordState::Failed
+    } else {
+        RecordState::Waiting
+    }
+}
+
+/// The state of a record.
+#[tactic(auto, unfolding(job_core::specs::States::record_state, job_core::specs::States::states_of))]
+pub(crate) fn record_state(
+    alloc: Global,
+    facts: &FactLists,
+    batch: &Name,
+    rec: &Name,
+) -> Result<RecordState, StoreFault>
+    ensures value { IfOk result (λ state. state ≡ record_state facts.now batch.now rec.now) }
+    ensures cause { IfErr result (λ fault. fault ≡ Memory) }
+{
+    let states = states_among(alloc, facts, &facts.sessions, batch, rec)?;
+    let withdrawn = has_record(&facts.withdrawn, batch, rec);
+    let remakes = count_of(&facts.remakes, batch, rec);
+    Ok(state_by(&states, withdrawn, remakes))
+}
+
+/// The state of a record, if the batch has it.
+#[tactic(auto, unfolding(job_core::specs::States::record_state_of))]
+pub(crate) fn record_state_of(
+    alloc: Global,
+    facts: &FactLists,
+    batch: &Name,
+    rec: &Name,
+) -> Result<Option<RecordState>, StoreFault>
+    ensures value { IfOk result (λ state. state ≡ record_state_of facts.now batch.now rec.now) }
+    ensures cause { IfErr result (λ fault. fault ≡ Memory) }
+{
+    let names = record_names(alloc, facts, batch)?;
+    if has_name(&names, rec) {
+        Ok(Some(record_state(alloc, facts, batch, rec)?))
+    } else {
+        Ok(None)
+    }
+}
+
+/// The first waiting record of a batch, in file order.
+#[tactic(auto, unfolding(job_core::specs::States::first_waiting))]
+pub(crate) fn first_waiting(
+    alloc: Global,
+    facts: &FactLists,
+    batch: &Name,
+) -> Result<Option<Name>, StoreFault>
+    ensures value { IfOk result (λ rec. rec ≡ first_waiting facts.now batch.now) }
+    ensures cause { IfErr result (λ fault. fault ≡ Memory) }
+{
+    let names = record_names(alloc, facts, batch)?;
+    waiting_among(alloc, facts, batch, &names)
+}
+
+// The first of these records that waits.
+fn waiting_among(
+    alloc: Global,
+    facts: &FactLists,
+    batch: &Name,
+    names: &[Name],
+) -> Result<Option<Name>, StoreFault>
+    ensures value { IfOk result (λ rec. rec ≡ find (λ r. is_waiting (record_state facts.now batch.now r)) names.now) }
+    ensures cause { IfErr result (λ fault. fault ≡ Memory) }
+{
+    for rec in names {
+        if record_state(alloc, facts, batch, rec)? == RecordState::Waiting {
+            return Ok(Some(*rec));
+        }
+    }
+    Ok(None)
+}
+
+/// Whether each record of a batch is good or withdrawn.
+#[tactic(auto, unfolding(job_core::specs::States::is_batch_finished))]
+pub(crate) fn is_batch_finished(
+    alloc: Global,
+    facts: &FactLists,
+    batch: &Name,
+) -> Result<bool, StoreFault>
+    ensures value { IfOk result (λ finished. finished ≡ is_batch_finished facts.now batch.now) }
+    ensures cause { IfErr result (λ fault. fault ≡ Memory) }
+{
+    let names = record_names(alloc, facts, batch)?;
+    are_finished(alloc, facts, batch, &names)
+}
+
+fn is_finished(state: RecordState) -> bool
+    ensures { result ≡ is_finished state }
+{
+    matches!(state, RecordState::Good | RecordState::Withdrawn)
+}
+
+// Whether each of these records is good or withdrawn.
+fn are_finished(
+    alloc: Global,
+    facts: &FactLists,
+    batch: &Name,
+    names: &[Name],
+) -> Result<bool, StoreFault>
+    ensures value { IfOk result (λ finished. finished ≡ list_all (λ r. is_finished (record_state facts.now batch.now r)) names.now) }
+    ensures cause { IfErr result (λ fault. fault ≡ Memory) }
+{
+    for rec in names {
+        if !is_finished(record_state(alloc, facts, batch, rec)?) {
+            return Ok(false);
+        }
+    }
+    Ok(true)
+}

@@ -1,0 +1,144 @@
+//! The store.
+use crate::lists::{FactLists, KeptRow};
+use crate::{accounts, blanks, changes, kept, names, records, segments, sessions, states};
+use job_core::{
+    BatchRow, BatchTotals, BlankTotals, Change, Counts, JobStore, KeptReply, Lot, RecordLine,
+    RecordState, SegmentRow, SessionRow, StoreFault,
+};
+use std::alloc::Global;
+use store_data::{Name, Product};
+
+/// The facts and the kept replies, the oldest first. It has no device, so that it only ever lacks memory.
+#[derive(Drop)]
+pub struct ListStore {
+    alloc: Global,
+    facts: FactLists,
+    kept: Vec<KeptRow>,
+}
+
+impl ListStore {
+    ghost use Rattle.job_core.specs.Store.{no_contents};
+    ghost use Rattle.list_store.specs.Lists.{state};
+
+    /// An empty store. It takes no memory.
+    pub fn new(alloc: Global) -> ListStore
+        ensures { (state result).holds no_contents }
+    {
+        ListStore {
+            alloc,
+            facts: FactLists::new(alloc),
+            kept: Vec::new(alloc),
+        }
+    }
+}
+
+impl JobStore for ListStore {
+    ghost use Rattle.list_store.specs.Lists.{state};
+
+    ghost state = { state };
+
+    ghost sound = { λ store c held. held.1 };
+
+    fn product(&mut self, code: &Name) -> Result<Option<Product>, StoreFault> {
+        Ok(names::product_named(&self.facts.products, code))
+    }
+
+    fn lot(&mut self, name: &Name) -> Result<Option<Lot>, StoreFault> {
+        Ok(names::lot_named(&self.facts.lots, name).copied())
+    }
+
+    fn lot_of(&mut self, blank: u64) -> Result<Option<Lot>, StoreFault> {
+        Ok(blanks::lot_of(&self.facts.lots, blank).copied())
+    }
+
+    fn overlaps(&mut self, first: u64, count: u32) -> Result<bool, StoreFault> {
+        Ok(blanks::any_overlaps(&self.facts.lots, first, count))
+    }
+
+    fn batch(&mut self, name: &Name) -> Result<Option<BatchRow>, StoreFault> {
+        records::batch_row(self.alloc, &self.facts, name)
+    }
+
+    fn batch_has(&mut self, name: &Name, raw: &[u8]) -> Result<bool, StoreFault> {
+        Ok(records::batch_has(&self.facts, name, raw))
+    }
+
+    fn record_state(
+        &mut self,
+        batch: &Name,
+        rec: &Name,
+    ) -> Result<Option<RecordState>, StoreFault> {
+        states::record_state_of(self.alloc, &self.facts, batch, rec)
+    }
+
+    fn first_waiting(&mut self, batch: &Name) -> Result<Option<Name>, StoreFault> {
+        states::first_waiting(self.alloc, &self.facts, batch)
+    }
+
+    fn is_finished(&mut self, batch: &Name) -> Result<bool, StoreFault> {
+        states::is_batch_finished(self.alloc, &self.facts, batch)
+    }
+
+    fn session(&mut self, session: u64) -> Result<Option<SessionRow>, StoreFault> {
+        sessions::session_row_of(self.alloc, &self.facts, session)
+    }
+
+    fn running_session(&mut self, machine: &Name) -> Result<Option<u64>, StoreFault> {
+        sessions::running_session(self.alloc, &self.facts, machine)
+    }
+
+    fn is_charged(&mut self, blank: u64) -> Result<bool, StoreFault> {
+        Ok(blanks::is_charged(&self.facts, blank))
+    }
+
+    fn segment(
+        &mut self,
+        batch: &Name,
+        rec: &Name,
+        app: u16,
+        segment: u16,
+    ) -> Result<Option<SegmentRow>, StoreFault> {
+        segments::segment_row_of(self.alloc, &self.facts, batch, rec, app, segment)
+    }
+
+    fn counts(&mut self) -> Result<Counts, StoreFault> {
+        Ok(Counts {
+            products: self.facts.products.len() as u64,
+            lots: self.facts.lots.len() as u64,
+            batches: self.facts.batches.len() as u64,
+            sessions: self.facts.sessions.len() as u64,
+        })
+    }
+
+    fn batch_totals(&mut self, batch: &Name) -> Result<BatchTotals, StoreFault> {
+        accounts::batch_totals(self.alloc, &self.facts, batch)
+    }
+
+    fn record_line(&mut self, batch: &Name, place: u32) -> Result<Option<RecordLine>, StoreFault> {
+        accounts::record_line_at(self.alloc, &self.facts, batch, place)
+    }
+
+    fn blank_totals(&mut self, product: &Name) -> Result<BlankTotals, StoreFault> {
+        accounts::blank_totals(self.alloc, &self.facts, product)
+    }
+
+    fn kept(&mut self, client: &Name, number: u64) -> Result<Option<KeptReply>, StoreFault> {
+        kept::reply_of(self.alloc, &self.kept, client, number)
+    }
+
+    fn commit(
+        &mut self,
+        client: &Name,
+        number: u64,
+        ask: &[u8],
+        status: u16,
+        body: &[u8],
+        change: &Change<'_>,
+    ) -> Result<(), StoreFault> {
+        let row = kept::row(self.alloc, client, number, ask, status, body)?;
+        self.kept.reserve(1)?;
+        changes::change_facts(self.alloc, &mut self.facts, change)?;
+        self.kept.push(row).unwrap();
+        Ok(())
+    }
+}
