@@ -1,0 +1,188 @@
+-- One more arrival.
+use Rattle.std.proofs.Common.{◌≡◌, ◌⊎◌, ℕ, zero, suc, ◌+◌, ◌<◌, ◌≤◌, true, false, List, [], ◌∷◌, ◌++◌, length, get_or, map, take, Option, Some, None, Result, Ok, Err, IfOk, refl, sym, ap, ◌∙◌, subst, inl, inr, ⊎_elim, arith, append-nil}
+use Rattle.std.specs.List.{zip}
+use Rattle.std.specs.Prelude.{filter, is_ok, slice_get}
+use Rattle.std.proofs.lemmas.List.{map-append, map_more, map_push, take-append-le, take_at, length-map, length-take-le}
+use Rattle.std.proofs.lemmas.List.Elements.{All-push, All-weaker, All-nil, filter-append}
+use Rattle.std.proofs.lemmas.Option.{none-some, same_Some, slice_get_within}
+use Rattle.job_core.specs.declared.store.StoreFault.{StoreFault}
+use Rattle.job_core.specs.declared.store.StoreFault.TheVariants.{Memory, Device, Full}
+use Rattle.job_core.specs.Steps.{step}
+use Rattle.job_core.specs.Store.{AreSame, AreSound, Entry, Contents, State, HasCause, IsHonest, Stays, entry_of}
+use Rattle.reply_store.specs.declared.Kept.{Kept}
+use Rattle.reply_store.specs.declared.Arrival.{Arrival}
+use Rattle.reply_store.specs.Told.{told}
+use Rattle.reply_store.specs.Meaning.{Arrived, contents_after, answer}
+use Rattle.reply_store.specs.Commands.{HandsOutNext}
+use Rattle.reply_store.specs.Handled.{Handles, IsFirst}
+use Rattle.reply_store.specs.Runs.{arrived, Tried, decided, IsPending, MayBeLeft, Leaves, Served, tried, AreNext, Runs}
+use Rattle.reply_store.proofs.Numbers.{contents_old}
+use Rattle.reply_store.proofs.Commands.{hands_out_next}
+use Rattle.reply_store.proofs.Appended.{contents_after-append}
+
+decided-append : (xs ys : List Tried) → decided (xs ++ ys) ≡ decided xs ++ decided ys
+decided-append xs ys = ap (map (λ (t : Tried). t.0)) (filter-append (λ (t : Tried). t.1) xs ys) ∙ map-append (λ (t : Tried). t.0) (filter (λ (t : Tried). t.1) xs) (filter (λ (t : Tried). t.1) ys)
+
+slice_get_front : (xs ys : List Tried) (k : ℕ) (t : Tried) → slice_get xs k ≡ Some t → slice_get (xs ++ ys) k ≡ Some t
+slice_get_front [] ys k t e = absurd (none-some t e)
+slice_get_front (x ∷ xs) ys zero t e = e
+slice_get_front (x ∷ xs) ys (suc k) t e = slice_get_front xs ys k t e
+
+slice_get_end : (xs : List Tried) (t : Tried) → slice_get (xs ++ t ∷ []) (length xs) ≡ Some t
+slice_get_end [] t = refl
+slice_get_end (x ∷ xs) t = slice_get_end xs t
+
+-- ---- what is left after one more
+
+pub after_true : (c : Contents) (tries : List Tried) (a : Arrived) → contents_after c (decided (tries ++ (a, true) ∷ [])) ≡ contents_after (contents_after c (decided tries)) (a ∷ [])
+after_true c tries a = ap (contents_after c) (decided-append tries ((a, true) ∷ [])) ∙ contents_after-append c (decided tries) (a ∷ [])
+
+pub after_false : (c : Contents) (tries : List Tried) (a : Arrived) → contents_after c (decided (tries ++ (a, false) ∷ [])) ≡ contents_after c (decided tries)
+after_false c tries a = ap (contents_after c) (decided-append tries ((a, false) ∷ []) ∙ append-nil (decided tries))
+
+-- where one more commits nothing, a crash may leave what it might have left
+left_more : (before : Contents → Type 0) (c d : Contents) (tries : List Tried) (t : Tried) → contents_after c (decided (tries ++ t ∷ [])) ≡ contents_after c (decided tries) → MayBeLeft before c tries d → MayBeLeft before c (tries ++ t ∷ []) d
+left_more before c d tries t same left =
+    ⊎_elim (λ now. inl (subst (AreSame d) (sym same) now))
+    (λ rest. inr (⊎_elim
+    (λ (p : IsPending c tries d). inl (
+      p.0,
+      p.1,
+      slice_get_front tries (t ∷ []) p.0 (p.1, false) p.2,
+      ap (λ (l : List Tried). contents_after c (decided l)) (take-append-le p.0 tries (t ∷ []) (≤-of (slice_get_within tries p.0 (p.1, false) p.2))) ∙ p.3 ∙ sym same,
+      subst (λ (x : Contents). AreSame d (contents_after x (p.1 ∷ []))) (sym same) p.4,
+    ))
+    (λ q. inr (same ∙ q.0, q.1)) rest))
+    left
+  where
+    ≤-of : {m n : ℕ} → m < n → m ≤ n
+    ≤-of h = omega (arith, h)
+
+pub leaves_none : (s : State) → Leaves s s []
+leaves_none s = record {
+  doubts = omega arith;
+  faults = omega arith;
+  contents = λ h c held. subst s.holds (sym (nothing c)) held;
+  crash = λ h c d held left. inr (inr (nothing c, left));
+}
+  where
+    nothing : (c : Contents) → contents_after c [] ≡ c
+    nothing c = ap (λ (es : List Entry). record { facts = c.facts; kept = es }) (append-nil c.kept)
+
+-- a number that is kept, or not
+is_first : (c : Contents) (a : Arrived) → IsFirst c a ⊎ (contents_after c (a ∷ []) ≡ c)
+is_first c a = at (entry_of c.kept a.client a.number) refl
+  where
+    at : (o : Option Entry) → entry_of c.kept a.client a.number ≡ o → IsFirst c a ⊎ (contents_after c (a ∷ []) ≡ c)
+    at None e = inl e
+    at (Some entry) e = inr (contents_old c a entry e)
+
+pub leaves_more : (s0 s1 s2 : State) (tries : List Tried) (a : Arrived) (r : Result Kept StoreFault) → Leaves s0 s1 tries → Handles s1 s2 a r → Leaves s0 s2 (tries ++ (a, is_ok r) ∷ [])
+leaves_more s0 s1 s2 tries a (Ok k) run handled = record {
+  doubts = omega (arith, run.doubts, handled.doubts);
+  faults = omega (arith, run.faults, handled.faults);
+  contents = λ h c held. let m : IsHonest s1 = omega (arith, handled.doubts) in let n = contents_after c (decided tries) in
+      subst s2.holds (sym (after_true c tries a)) (handled.ok h n (run.contents m c held));
+  crash = λ h c d held left. let m : IsHonest s1 = omega (arith, handled.doubts) in let n = contents_after c (decided tries) in let now = run.contents m c held in
+      let after = after_true c tries a in
+      ⊎_elim (λ first. inl (subst (AreSame d) (sym after) (handled.settled h n d now first left)))
+      (λ again. ⊎_elim (λ before. left_more s0.may_leave c d tries (a, true) (after ∙ again) (run.crash m c d held before)) (λ e. inl (subst (AreSame d) (sym after) e)) (handled.crash h n d now left))
+      (is_first n a);
+}
+leaves_more s0 s1 s2 tries a (Err f) run handled = record {
+  doubts = omega (arith, run.doubts, handled.doubts);
+  faults = omega (arith, run.faults, handled.faults);
+  contents = λ h c held. let m : IsHonest s1 = omega (arith, handled.doubts) in let n = contents_after c (decided tries) in
+      subst s2.holds (sym (after_false c tries a)) (handled.err h n (run.contents m c held));
+  crash = λ h c d held left. let m : IsHonest s1 = omega (arith, handled.doubts) in let n = contents_after c (decided tries) in
+      let after = after_false c tries a in
+      ⊎_elim (λ before. left_more s0.may_leave c d tries (a, false) after (run.crash m c d held before))
+      (λ e. inr (inl (
+        length tries,
+        a,
+        slice_get_end tries (a, false),
+        ap (λ (l : List Tried). contents_after c (decided l)) (take_at tries ((a, false) ∷ []) (length tries) refl) ∙ sym after,
+        subst (λ (x : Contents). AreSame d (contents_after x (a ∷ []))) (sym after) e,
+      )))
+      (handled.crash h n d (run.contents m c held) left);
+}
+
+-- a call that changes nothing
+pub leaves_stays : (s0 s1 s2 : State) (tries : List Tried) → Leaves s0 s1 tries → Stays s1 s2 → Leaves s0 s2 tries
+leaves_stays s0 s1 s2 tries run stays = record {
+  doubts = omega (arith, run.doubts, stays.doubts);
+  faults = omega (arith, run.faults, stays.faults);
+  contents = λ h c held. stays.contents h (contents_after c (decided tries)) (run.contents (omega (arith, stays.doubts)) c held);
+  crash = λ h c d held left. run.crash (omega (arith, stays.doubts)) c d held (stays.crash h d left);
+}
+
+-- ---- what is told
+
+slice_get_push : (xs : List Served) (x s : Served) (i : ℕ) → slice_get (xs ++ x ∷ []) i ≡ Some s → ((i < length xs) × (slice_get xs i ≡ Some s)) ⊎ ((i ≡ length xs) × (x ≡ s))
+slice_get_push [] x s zero is = inr (refl, same_Some x s is)
+slice_get_push [] x s (suc i) is = absurd (none-some s is)
+slice_get_push (y ∷ xs) x s zero is = inl (omega arith, is)
+slice_get_push (y ∷ xs) x s (suc i) is = ⊎_elim (λ (p : (i < length xs) × (slice_get xs i ≡ Some s)). inl (omega (arith, p.0), p.1)) (λ (p : (i ≡ length xs) × (x ≡ s)). inr (ap suc p.0, p.1)) (slice_get_push xs x s i is)
+
+-- what holds of each by those before it, after one more
+each_more : (P : List Served → Served → Type 0) (served : List Served) (x : Served)
+    → ((i : ℕ) (s : Served) → slice_get served i ≡ Some s → P (take i served) s) → P served x
+    → (i : ℕ) (s : Served) → slice_get (served ++ x ∷ []) i ≡ Some s → P (take i (served ++ x ∷ [])) s
+each_more P served x each last i s is =
+    ⊎_elim
+    (λ (p : (i < length served) × (slice_get served i ≡ Some s)). subst (λ (l : List Served). P l s) (sym (take-append-le i served (x ∷ []) (omega (arith, p.0)))) (each i s p.1))
+    (λ (p : (i ≡ length served) × (x ≡ s)). subst (λ (l : List Served). P l s) (sym (take_at served (x ∷ []) i (sym p.0))) (subst (P served) p.1 last))
+    (slice_get_push served x s i is)
+
+abbrev ToldAt : Contents → List Served → Served → Type 0
+ToldAt c before s = IfOk s.1 (λ k. answer (contents_after (contents_after c (decided (tried before))) (s.0 ∷ [])).kept s.0 ≡ Some (told k))
+
+abbrev NextAt : Contents → List Served → Served → Type 0
+NextAt c before s =
+    let n = contents_after c (decided (tried before)) in
+    IsFirst n s.0 → HandsOutNext n.facts (step n.facts s.0.client s.0.request).1
+
+-- ---- runs
+
+pub cause_stays : (s t : State) (r : Result Kept StoreFault) → s.faults ≤ t.faults → HasCause s r → HasCause t r
+cause_stays s t (Ok k) le is = tt
+cause_stays s t (Err Memory) le is = tt
+cause_stays s t (Err Device) le is = omega (arith, le, is)
+cause_stays s t (Err Full) le is = omega (arith, le, is)
+
+pub runs_none : (s : State) → Runs s s []
+runs_none s = record { leaves = leaves_none s; told_then = λ h c held i t is. absurd (none-some t is); causes = All-nil (λ (t : Served). HasCause s t.1) }
+
+pub runs_more : (s0 s1 s2 : State) (served : List Served) (a : Arrived) (r : Result Kept StoreFault) → Runs s0 s1 served → Handles s1 s2 a r → HasCause s2 r → Runs s0 s2 (served ++ (a, r) ∷ [])
+runs_more s0 s1 s2 served a r run handled cause =
+    let pushed : tried served ++ (a, is_ok r) ∷ [] ≡ tried (served ++ (a, r) ∷ []) = sym (map_push (λ (s : Served). (s.0, is_ok s.1)) served (a, r)) in
+    record {
+      leaves = subst (Leaves s0 s2) pushed (leaves_more s0 s1 s2 (tried served) a r run.leaves handled);
+      told_then = λ h c held. let m : IsHonest s1 = omega (arith, handled.doubts) in
+          each_more (ToldAt c) served (a, r) (run.told_then m c held) (handled.told_is h (contents_after c (decided (tried served))) (run.leaves.contents m c held));
+      causes = All-push (λ (t : Served). HasCause s2 t.1) served (a, r)
+          (All-weaker (λ (t : Served). HasCause s1 t.1) (λ (t : Served). HasCause s2 t.1) (λ t. cause_stays s1 s2 t.1 handled.faults) served run.causes) cause;
+    }
+
+pub next_none : (s : State) → IsHonest s → (c : Contents) → s.holds c → AreNext c []
+next_none s h c held i t is = absurd (none-some t is)
+
+pub next_more : (s0 s1 s2 : State) (served : List Served) (a : Arrived) (r : Result Kept StoreFault) → ((c : Contents) → s1.holds c → AreSound c) → Runs s0 s1 served → s1.doubts ≤ s2.doubts
+    → (IsHonest s1 → (c : Contents) → s0.holds c → AreNext c served) → IsHonest s2 → (c : Contents) → s0.holds c → AreNext c (served ++ (a, r) ∷ [])
+next_more s0 s1 s2 served a r sound run le next h c held =
+    let m : IsHonest s1 = omega (arith, le) in
+    let n = contents_after c (decided (tried served)) in
+    each_more (NextAt c) served (a, r) (next m c held) (λ first. hands_out_next n.facts (sound n (run.leaves.contents m c held)).facts a.client a.request)
+
+zip_push : (xs : List Arrived) (rs : List (Result Kept StoreFault)) (x : Arrived) (r : Result Kept StoreFault) → length xs ≡ length rs → zip (xs ++ x ∷ []) (rs ++ r ∷ []) ≡ zip xs rs ++ (x, r) ∷ []
+zip_push [] [] x r same = refl
+zip_push [] (s ∷ rs) x r same = absurd (omega arith)
+zip_push (y ∷ xs) [] x r same = absurd (omega arith)
+zip_push (y ∷ xs) (s ∷ rs) x r same = ap (λ (l : List Served). (y, s) ∷ l) (zip_push xs rs x r (omega arith))
+
+-- one more turn of the loop
+pub zip_more : (arrivals : List Arrival) (i : ℕ) (a : Arrival) (rs new : List (Result Kept StoreFault)) (r : Result Kept StoreFault) → i < length arrivals → a ≡ get_or arrivals i a → i ≡ length rs → new ≡ rs ++ r ∷ []
+    → zip (map arrived (take (i + 1) arrivals)) new ≡ zip (map arrived (take i arrivals)) rs ++ (arrived a, r) ∷ []
+zip_more arrivals i a rs new r lt item count pushed =
+    let front : map arrived (take (i + 1) arrivals) ≡ map arrived (take i arrivals) ++ arrived a ∷ [] = map_more arrived arrivals i a lt ∙ ap (λ (x : Arrival). map arrived (take i arrivals) ++ arrived x ∷ []) (sym item) in
+    ap (λ (xs : List Arrived). zip xs new) front ∙ ap (zip (map arrived (take i arrivals) ++ arrived a ∷ [])) pushed ∙ zip_push (map arrived (take i arrivals)) rs (arrived a) r (length-map (take i arrivals) arrived ∙ length-take-le i arrivals (omega arith) ∙ count)

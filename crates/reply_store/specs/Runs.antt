@@ -1,0 +1,72 @@
+-- What a list of arrivals does to a store.
+use Rattle.std.specs.Prelude.{◌≡◌, ◌⊎◌, ◌≤◌, ◌<◌, ◌^◌, ℕ, List, [], ◌∷◌, map, filter, take, slice_get, Some, Result, IfOk, All, is_ok, Bool, false}
+use Rattle.job_core.specs.declared.store.StoreFault.{StoreFault}
+use Rattle.job_core.specs.Steps.{step}
+use Rattle.job_core.specs.Store.{AreSame, Contents, State, IsHonest, HasCause}
+use Rattle.reply_store.specs.declared.Kept.{Kept}
+use Rattle.reply_store.specs.declared.Arrival.{Arrival}
+use Rattle.reply_store.specs.Told.{told}
+use Rattle.job_core.specs.Requests.{IsRequest}
+use Rattle.reply_store.specs.Meaning.{Arrived, contents_after, answer}
+use Rattle.reply_store.specs.Commands.{HandsOutNext}
+use Rattle.reply_store.specs.Handled.{IsFirst}
+
+abbrev pub arrived : Arrival → Arrived
+arrived a = record { client = a.client; number = a.number; ask = a.ask; request = a.request }
+
+-- number and request in range
+pub record IsArrival (a : Arrival) : Type 0 where
+  pub least : 1 ≤ a.number
+  pub most : a.number < 10 ^ 18
+  pub request : IsRequest a.request
+
+-- an arrival, and whether the store did not fail it
+abbrev pub Tried : Type 0
+Tried = Arrived × Bool
+
+abbrev pub decided : List Tried → List Arrived
+decided tried = map (λ (t : Tried). t.0) (filter (λ (t : Tried). t.1) tried)
+
+-- the contents after the decided arrivals and one that the store failed, since when nothing was committed
+abbrev pub IsPending : Contents → List Tried → Contents → Type 0
+IsPending c tried d =
+    (i : ℕ) × (a : Arrived) × (slice_get tried i ≡ Some (a, false)) × (contents_after c (decided (take i tried)) ≡ contents_after c (decided tried))
+    × AreSame d (contents_after (contents_after c (decided tried)) (a ∷ []))
+
+-- what a crash may leave after these
+abbrev pub MayBeLeft : (Contents → Type 0) → Contents → List Tried → Contents → Type 0
+MayBeLeft before c tried d = AreSame d (contents_after c (decided tried)) ⊎ (IsPending c tried d ⊎ ((contents_after c (decided tried) ≡ c) × before d))
+
+-- the contents are those after the decided arrivals
+pub record Leaves (old new : State) (tried : List Tried) : Type 0 where
+  pub doubts : old.doubts ≤ new.doubts
+  pub faults : old.faults ≤ new.faults
+  pub contents : IsHonest new → (c : Contents) → old.holds c → new.holds (contents_after c (decided tried))
+  pub crash : IsHonest new → (c d : Contents) → old.holds c → new.may_leave d → MayBeLeft old.may_leave c tried d
+
+-- an arrival with its outcome
+abbrev pub Served : Type 0
+Served = Arrived × Result Kept StoreFault
+
+abbrev pub tried : List Served → List Tried
+tried served = map (λ (s : Served). (s.0, is_ok s.1)) served
+
+-- the contents after the decided among the first i of these
+abbrev pub contents_before : Contents → List Served → ℕ → Contents
+contents_before c served i = contents_after c (decided (tried (take i served)))
+
+-- what each was told, if it was decided, is what is kept of its number after those before it and itself
+abbrev pub AreTold : Contents → List Served → Type 0
+AreTold c served = (i : ℕ) (s : Served) → slice_get served i ≡ Some s → IfOk s.1 (λ k. answer (contents_after (contents_before c served i) (s.0 ∷ [])).kept s.0 ≡ Some (told k))
+
+pub record Runs (old new : State) (served : List Served) : Type 0 where
+  pub leaves : Leaves old new (tried served)
+  pub told_then : IsHonest new → (c : Contents) → old.holds c → AreTold c served
+  -- a fault of the device is told only where it failed
+  pub causes : All (λ (s : Served). HasCause new s.1) served
+
+-- where a first is handed out a command, it is the next of its record's sequence
+abbrev pub AreNext : Contents → List Served → Type 0
+AreNext c served = (i : ℕ) (s : Served) → slice_get served i ≡ Some s →
+    let before = contents_before c served i in
+    IsFirst before s.0 → HandsOutNext before.facts (step before.facts s.0.client s.0.request).1

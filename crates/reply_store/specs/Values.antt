@@ -1,0 +1,64 @@
+-- The JSON value of a reply.
+use Rattle.std.specs.Prelude.{◌≡◌, ℕ, List, codes, true, ⊤}
+use Rattle.std.specs.List.{list_all}
+use Rattle.hex.specs.Hex.{encode_upper}
+use Rattle.serde_json.specs.Data.{Data, number, unsigned, string, object, member, no_members}
+use Rattle.store_data.specs.Name.{is_name_char}
+use Rattle.batch_import.specs.Kinds.{code_of as kind_code_of}
+use Rattle.job_core.specs.Refusals.{code_of}
+use Rattle.job_core.specs.declared.reply.Reply.{Reply}
+use Rattle.job_core.specs.declared.reply.Reply.TheVariants.{Product, Lot, Import, Opened, Next, Good, Spoiled, Reset, Discarded, Waiting, Withdrawn, Closed, Refused, Busy, Faulty}
+use Rattle.reply_store.specs.Names.{made_name, refusal_name, kind_name}
+
+abbrev pub num : ℕ → Data
+num n = number (unsigned n)
+
+abbrev pub ended_value : List ℕ → ℕ → Data
+ended_value result s = object (member (codes "result") (string result) (member (codes "session") (num s) no_members))
+
+abbrev pub record_value : List ℕ → List ℕ → List ℕ → Data
+record_value b r result = object (member (codes "batch") (string b) (member (codes "record") (string r) (member (codes "result") (string result) no_members)))
+
+abbrev pub value_of : Reply → Data
+value_of (Product p made) = object (member (codes "product") (string p) (member (codes "result") (string (made_name made)) no_members))
+value_of (Lot l made) = object (member (codes "lot") (string l) (member (codes "result") (string (made_name made)) no_members))
+value_of (Import b records made rows) =
+    object (member (codes "batch") (string b) (member (codes "records") (num records) (member (codes "result") (string (made_name made)) (member (codes "rows") (num rows) no_members))))
+value_of (Opened b blank command r s) =
+    object (member (codes "batch") (string b) (member (codes "blank") (num blank) (member (codes "command") (string (encode_upper command)) (member (codes "index") (num 0)
+    (member (codes "record") (string r) (member (codes "result") (string (codes "command")) (member (codes "session") (num s) no_members)))))))
+value_of (Next command k s) =
+    object (member (codes "command") (string (encode_upper command)) (member (codes "index") (num k) (member (codes "result") (string (codes "command")) (member (codes "session") (num s) no_members))))
+value_of (Good s) = ended_value (codes "good") s
+value_of (Spoiled s) = ended_value (codes "spoiled") s
+value_of (Reset s) = ended_value (codes "reset") s
+value_of (Discarded blank) = object (member (codes "blank") (num blank) (member (codes "result") (string (codes "discarded")) no_members))
+value_of (Waiting b r) = record_value b r (codes "waiting")
+value_of (Withdrawn b r) = record_value b r (codes "withdrawn")
+value_of (Closed b) = object (member (codes "batch") (string b) (member (codes "result") (string (codes "closed")) no_members))
+value_of (Refused why) = object (member (codes "code") (num (code_of why)) (member (codes "refused") (string (refusal_name why)) no_members))
+value_of (Busy s) = object (member (codes "code") (num 61) (member (codes "refused") (string (codes "machine-busy")) (member (codes "session") (num s) no_members)))
+value_of (Faulty fault) =
+    object (member (codes "code") (num (kind_code_of fault.kind)) (member (codes "refused") (string (kind_name fault.kind)) (member (codes "row") (num fault.row) no_members)))
+
+-- of characters that need no escape in JSON: those of names
+abbrev pub IsPlain : List ℕ → Type 0
+IsPlain xs = list_all is_name_char xs ≡ true
+
+-- the names of the reply are plain, and its bytes in hexadecimal
+abbrev pub ArePlain : Reply → Type 0
+ArePlain (Product p made) = IsPlain p
+ArePlain (Lot l made) = IsPlain l
+ArePlain (Import b records made rows) = IsPlain b
+ArePlain (Opened b blank command r s) = IsPlain b × IsPlain (encode_upper command) × IsPlain r
+ArePlain (Next command k s) = IsPlain (encode_upper command)
+ArePlain (Good s) = ⊤
+ArePlain (Spoiled s) = ⊤
+ArePlain (Reset s) = ⊤
+ArePlain (Discarded blank) = ⊤
+ArePlain (Waiting b r) = IsPlain b × IsPlain r
+ArePlain (Withdrawn b r) = IsPlain b × IsPlain r
+ArePlain (Closed b) = IsPlain b
+ArePlain (Refused why) = ⊤
+ArePlain (Busy s) = ⊤
+ArePlain (Faulty fault) = ⊤

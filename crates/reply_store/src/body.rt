@@ -1,0 +1,195 @@
+//! The texts of replies: compact JSON (RFC 8259), members in order of their names.
+ghost use Rattle.std.specs.Prelude.{◌≡◌, false, true, IfOk, OnOk, IsTrue, string_bytes, codes};
+ghost use Rattle.hex.specs.Hex.{encode_upper};
+ghost use Rattle.serde_json.specs.View.{view};
+ghost use Rattle.serde_json.specs.Written.{compact_text, has_float};
+ghost use Rattle.reply_store.specs.Told.{body_of, status_of};
+ghost use Rattle.reply_store.specs.Values.{ArePlain, IsPlain, ended_value, record_value, value_of};
+
+use crate::names::{kind_name, made_name, refusal_name};
+use batch_import::RowFault;
+use job_core::{Made, Refusal, Reply};
+use serde_json::{Value, json};
+use std::alloc::{AllocError, Global};
+use store_data::{Bytes, Name};
+
+/// The HTTP status of a reply: 409 for every refusal, 200 for what was accepted (this project's profile).
+pub fn status_of(reply: &Reply) -> u16
+    ensures { result ≡ status_of reply.now }
+{
+    match *reply {
+        Reply::Refused { .. } | Reply::Busy { .. } | Reply::Faulty { .. } => 409,
+        _ => 200,
+    }
+}
+
+/// The body of a reply: compact JSON (RFC 8259), the members in order of their names (this project's profile). It fails only
+/// where memory is refused.
+pub fn body_of(alloc: Global, reply: &Reply) -> Result<Bytes, AllocError>
+    ensures { IfOk result (λ body. body ≡ body_of reply.now) }
+{
+    let text = value_of(alloc, reply)?.to_string(alloc)?;
+    Ok(Bytes::from_vec(text.into_bytes()))
+}
+
+fn value_of(alloc: Global, reply: &Reply) -> Result<Value, AllocError>
+    ensures value { IfOk result (λ v. view v ≡ value_of reply.now) }
+    ensures plain { OnOk result (ArePlain reply.now) }
+{
+    match reply {
+        Reply::Product { product, made } => product_value(alloc, product, *made),
+        Reply::Lot { lot, made } => lot_value(alloc, lot, *made),
+        Reply::Import {
+            batch,
+            records,
+            made,
+            rows,
+        } => import_value(alloc, batch, *records, *made, *rows),
+        Reply::Opened {
+            batch,
+            blank,
+            command,
+            rec,
+            session,
+        } => opened_value(alloc, batch, *blank, command.as_slice(), rec, *session),
+        Reply::Next {
+            command,
+            index,
+            session,
+        } => next_value(alloc, command.as_slice(), *index, *session),
+        Reply::Good { session } => ended_value(alloc, "good", *session),
+        Reply::Spoiled { session } => ended_value(alloc, "spoiled", *session),
+        Reply::Reset { session } => ended_value(alloc, "reset", *session),
+        Reply::Discarded { blank } => { json!(in alloc; {"blank": *blank, "result": "discarded"}) }
+        Reply::Waiting { batch, rec } => record_value(alloc, batch, rec, "waiting"),
+        Reply::Withdrawn { batch, rec } => record_value(alloc, batch, rec, "withdrawn"),
+        Reply::Closed { batch } => closed_value(alloc, batch),
+        Reply::Refused { refusal } => refused_value(alloc, *refusal),
+        Reply::Busy { session } => busy_value(alloc, *session),
+        Reply::Faulty { fault } => faulty_value(alloc, *fault),
+    }
+}
+
+fn product_value(alloc: Global, product: &Name, made: Made) -> Result<Value, AllocError>
+    ensures value { IfOk result (λ v. view v ≡ value_of (Reply.Product product.now made)) }
+    ensures plain { OnOk result (IsPlain product.now) }
+{
+    json!(in alloc; {"product": text_of(product), "result": made_name(made)})
+}
+
+fn lot_value(alloc: Global, lot: &Name, made: Made) -> Result<Value, AllocError>
+    ensures value { IfOk result (λ v. view v ≡ value_of (Reply.Lot lot.now made)) }
+    ensures plain { OnOk result (IsPlain lot.now) }
+{
+    json!(in alloc; {"lot": text_of(lot), "result": made_name(made)})
+}
+
+fn import_value(
+    alloc: Global,
+    batch: &Name,
+    records: u32,
+    made: Made,
+    rows: u32,
+) -> Result<Value, AllocError>
+    ensures value { IfOk result (λ v. view v ≡ value_of (Reply.Import batch.now records made rows)) }
+    ensures plain { OnOk result (IsPlain batch.now) }
+{
+    json!(in alloc; {
+        "batch": text_of(batch),
+        "records": records,
+        "result": made_name(made),
+        "rows": rows
+    })
+}
+
+fn opened_value(
+    alloc: Global,
+    batch: &Name,
+    blank: u64,
+    command: &[u8],
+    rec: &Name,
+    session: u64,
+) -> Result<Value, AllocError>
+    ensures value { IfOk result (λ v. view v ≡ value_of (Reply.Opened batch.now blank command.now rec.now session)) }
+    ensures plain { OnOk result (ArePlain (Reply.Opened batch.now blank command.now rec.now session)) }
+{
+    json!(in alloc; {
+        "batch": text_of(batch),
+        "blank": blank,
+        "command": hex_of(alloc, command)?,
+        "index": 0u64,
+        "record": text_of(rec),
+        "result": "command",
+        "session": session
+    })
+}
+
+fn next_value(alloc: Global, command: &[u8], index: u64, session: u64) -> Result<Value, AllocError>
+    ensures value { IfOk result (λ v. view v ≡ value_of (Reply.Next command.now index session)) }
+    ensures plain { OnOk result (IsPlain (encode_upper command.now)) }
+{
+    json!(in alloc; {
+        "command": hex_of(alloc, command)?,
+        "index": index,
+        "result": "command",
+        "session": session
+    })
+}
+
+fn ended_value(alloc: Global, end: &str, session: u64) -> Result<Value, AllocError>
+    ensures { IfOk result (λ v. view v ≡ ended_value end.now session) }
+{
+    json!(in alloc; {"result": end, "session": session})
+}
+
+fn record_value(alloc: Global, batch: &Name, rec: &Name, end: &str) -> Result<Value, AllocError>
+    ensures value { IfOk result (λ v. view v ≡ record_value batch.now rec.now end.now) }
+    ensures plain { OnOk result (IsPlain batch.now × IsPlain rec.now) }
+{
+    json!(in alloc; {"batch": text_of(batch), "record": text_of(rec), "result": end})
+}
+
+fn closed_value(alloc: Global, batch: &Name) -> Result<Value, AllocError>
+    ensures value { IfOk result (λ v. view v ≡ value_of (Reply.Closed batch.now)) }
+    ensures plain { OnOk result (IsPlain batch.now) }
+{
+    json!(in alloc; {"batch": text_of(batch), "result": "closed"})
+}
+
+fn refused_value(alloc: Global, refusal: Refusal) -> Result<Value, AllocError>
+    ensures { IfOk result (λ v. view v ≡ value_of (Reply.Refused refusal)) }
+{
+    json!(in alloc; {"code": refusal.code(), "refused": refusal_name(refusal)})
+}
+
+fn busy_value(alloc: Global, session: u64) -> Result<Value, AllocError>
+    ensures { IfOk result (λ v. view v ≡ value_of (Reply.Busy session)) }
+{
+    json!(in alloc; {"code": 61u64, "refused": "machine-busy", "session": session})
+}
+
+fn faulty_value(alloc: Global, fault: RowFault) -> Result<Value, AllocError>
+    ensures { IfOk result (λ v. view v ≡ value_of (Reply.Faulty fault)) }
+{
+    json!(in alloc; {
+        "code": fault.kind.code(),
+        "refused": kind_name(fault.kind),
+        "row": fault.row
+    })
+}
+
+// A name as text.
+fn text_of(name: &Name) -> &str
+    ensures text { result.now ≡ name.now }
+    ensures plain { IsPlain name.now }
+{
+    std::str::from_utf8(name.bytes()).unwrap()
+}
+
+// Bytes in upper case hexadecimal.
+fn hex_of(alloc: Global, bytes: &[u8]) -> Result<String, AllocError>
+    ensures text { IfOk result (λ text. string_bytes text ≡ encode_upper bytes.now) }
+    ensures plain { IsPlain (encode_upper bytes.now) }
+{
+    hex::encode_upper(alloc, bytes)
+}
