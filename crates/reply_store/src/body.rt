@@ -1,6 +1,7 @@
 //! The texts of replies: compact JSON (RFC 8259), members in order of their names.
 ghost use Rattle.std.specs.Prelude.{◌≡◌, false, true, IfOk, OnOk, IsTrue, string_bytes, codes};
 ghost use Rattle.hex.specs.Hex.{encode_upper};
+ghost use Rattle.json.specs.Print.{escape};
 ghost use Rattle.serde_json.specs.View.{view};
 ghost use Rattle.serde_json.specs.Written.{compact_text, has_float};
 ghost use Rattle.reply_store.specs.Told.{body_of, status_of};
@@ -74,14 +75,14 @@ fn product_value(alloc: Global, product: &Name, made: Made) -> Result<Value, All
     ensures value { IfOk result (λ v. view v ≡ value_of (Reply.Product product.now made)) }
     ensures plain { OnOk result (IsPlain product.now) }
 {
-    json!(in alloc; {"product": text_of(product), "result": made_name(made)})
+    json!(in alloc; {"product": name_text(product), "result": made_name(made)})
 }
 
 fn lot_value(alloc: Global, lot: &Name, made: Made) -> Result<Value, AllocError>
     ensures value { IfOk result (λ v. view v ≡ value_of (Reply.Lot lot.now made)) }
     ensures plain { OnOk result (IsPlain lot.now) }
 {
-    json!(in alloc; {"lot": text_of(lot), "result": made_name(made)})
+    json!(in alloc; {"lot": name_text(lot), "result": made_name(made)})
 }
 
 fn import_value(
@@ -95,7 +96,7 @@ fn import_value(
     ensures plain { OnOk result (IsPlain batch.now) }
 {
     json!(in alloc; {
-        "batch": text_of(batch),
+        "batch": name_text(batch),
         "records": records,
         "result": made_name(made),
         "rows": rows
@@ -114,11 +115,11 @@ fn opened_value(
     ensures plain { OnOk result (ArePlain (Reply.Opened batch.now blank command.now rec.now session)) }
 {
     json!(in alloc; {
-        "batch": text_of(batch),
+        "batch": name_text(batch),
         "blank": blank,
         "command": hex_of(alloc, command)?,
         "index": 0u64,
-        "record": text_of(rec),
+        "record": name_text(rec),
         "result": "command",
         "session": session
     })
@@ -146,14 +147,14 @@ fn record_value(alloc: Global, batch: &Name, rec: &Name, end: &str) -> Result<Va
     ensures value { IfOk result (λ v. view v ≡ record_value batch.now rec.now end.now) }
     ensures plain { OnOk result (IsPlain batch.now × IsPlain rec.now) }
 {
-    json!(in alloc; {"batch": text_of(batch), "record": text_of(rec), "result": end})
+    json!(in alloc; {"batch": name_text(batch), "record": name_text(rec), "result": end})
 }
 
 fn closed_value(alloc: Global, batch: &Name) -> Result<Value, AllocError>
     ensures value { IfOk result (λ v. view v ≡ value_of (Reply.Closed batch.now)) }
     ensures plain { OnOk result (IsPlain batch.now) }
 {
-    json!(in alloc; {"batch": text_of(batch), "result": "closed"})
+    json!(in alloc; {"batch": name_text(batch), "result": "closed"})
 }
 
 fn refused_value(alloc: Global, refusal: Refusal) -> Result<Value, AllocError>
@@ -178,10 +179,11 @@ fn faulty_value(alloc: Global, fault: RowFault) -> Result<Value, AllocError>
     })
 }
 
-// A name as text.
-fn text_of(name: &Name) -> &str
+/// A name as JSON has it: none of its characters needs an escape (RFC 8259).
+pub fn name_text(name: &Name) -> &str
     ensures text { result.now ≡ name.now }
     ensures plain { IsPlain name.now }
+    ensures bare { escape name.now ≡ name.now }
 {
     std::str::from_utf8(name.bytes()).unwrap()
 }

@@ -17,7 +17,7 @@ mod names;
 #[cfg(test)]
 mod tests;
 
-pub use body::{body_of, status_of};
+pub use body::{body_of, name_text, status_of};
 use job_core::{Change, JobStore, KeptReply, Refusal, Reply, Request, StoreFault, decide};
 use std::alloc::{AllocError, Global};
 use store_data::{Bytes, Name};
