@@ -1,0 +1,151 @@
+-- A product's blanks: no blank is charged twice, and each that is charged lies in a lot.
+use Rattle.std.proofs.Common.{◌≡◌, ◌≢◌, ◌^◌, ℕ, zero, suc, ◌+◌, ◌<◌, ◌≤◌, ◌==◌, ◌||◌, Bool, true, false, cond, List, [], ◌∷◌, ◌++◌, length, map, All, Some, refl, sym, ap, subst, ◌∙◌, arith}
+use Rattle.std.specs.Prelude.{⊤, bytes_eq, count_by, filter, sum_by}
+use Rattle.std.specs.List.{flat_map, list_any}
+use Rattle.std.specs.Cmp.{nat_eq_equiv}
+use Rattle.std.proofs.lemmas.Bool.{and_parts, eqb-true}
+use Rattle.std.proofs.lemmas.Bool.Decides.{Decides-eqb, nat_tests}
+use Rattle.std.proofs.lemmas.List.Concat.{flat_map-cons}
+use Rattle.std.proofs.lemmas.List.Folds.{list_any-append}
+use Rattle.std.proofs.lemmas.List.Kept.{AllPairs-filter}
+use Rattle.std.proofs.lemmas.List.{length-append}
+use Rattle.std.proofs.lemmas.List.Elements.{All-filter}
+use Rattle.std.proofs.lemmas.List.Sums.{count_by-le-length, length-filter, sum_by-cons, sum_by-le}
+use Rattle.std.proofs.lemmas.Map.Made.{IsDistinct-from_AllPairs, is_member-filter, length-le_from_is_member}
+use Rattle.job_core.specs.declared.facts.Lot.{Lot}
+use Rattle.job_core.specs.declared.facts.SessionState.{SessionState}
+use Rattle.job_core.specs.declared.facts.SessionState.TheVariants.{Running, Good, Spoiled}
+use Rattle.job_core.specs.Accounts.{blank_states, blank_totals, is_blank_of, is_lot_of, lots_of}
+use Rattle.job_core.specs.Facts.{Facts, Session}
+use Rattle.job_core.specs.Sound.{IsSound, charges}
+use Rattle.job_core.specs.States.{is_good, is_in, is_running, is_spoiled, lot_of, session_state}
+use Rattle.reports.specs.Accounts.{AreAllCounted, charged, free}
+
+-- ---- the serials of lots
+
+abbrev serials : ℕ → ℕ → List ℕ
+serials first zero = []
+serials first (suc n) = first ∷ serials (first + 1) n
+
+abbrev serials_of : Lot → List ℕ
+serials_of l = serials l.first l.count
+
+length-serials : (first n : ℕ) → length (serials first n) ≡ n
+length-serials first zero = refl
+length-serials first (suc n) = ap suc (length-serials (first + 1) n)
+
+length-all : (lots : List Lot) → length (flat_map serials_of lots) ≡ sum_by (λ (l : Lot). l.count) lots
+length-all [] = refl
+length-all (l ∷ lots) =
+    ap length (flat_map-cons serials_of l lots) ∙ length-append (serials_of l) (flat_map serials_of lots)
+    ∙ (λ i. length-serials l.first l.count i + length-all lots i) ∙ sym (sum_by-cons (λ (m : Lot). m.count) l lots)
+
+abbrev has : List ℕ → ℕ → Bool
+has xs q = list_any (λ x. q == x) xs
+
+or_else : (a b : Bool) → (a ≡ false → b ≡ true) → (a || b) ≡ true
+or_else true b rest = refl
+or_else false b rest = rest refl
+
+or_second : (a b : Bool) → b ≡ true → (a || b) ≡ true
+or_second true b h = refl
+or_second false b h = h
+
+has_serial : (first n q : ℕ) → first ≤ q → q < first + n → has (serials first n) q ≡ true
+has_serial first zero q low high = absurd (omega arith)
+has_serial first (suc n) q low high =
+    or_else (q == first) (has (serials (first + 1) n) q) (λ other. has_serial (first + 1) n q (grind (arith, nat_tests)) (omega arith))
+
+in_lot : (q : ℕ) (l : Lot) → is_in q l ≡ true → has (serials_of l) q ≡ true
+in_lot q l h = has_serial l.first l.count q (grind (arith, nat_tests)) (grind (arith, nat_tests))
+
+has_first : (q : ℕ) (l : Lot) (ls : List Lot) → has (serials_of l) q ≡ true → has (flat_map serials_of (l ∷ ls)) q ≡ true
+has_first q l ls h =
+    ap (λ xs. has xs q) (flat_map-cons serials_of l ls) ∙ list_any-append (λ x. q == x) (serials_of l) (flat_map serials_of ls)
+    ∙ ap (λ b. b || has (flat_map serials_of ls) q) h
+
+has_later : (q : ℕ) (keeps : Bool) (l : Lot) (ls : List Lot) → has (flat_map serials_of ls) q ≡ true → has (flat_map serials_of (cond keeps (l ∷ ls) ls)) q ≡ true
+has_later q true l ls h =
+    ap (λ xs. has xs q) (flat_map-cons serials_of l ls) ∙ list_any-append (λ x. q == x) (serials_of l) (flat_map serials_of ls)
+    ∙ or_second (has (serials_of l) q) (has (flat_map serials_of ls) q) h
+has_later q false l ls h = h
+
+none_true : false ≡ true → ⊥
+none_true h = subst (λ b. cond b ⊥ ⊤) h tt
+
+-- a blank of the product is among the serials of its lots
+among_lots : (p : List ℕ) (lots : List Lot) (q : ℕ) → is_lot_of p (lot_of lots q) ≡ true → has (flat_map serials_of (filter (λ (l : Lot). bytes_eq l.product p) lots)) q ≡ true
+among_lots p [] q h = absurd (none_true h)
+among_lots p (l ∷ lots) q h =
+    let rest = filter (λ (m : Lot). bytes_eq m.product p) lots in
+    elim (is_in q l) as (λ b. is_in q l ≡ b → is_lot_of p (cond b (Some l) (lot_of lots q)) ≡ true → has (flat_map serials_of (cond (bytes_eq l.product p) (l ∷ rest) rest)) q ≡ true) [
+      | true ↦ λ inside own. subst (λ keeps. has (flat_map serials_of (cond keeps (l ∷ rest) rest)) q ≡ true) (sym own) (has_first q l rest (in_lot q l inside))
+      | false ↦ λ outside own. has_later q (bytes_eq l.product p) l rest (among_lots p lots q own)
+    ] refl h
+
+-- ---- what is charged
+
+one_state : (s : SessionState) → cond (is_good s) 1 0 + cond (is_running s) 1 0 + cond (is_spoiled s) 1 0 ≡ 1
+one_state Running = refl
+one_state Good = refl
+one_state Spoiled = refl
+
+each_state : (states : List SessionState) → count_by is_good states + count_by is_running states + count_by is_spoiled states ≡ length states
+each_state [] = refl
+each_state (s ∷ states) = omega (
+  arith,
+  each_state states,
+  one_state s,
+  sum_by-cons (λ t. cond (is_good t) 1 0) s states,
+  sum_by-cons (λ t. cond (is_running t) 1 0) s states,
+  sum_by-cons (λ t. cond (is_spoiled t) 1 0) s states,
+)
+
+length-states : (f : Facts) (p : List ℕ) → (sessions : List Session) → length (map (session_state f) (filter (λ (s : Session). is_blank_of f p s.blank) sessions)) + count_by (is_blank_of f p) f.discarded
+    ≡ length (filter (is_blank_of f p) (map (λ (s : Session). s.blank) sessions ++ f.discarded))
+length-states f p [] = omega (arith, length-filter (is_blank_of f p) f.discarded)
+length-states f p (s ∷ sessions) =
+    let own = is_blank_of f p in
+    let kept = filter (λ (t : Session). own t.blank) sessions in
+    let blanks = filter own (map (λ (t : Session). t.blank) sessions ++ f.discarded) in
+    elim (own s.blank) as (λ b. length (map (session_state f) (cond b (s ∷ kept) kept)) + count_by own f.discarded ≡ length (cond b (s.blank ∷ blanks) blanks)) [
+      | true ↦ omega (arith, length-states f p sessions)
+      | false ↦ length-states f p sessions
+    ]
+
+-- the charged blanks are as many as those of the product that an opening or a discard names
+charged_are : (f : Facts) (p : List ℕ) → charged (blank_totals f p) ≡ length (filter (is_blank_of f p) (charges f))
+unfolding blank_totals blank_states
+charged_are f p = omega (arith, each_state (blank_states f p), length-states f p f.sessions)
+
+pub few_charged : (f : Facts) (p : List ℕ) → IsSound f → charged (blank_totals f p) ≤ (blank_totals f p).total
+unfolding blank_totals
+few_charged f p sound =
+    let own = is_blank_of f p in
+    let once = IsDistinct-from_AllPairs Decides-eqb (filter own (charges f)) (AllPairs-filter (λ a b. a ≢ b) own (charges f) sound.charged_once) in
+    let inside : (q : ℕ) → has (filter own (charges f)) q ≡ true → has (flat_map serials_of (lots_of f p)) q ≡ true = λ q h.
+        among_lots p f.lots q (and_parts (has (charges f) q) (own q) (sym (is_member-filter nat_eq_equiv own q (λ x same. ap own (eqb-true q x same)) (charges f)) ∙ h)).1 in
+    omega (
+      arith,
+      charged_are f p,
+      length-le_from_is_member nat_eq_equiv (filter own (charges f)) (flat_map serials_of (lots_of f p)) once inside,
+      length-all (lots_of f p),
+    )
+
+pub all_counted : (f : Facts) (p : List ℕ) → IsSound f → AreAllCounted (blank_totals f p)
+all_counted f p sound = omega (arith, few_charged f p sound)
+
+-- so few that the server's numbers have room for them
+pub charged_fits : (f : Facts) (p : List ℕ) → IsSound f → charged (blank_totals f p) < 2 ^ 64
+unfolding blank_totals
+charged_fits f p sound =
+    let own : Lot → Bool = λ l. bytes_eq l.product p in
+    let most : All (λ (l : Lot). l.count ≤ 1000000) (lots_of f p) = All-filter own (λ (l : Lot). l.count ≤ 1000000) f.lots (λ k d inside. (sound.lots.each k d inside).most) in
+    omega (
+      arith,
+      few_charged f p sound,
+      sum_by-le (λ (l : Lot). l.count) 1000000 (lots_of f p) most,
+      length-filter own f.lots,
+      count_by-le-length own f.lots,
+      sound.lots.few,
+    )

@@ -1,0 +1,5 @@
+pub mod Names
+pub mod Accounts
+pub mod Values
+pub mod Report
+pub mod Told

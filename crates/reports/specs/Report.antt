@@ -1,0 +1,53 @@
+-- The report of a batch (this project's profile). Each line ends in LF.
+use Rattle.std.specs.Prelude.{ℕ, ◌-◌, List, ◌++◌, length, map, codes, decimal, Option, Some, None, option_map}
+use Rattle.std.specs.List.{flat_map, repeat}
+use Rattle.job_core.specs.declared.rows.BatchRow.{BatchRow}
+use Rattle.job_core.specs.declared.rows.BatchTotals.{BatchTotals}
+use Rattle.job_core.specs.declared.rows.RecordLine.{RecordLine}
+use Rattle.job_core.specs.Accounts.{batch_totals, record_line}
+use Rattle.job_core.specs.Facts.{Facts}
+use Rattle.job_core.specs.Rows.{batch_row_of}
+use Rattle.job_core.specs.States.{records_named}
+use Rattle.reports.specs.Names.{closed_name, state_name}
+
+-- the text, with blanks after it up to this many places
+abbrev pub left_in : ℕ → List ℕ → List ℕ
+left_in places text = text ++ repeat (places - length text) (codes " ")
+
+-- the text, with blanks before it up to this many places
+abbrev pub right_in : ℕ → List ℕ → List ℕ
+right_in places text = repeat (places - length text) (codes " ") ++ text
+
+unfoldable pub head_text : List ℕ → BatchRow → List ℕ
+head_text b row = codes "batch " ++ b ++ codes "\nproduct " ++ row.product ++ codes "\nstate " ++ closed_name row.is_closed ++ codes "\n"
+
+-- the serial of the good card, or `-`
+abbrev pub blank_text : Option ℕ → List ℕ
+blank_text None = codes "-"
+blank_text (Some blank) = decimal blank
+
+unfoldable pub record_text : RecordLine → List ℕ
+record_text line =
+    codes "record " ++ line.rec ++ codes " " ++ state_name line.stands ++ codes " " ++ decimal line.sessions ++ codes " " ++ blank_text line.blank ++ codes "\n"
+
+-- after the label a blank, and the number right in 10 places
+abbrev pub labelled : List ℕ → ℕ → List ℕ
+labelled label n = label ++ codes " " ++ right_in 10 (decimal n) ++ codes "\n"
+
+-- with the label left in 9 places
+abbrev pub total_text : List ℕ → ℕ → List ℕ
+total_text label n = labelled (left_in 9 label) n
+
+unfoldable pub totals_text : BatchTotals → List ℕ
+totals_text t =
+    total_text (codes "records") t.records ++ total_text (codes "waiting") t.waiting ++ total_text (codes "running") t.running
+    ++ total_text (codes "failed") t.failed ++ total_text (codes "withdrawn") t.withdrawn ++ total_text (codes "good") t.good
+    ++ total_text (codes "sessions") t.sessions ++ total_text (codes "spoiled") t.spoiled
+
+-- the report of a batch with these records, in file order
+abbrev pub text_with : List ℕ → BatchRow → List RecordLine → BatchTotals → List ℕ
+text_with b row lines totals = head_text b row ++ flat_map record_text lines ++ totals_text totals
+
+-- the report of the batch with this name, if there is one
+abbrev pub report_text : Facts → List ℕ → Option (List ℕ)
+report_text f b = option_map (λ row. text_with b row (map (record_line f b) (records_named f b)) (batch_totals f b)) (batch_row_of f b)

@@ -1,0 +1,25 @@
+//! The names that accounts and reports tell.
+ghost use Rattle.std.specs.Prelude.{◌≡◌};
+ghost use Rattle.reports.specs.Names.{closed_name, state_name};
+
+use job_core::RecordState;
+
+/// The name of a record's state (this project's profile).
+pub(crate) fn state_name(state: RecordState) -> &'static str
+    ensures { result.now ≡ state_name state }
+{
+    match state {
+        RecordState::Waiting => "waiting",
+        RecordState::Running => "running",
+        RecordState::Failed => "failed",
+        RecordState::Withdrawn => "withdrawn",
+        RecordState::Good => "good",
+    }
+}
+
+/// Whether a batch is closed, as reports name it (this project's profile).
+pub(crate) fn closed_name(is_closed: bool) -> &'static str
+    ensures { result.now ≡ closed_name is_closed }
+{
+    if is_closed { "closed" } else { "open" }
+}
