@@ -1,11 +1,8 @@
 -- The text that `persod plan` prints, and its input.
-use Rattle.std.proofs.Common.{◌≡◌, ℕ, ◌+◌, ◌-◌, ◌<◌, ◌≤◌, ◌/◌, ◌%◌, List, [], ◌∷◌, ◌++◌, length, take, drop, get_or, All, Option, Some, None, option_map, unwrap_or, IfSome, refl, sym, subst, ap, ◌∙◌, arith, take-append-drop}
+use Rattle.std.proofs.Common.{◌≡◌, ℕ, ◌+◌, ◌<◌, ◌≤◌, ◌/◌, ◌%◌, List, [], ◌∷◌, ◌++◌, length, take, get_or, All, Option, Some, None, option_map, unwrap_or, IfSome, refl, sym, ap, ◌∙◌, arith}
 use Rattle.std.specs.Prelude.{bytes_eq, slice_index}
-use Rattle.std.specs.Io.KnownBytes.{Appends}
-use Rattle.std.proofs.KnownBytes.{Appends-trans}
-use Rattle.std.proofs.lemmas.List.{append_assoc, length-take, take_all, take_more, take_rest}
+use Rattle.std.proofs.lemmas.List.{append_assoc, length-take, take_all, take_more}
 use Rattle.std.proofs.lemmas.List.Sums.{length-filter, count_by-le-length}
-use Rattle.std.proofs.Math.Seq.{take-add}
 use Rattle.hex.specs.Hex.{encode_with, encode_upper, upper_digits}
 use Rattle.store_data.specs.Groups.{grouped}
 use Rattle.store_data.specs.Sequence.{AreRows, IsRow}
@@ -13,7 +10,7 @@ use Rattle.store_data.specs.declared.row.Row.{Row}
 use Rattle.store_data.proofs.FaultLemmas.{grouped_each}
 use Rattle.store_data.proofs.IsPlanLemmas.{All-grouped}
 use Rattle.batch_import.specs.Outlines.{AreBatchRows}
-use Rattle.persod.specs.PlanEnds.{AppendsBeginning, Tells}
+use Rattle.persod.specs.PlanEnds.{Tells}
 
 -- ---- hexadecimal
 
@@ -71,14 +68,3 @@ record_rows rows fits =
       fits.few,
     )) in
     λ k d inside. record { least = (filled k d inside).0; most = few k d inside; each = (filled k d inside).1 }
-
--- ---- what is written
-
-pub beginning : (before after : Option (List ℕ)) (text : List ℕ) (at : ℕ) → Appends before after (take at text) → AppendsBeginning before after text
-beginning before after text at written = (take at text, drop at text, take-append-drop at text, written)
-
-pub written_more : (a b c : Option (List ℕ)) (text : List ℕ) (at n : ℕ) → Appends a b (take at text) → Appends b c (take n (take (length text - at) (drop at text)))
-    → Appends a c (take (at + n) text)
-written_more a b c text at n first second =
-    let more : Appends b c (take n (drop at text)) = subst (λ (rest : List ℕ). Appends b c (take n rest)) (take_rest text at) second in
-    subst (Appends a c) (sym (take-add at n text)) (Appends-trans a b c (take at text) (take n (drop at text)) first more)

@@ -1,5 +1,5 @@
 -- How `persod plan` ends.
-use Rattle.std.specs.Prelude.{◌≡◌, ◌<◌, ◌≤◌, ⊤, ℕ, List, ◌++◌, length, map, Option, IfSome, Result, Ok, Err}
+use Rattle.std.specs.Prelude.{◌≡◌, ◌<◌, ◌≤◌, ⊤, ℕ, List, length, map, Option, IfSome, Result, Ok, Err}
 use Rattle.std.specs.Prelude.{Vec}
 use Rattle.std.specs.Global.{Global}
 use Rattle.std.specs.Io.KnownBytes.{Appends, Keeps}
@@ -10,7 +10,7 @@ use Rattle.store_data.specs.declared.row.Row.{Row}
 use Rattle.batch_import.specs.Batch.{batch_of}
 use Rattle.batch_import.specs.Outlines.{AreBatchRows}
 use Rattle.store_data.specs.Groups.{grouped}
-use Rattle.persod.specs.declared.print.WriteFailed.{WriteFailed}
+use Rattle.text_writer.specs.Written.{AppendsBeginning}
 use Rattle.persod.specs.Printed.{printed}
 use Rattle.persod.specs.declared.plan.PlanStop.{PlanStop}
 use Rattle.persod.specs.declared.plan.PlanStop.TheVariants as stop
@@ -22,10 +22,6 @@ most_input = 1048576
 -- the input is these bytes, where it is known
 abbrev pub Tells : Option (List ℕ) → List ℕ → Type 0
 Tells known raw = IfSome known (λ told. told ≡ raw)
-
--- a beginning of the text was written
-abbrev pub AppendsBeginning : Option (List ℕ) → Option (List ℕ) → List ℕ → Type 0
-AppendsBeginning before after text = (front : List ℕ) × (back : List ℕ) × (front ++ back ≡ text) × Appends before after front
 
 -- for the input `raw` the text of its batch was written, a beginning of it where the writer failed, or nothing and a refusal
 abbrev pub PlanEnds : Product → List ℕ → Option (List ℕ) → Option (List ℕ) → Result (Unit {0}) PlanStop → Type 0
@@ -59,8 +55,3 @@ GroupsBatch p raw (Err stop.Memory) = ⊤
 GroupsBatch p raw (Err stop.TooLarge) = ⊥
 GroupsBatch p raw (Err stop.ReadFailed) = ⊥
 GroupsBatch p raw (Err stop.WriteFailed) = ⊥
-
--- a text was written, or a beginning of it
-abbrev pub Writes : Option (List ℕ) → Option (List ℕ) → List ℕ → Result (Unit {0}) WriteFailed → Type 0
-Writes before after text (Ok u) = Appends before after text
-Writes before after text (Err e) = AppendsBeginning before after text

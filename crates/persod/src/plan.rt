@@ -2,14 +2,16 @@
 ghost use Rattle.std.specs.Prelude.{◌≡◌, ℕ, List, All, map, IfOk};
 ghost use Rattle.std.specs.List.{flat_map};
 ghost use Rattle.store_data.specs.Sequence.{AreRows, IsProduct};
-ghost use Rattle.persod.specs.PlanEnds.{GroupsBatch, PlanEnds, ReadsInput, Tells, Writes};
+ghost use Rattle.text_writer.specs.Written.{Writes};
+ghost use Rattle.persod.specs.PlanEnds.{GroupsBatch, PlanEnds, ReadsInput, Tells};
 ghost use Rattle.persod.specs.Printed.{planned_of, text_of};
 
-use crate::print::{Planned, WriteFailed, write_record};
+use crate::print::{Planned, write_record};
 use batch_import::{ImportFault, RowFault, read_batch};
 use std::alloc::{AllocError, Global};
 use std::io::{ErrorKind, Read, Write};
 use store_data::{Product, Row, grouped, plan};
+use text_writer::WriteFailed;
 
 /// The most bytes of a batch (this project's profile).
 const MOST_INPUT: u64 = 1_048_576;

@@ -1,12 +1,12 @@
 //! Printing a plan: a record's name line, and each command by the cursor, a line each.
 ghost use Rattle.std.specs.Prelude.{◌≡◌, ◌+◌, ◌*◌, ◌++◌, ◌<◌, ◌≤◌, length, slice_index, take, codes};
-ghost use Rattle.std.specs.Io.KnownBytes.{Appends};
 ghost use Rattle.hex.specs.Hex.{encode_upper, upper_digits};
+ghost use Rattle.text_writer.specs.Written.{Writes};
 ghost use Rattle.persod.specs.Printed.{command_lines, line, text_of};
-ghost use Rattle.persod.specs.PlanEnds.{Writes};
 
 use std::io::Write;
 use store_data::{Cursor, Name, RecordPlan, count};
+use text_writer::{WriteFailed, write_text};
 
 const UPPER_DIGITS: [u8; 16] = *b"0123456789ABCDEF";
 
@@ -17,16 +17,12 @@ pub struct Planned<'a> {
     pub plan: RecordPlan<'a>,
 }
 
-/// A write failed, or took nothing.
-#[derive(Clone, Copy, Debug, PartialEq, Eq)]
-pub struct WriteFailed;
-
 /// Writes the lines of a record, or a beginning of them.
-pub fn write_record<W: Write>(writer: &mut W, record: &Planned<'_>) -> Result<(), WriteFailed>
-    ensures { Writes (W.contents writer.old) (W.contents writer.new) (text_of record.now) result }
+pub fn write_record<W: Write>(writer: &mut W, planned: &Planned<'_>) -> Result<(), WriteFailed>
+    ensures { Writes (W.contents writer.old) (W.contents writer.new) (text_of planned.now) result }
 {
-    write_name(writer, &record.name)?;
-    write_commands(writer, &record.plan)
+    write_name(writer, &planned.name)?;
+    write_commands(writer, &planned.plan)
 }
 
 // Writes a record's name line.
@@ -75,27 +71,4 @@ fn upper_digit(value: u8) -> u8
     ensures { result ≡ slice_index upper_digits value }
 {
     UPPER_DIGITS[usize::from(value)]
-}
-
-// Writes the whole text, or a beginning of it where the writer fails.
-fn write_text<W: Write>(writer: &mut W, text: &[u8]) -> Result<(), WriteFailed>
-    ensures { Writes (W.contents writer.old) (W.contents writer.new) text.now result }
-{
-    let mut at = 0;
-    while at < text.len() {
-        let taken = write_some(writer, &text[at..]);
-        if taken == 0 {
-            return Err(WriteFailed);
-        }
-        at += taken;
-    }
-    Ok(())
-}
-
-// How many bytes the writer took; a failed write took none.
-fn write_some<W: Write>(writer: &mut W, text: &[u8]) -> usize
-    ensures bound { result ≤ length text.now }
-    ensures bytes { Appends (W.contents writer.old) (W.contents writer.new) (take result text.now) }
-{
-    writer.write(text).unwrap_or(0)
 }

@@ -97,7 +97,7 @@ fn check_commands(
 
 #[test]
 fn commands_are_those_of_the_worked_rows(rt: HostRuntime) -> Result<(), Fail> {
-    let table: [(u8, u8, &[&str], &[&str]); 6] = [
+    let table: [(u8, u8, &[&str], &[&str]); 4] = [
         (255, 0, &[SMALL], &[SELECT, "80E28000050101027000\n"]),
         (
             255,
@@ -118,15 +118,23 @@ fn commands_are_those_of_the_worked_rows(rt: HostRuntime) -> Result<(), Fail> {
             ],
         ),
         (255, 0, &THREE, &[THREE_PRINTED]),
+    ];
+    for (max, low, lines, printed) in table {
+        check_commands(&rt, rt.alloc(), &product(max, low, false)?, lines, printed)?;
+    }
+    Ok(())
+}
+
+#[test]
+fn commands_share_and_cut_by_the_most_bytes(rt: HostRuntime) -> Result<(), Fail> {
+    let table: [(u8, &[&str], &[&str]); 2] = [
         (
             255,
-            0,
             &[SMALL, "R1,F00000000101,1,0,0,0102027000"],
             &[SELECT, "80E280000A01010270000102027000\n"],
         ),
         (
             16,
-            0,
             &["R1,F00000000101,1,0,1,90010E000102030405060708090A0B0C0D"],
             &[
                 SELECT,
@@ -134,8 +142,8 @@ fn commands_are_those_of_the_worked_rows(rt: HostRuntime) -> Result<(), Fail> {
             ],
         ),
     ];
-    for (max, low, lines, printed) in table {
-        check_commands(&rt, rt.alloc(), &product(max, low, false)?, lines, printed)?;
+    for (max, lines, printed) in table {
+        check_commands(&rt, rt.alloc(), &product(max, 0, false)?, lines, printed)?;
     }
     Ok(())
 }

@@ -4,7 +4,7 @@ use Rattle.std.specs.Io.KnownBytes.{Appends}
 use Rattle.std.specs.List.{flat_map}
 use Rattle.store_data.specs.Sequence.{AreRows}
 use Rattle.batch_import.specs.Batch.{batch_of}
-use Rattle.persod.specs.PlanEnds.{AppendsBeginning}
+use Rattle.text_writer.specs.Written.{AppendsBeginning}
 use Rattle.persod.specs.Printed.{planned_of, printed, text_of}
 use Rattle.persod.proofs.PrintLemmas.{printed_of, rows_of_records}
 use Rattle.persod.proofs.plan.plan_engine.Goals as goal

@@ -1,8 +1,8 @@
 use Rattle.std.proofs.Common.{length, refl}
 use Rattle.std.proofs.lemmas.Option.{slice_get_read}
 use Rattle.std.specs.List.{flat_map}
+use Rattle.text_writer.proofs.Pieces.{next_begun, stopped}
 use Rattle.persod.specs.Printed.{text_of}
-use Rattle.persod.proofs.PrintLemmas.{next_begun, stopped}
 use Rattle.persod.proofs.plan.print.Goals as goal
 
 pub returns-in_err-write_record : goal.returns-in_err-write_record

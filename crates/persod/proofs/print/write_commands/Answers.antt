@@ -3,9 +3,9 @@ use Rattle.std.specs.Io.KnownBytes.{Appends}
 use Rattle.std.specs.List.{flat_map}
 use Rattle.hex.specs.Hex.{encode_upper}
 use Rattle.store_data.specs.Sequence.{sequence}
-use Rattle.persod.specs.PlanEnds.{AppendsBeginning}
+use Rattle.text_writer.specs.Written.{AppendsBeginning}
+use Rattle.text_writer.proofs.Pieces.{next_begun, next_written, stopped}
 use Rattle.persod.specs.Printed.{command_lines, line}
-use Rattle.persod.proofs.PrintLemmas.{next_begun, next_written, stopped}
 use Rattle.persod.proofs.print.write_commands.Goals as goal
 
 pub returns-in_err-write_text : goal.returns-in_err-write_text

@@ -1,7 +1,7 @@
 use Rattle.std.proofs.Common.{[], ◌++◌, codes}
 use Rattle.std.proofs.KnownBytes.{Appends-nil}
+use Rattle.text_writer.proofs.Pieces.{begun, stopped, writes_then}
 use Rattle.persod.specs.Printed.{command_lines, line, text_of}
-use Rattle.persod.proofs.PrintLemmas.{begun, stopped, writes_then}
 use Rattle.persod.proofs.print.write_record.Goals as goal
 
 pub returns-in_err-write_name : goal.returns-in_err-write_name
@@ -9,11 +9,11 @@ unfolding text_of
 returns-in_err-write_name g c =
     let before = g.W.Write.contents c.args.writer.now in
     let after = g.W.Write.contents c.write_name.new.writer in
-    stopped _ before after (text_of c.args.record.now) c.from_residual.result c.from_residual.ensures.1
-    (begun before before after [] (line (codes "record " ++ c.args.record.now.name)) (command_lines c.args.record.now.plan) (Appends-nil before) c.in_err-write_name.ensures)
+    stopped _ before after (text_of c.args.planned.now) c.from_residual.result c.from_residual.ensures.1
+    (begun before before after [] (line (codes "record " ++ c.args.planned.now.name)) (command_lines c.args.planned.now.plan) (Appends-nil before) c.in_err-write_name.ensures)
 
 pub returns : goal.returns
 unfolding text_of
 returns g c =
     writes_then (g.W.Write.contents c.args.writer.now) (g.W.Write.contents c.write_name.new.writer) (g.W.Write.contents c.write_commands.new.writer)
-    (line (codes "record " ++ c.args.record.now.name)) (command_lines c.args.record.now.plan) c.write_commands.result c.in_ok-write_name.ensures c.write_commands.ensures
+    (line (codes "record " ++ c.args.planned.now.name)) (command_lines c.args.planned.now.plan) c.write_commands.result c.in_ok-write_name.ensures c.write_commands.ensures

@@ -1,6 +1,6 @@
 use Rattle.std.proofs.Common.{◌+◌, arith, length-drop}
-use Rattle.persod.proofs.TextLemmas.{beginning, written_more}
-use Rattle.persod.proofs.print.write_text.Goals as goal
+use Rattle.text_writer.proofs.Pieces.{beginning, written_more}
+use Rattle.text_writer.proofs.write_text.Goals as goal
 
 pub returns-then-taken-eq0 : goal.returns-then-taken-eq0
 returns-then-taken-eq0 g c =
