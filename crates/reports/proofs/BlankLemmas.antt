@@ -124,7 +124,7 @@ few_charged f p sound =
     let own = is_blank_of f p in
     let once = IsDistinct-from_AllPairs Decides-eqb (filter own (charges f)) (AllPairs-filter (λ a b. a ≢ b) own (charges f) sound.charged_once) in
     let inside : (q : ℕ) → has (filter own (charges f)) q ≡ true → has (flat_map serials_of (lots_of f p)) q ≡ true = λ q h.
-        among_lots p f.lots q (and_parts (has (charges f) q) (own q) (sym (is_member-filter nat_eq_equiv own q (λ x same. ap own (eqb-true q x same)) (charges f)) ∙ h)).1 in
+    among_lots p f.lots q (and_parts (has (charges f) q) (own q) (sym (is_member-filter nat_eq_equiv own q (λ x same. ap own (eqb-true q x same)) (charges f)) ∙ h)).1 in
     omega (
       arith,
       charged_are f p,

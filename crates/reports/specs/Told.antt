@@ -1,9 +1,11 @@
 -- What the calls answer.
 use Rattle.std.specs.Prelude.{◌≡◌, ℕ, List, Option, Some, None, Result, Ok, Err, ⊤}
+use Rattle.std.specs.Io.KnownBytes.{Appends, Keeps}
 use Rattle.job_core.specs.declared.refusal.Refusal.{Refusal}
 use Rattle.job_core.specs.Store.{Contents, HasCause, IsHonest, State}
 use Rattle.reports.specs.declared.fault.AccountFault.{AccountFault}
 use Rattle.reports.specs.declared.fault.AccountFault.TheVariants.{Refused, Store, Write}
+use Rattle.text_writer.specs.Written.{AppendsBeginning}
 
 -- the text was answered, or where there is none, the refusal
 abbrev pub IsTold : Refusal → Option (List ℕ) → Result (List ℕ) AccountFault → Type 0
@@ -22,3 +24,21 @@ HasFaultCause new (Ok answer) = ⊤
 HasFaultCause new (Err (Refused refusal)) = ⊤
 HasFaultCause new (Err (Store fault)) = HasCause {T = Unit {0}} new (Err fault)
 HasFaultCause new (Err Write) = ⊤
+
+-- the text was written, a beginning of it where the writer failed, or where there is none, the refusal was told
+abbrev pub IsWritten : Refusal → Option (List ℕ) → Option (List ℕ) → Option (List ℕ) → Result (Unit {0}) AccountFault → Type 0
+IsWritten why text before after (Ok u) = (told : List ℕ) × (text ≡ Some told) × Appends before after told
+IsWritten why text before after (Err (Refused refusal)) = (refusal ≡ why) × (text ≡ None)
+IsWritten why text before after (Err (Store fault)) = ⊤
+IsWritten why text before after (Err Write) = (told : List ℕ) × (text ≡ Some told) × AppendsBeginning before after told
+
+-- what is written is this of the contents
+abbrev pub Reports : State → State → Refusal → (Contents → Option (List ℕ)) → Option (List ℕ) → Option (List ℕ) → Result (Unit {0}) AccountFault → Type 0
+Reports old new why text_of before after result = IsHonest new → (c : Contents) → old.holds c → IsWritten why (text_of c) before after result
+
+-- nothing is written where no write was tried
+abbrev pub KeepsUntold : Option (List ℕ) → Option (List ℕ) → Result (Unit {0}) AccountFault → Type 0
+KeepsUntold before after (Ok u) = ⊤
+KeepsUntold before after (Err (Refused refusal)) = Keeps before after
+KeepsUntold before after (Err (Store fault)) = Keeps before after
+KeepsUntold before after (Err Write) = ⊤

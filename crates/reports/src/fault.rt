@@ -3,6 +3,7 @@ ghost use Rattle.std.specs.Prelude.{◌≡◌};
 
 use job_core::{Refusal, StoreFault};
 use std::alloc::AllocError;
+use text_writer::WriteFailed;
 
 /// Why an account or a report is not given.
 #[derive(Clone, Copy, Debug, PartialEq, Eq)]
@@ -33,5 +34,15 @@ impl From<AllocError> for AccountFault {
 
     fn from(_error: AllocError) -> AccountFault {
         AccountFault::Store(StoreFault::Memory)
+    }
+}
+
+impl From<WriteFailed> for AccountFault {
+    ghost use Rattle.reports.specs.declared.fault.AccountFault.TheVariants.{Write};
+
+    ghost from_gives = { λ _ fault. fault ≡ Write };
+
+    fn from(_error: WriteFailed) -> AccountFault {
+        AccountFault::Write
     }
 }

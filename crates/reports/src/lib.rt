@@ -8,19 +8,21 @@ ghost use Rattle.job_core.specs.Store.{Contents, HasCause, IsHonest, Reads, Stay
 ghost use Rattle.job_core.specs.declared.refusal.Refusal.TheVariants.{BatchUnknown, ProductUnknown};
 ghost use Rattle.reports.specs.Accounts.{AreAllCounted, batch_account, blank_account};
 ghost use Rattle.reports.specs.Report.{report_text};
-ghost use Rattle.reports.specs.Told.{HasFaultCause, Tells};
+ghost use Rattle.reports.specs.Told.{HasFaultCause, KeepsUntold, Reports, Tells};
 
 mod accounts;
 mod fault;
 mod names;
 mod report;
 
-pub use fault::AccountFault;
 use accounts::{batch_text, blank_text};
+pub use fault::AccountFault;
 use job_core::{JobStore, RecordLine, Refusal, StoreFault};
 use report::report_text;
 use std::alloc::Global;
+use std::io::Write;
 use store_data::{Bytes, Name};
+use text_writer::write_text;
 
 /// The account of a batch, in JSON: its records by their states, its sessions, and how many of these are spoiled. Errors: 56 for
 /// a batch that is not there, the store's faults, and refused memory as `Memory`.
@@ -59,6 +61,26 @@ pub fn blank_counts<S: JobStore>(
     Ok(blank_text(alloc, product, &totals)?)
 }
 
+/// Writes the report of a batch: lines for the batch, for each record in file order, and for its totals. Errors: 56 for a batch
+/// that is not there, the store's faults, and refused memory as `Memory`, with nothing written; `Write` where the writer fails, with
+/// a beginning written.
+pub fn close_report<S: JobStore, W: Write>(
+    alloc: Global,
+    store: &mut S,
+    batch: &Name,
+    writer: &mut W,
+) -> Result<(), AccountFault>
+    ensures stays { Stays (S.state store.old) (S.state store.new) }
+    ensures reports { Reports (S.state store.old) (S.state store.new) BatchUnknown (λ c. report_text c.facts batch.now)
+        (W.contents writer.old) (W.contents writer.new) result }
+    ensures untold { KeepsUntold (W.contents writer.old) (W.contents writer.new) result }
+    ensures cause { HasFaultCause (S.state store.new) result }
+{
+    let text = report_of(alloc, store, batch)?;
+    write_text(writer, text.as_slice())?;
+    Ok(())
+}
+
 // The report's text.
 fn report_of<S: JobStore>(alloc: Global, store: &mut S, batch: &Name) -> Result<Bytes, AccountFault>
     ensures stays { Stays (S.state store.old) (S.state store.new) }
@@ -94,3 +116,6 @@ fn record_lines<S: JobStore>(
     }
     Ok(lines)
 }
+
+#[cfg(test)]
+mod tests;
