@@ -1,4 +1,6 @@
 //! A small store, read after each change.
+mod memory;
+
 use super::ListStore;
 use job_core::{Change, JobStore, Lot, RecordState, SessionState};
 use std::alloc::Global;

@@ -1,0 +1,190 @@
+//! The worked exchanges.
+use super::bodies::{
+    BATCH_CLOSED, BUSY, CLOSED, DISCARDED, ENDED, GOOD, GOOD_AGAIN, NOT_FAILED, NOT_FINISHED,
+    NOT_WITHDRAWABLE, NOT_YOURS, NOTHING, OPENED, OPENED_AGAIN, OUT_OF_TURN, REUSED, SECOND,
+    SECOND_AGAIN, SPOILED, USED, WAITING, WITHDRAWN,
+};
+use super::*;
+
+// The max and the batch file of a set-up, the lines after it, and how batch B1 and the blanks of P1 stand then.
+#[derive(Clone, Copy)]
+pub(super) struct Exchange {
+    pub(super) max: u8,
+    pub(super) raw: &'static str,
+    pub(super) lines: &'static [Line<'static>],
+    pub(super) batch: [u64; 8],
+    pub(super) blanks: [u64; 6],
+}
+
+pub(super) const REPEATS: Exchange = Exchange {
+    max: 255,
+    raw: SMALL,
+    lines: &[
+        Line("m1", 1, Asked::Open("B1", 1000), 200, OPENED),
+        Line("m1", 1, Asked::Open("B1", 1000), 200, OPENED),
+        Line("m1", 1, Asked::Open("B1", 1000), 200, OPENED),
+        Line("m1", 3, Asked::Answer(1, 1, 0x9000), 409, OUT_OF_TURN),
+        Line("m1", 2, Asked::Answer(1, 0, 0x9000), 200, SECOND),
+        Line("m1", 3, Asked::Answer(1, 1, 0x9000), 409, OUT_OF_TURN),
+        Line("m1", 1, Asked::Open("B1", 1001), 409, REUSED),
+        Line("m2", 1, Asked::Abort(1), 409, NOT_YOURS),
+        Line("m1", 4, Asked::Open("B1", 1001), 409, BUSY),
+    ],
+    batch: [1, 0, 1, 0, 0, 0, 1, 0],
+    blanks: [1, 3, 0, 1, 0, 0],
+};
+
+pub(super) const MADE_AGAIN: Exchange = Exchange {
+    max: 255,
+    raw: SMALL,
+    lines: &[
+        Line("m1", 1, Asked::Open("B1", 1000), 200, OPENED),
+        Line("m1", 2, Asked::Answer(1, 0, 0x9000), 200, SECOND),
+        Line("m1", 3, Asked::Answer(1, 1, 0x6A80), 200, SPOILED),
+        Line("office", 4, Asked::Remake("B1", "R1"), 200, WAITING),
+        Line("m1", 4, Asked::Open("B1", 1001), 200, OPENED_AGAIN),
+        Line("m1", 5, Asked::Answer(2, 0, 0x9000), 200, SECOND_AGAIN),
+        Line("m1", 6, Asked::Answer(2, 1, 0x9000), 200, GOOD_AGAIN),
+        Line("office", 5, Asked::Remake("B1", "R1"), 409, NOT_FAILED),
+    ],
+    batch: [1, 0, 0, 0, 0, 1, 2, 1],
+    blanks: [1, 3, 1, 0, 1, 0],
+};
+
+pub(super) const CLOSING: Exchange = Exchange {
+    max: 255,
+    raw: SMALL,
+    lines: &[
+        Line("m1", 1, Asked::Open("B1", 1000), 200, OPENED),
+        Line("m1", 2, Asked::Answer(1, 0, 0x6F00), 200, SPOILED),
+        Line("office", 4, Asked::Close("B1"), 409, NOT_FINISHED),
+        Line("office", 5, Asked::Withdraw("B1", "R1"), 200, WITHDRAWN),
+        Line("office", 6, Asked::Close("B1"), 200, CLOSED),
+        Line("m1", 3, Asked::Open("B1", 1001), 409, BATCH_CLOSED),
+        Line("office", 7, Asked::Close("B1"), 409, BATCH_CLOSED),
+    ],
+    batch: [1, 0, 0, 0, 1, 0, 1, 1],
+    blanks: [1, 3, 0, 0, 1, 0],
+};
+
+pub(super) const LATE_RESET: Exchange = Exchange {
+    max: 255,
+    raw: SMALL,
+    lines: &[
+        Line(
+            "m1",
+            21,
+            Asked::Reset,
+            200,
+            r#"{"result":"reset","session":0}"#,
+        ),
+        Line("m1", 22, Asked::Open("B1", 1000), 200, OPENED),
+        Line(
+            "m1",
+            20,
+            Asked::Reset,
+            200,
+            r#"{"result":"reset","session":1}"#,
+        ),
+        Line("m1", 23, Asked::Answer(1, 0, 0x9000), 409, ENDED),
+    ],
+    batch: [1, 0, 0, 1, 0, 0, 1, 1],
+    blanks: [1, 3, 0, 0, 1, 0],
+};
+
+pub(super) const WITHDRAWALS: Exchange = Exchange {
+    max: 255,
+    raw: SMALL,
+    lines: &[
+        Line("office", 4, Asked::Discard(1002), 200, DISCARDED),
+        Line("office", 5, Asked::Discard(1002), 409, USED),
+        Line("m1", 1, Asked::Open("B1", 1000), 200, OPENED),
+        Line(
+            "office",
+            6,
+            Asked::Withdraw("B1", "R1"),
+            409,
+            NOT_WITHDRAWABLE,
+        ),
+        Line("m1", 2, Asked::Abort(1), 200, SPOILED),
+        Line("office", 7, Asked::Remake("B1", "R1"), 200, WAITING),
+        Line("office", 8, Asked::Withdraw("B1", "R1"), 200, WITHDRAWN),
+        Line("office", 9, Asked::Remake("B1", "R1"), 409, NOT_FAILED),
+        Line("m1", 3, Asked::Open("B1", 1001), 409, NOTHING),
+        Line("m1", 4, Asked::Answer(1, 0, 0x9000), 409, ENDED),
+    ],
+    batch: [1, 0, 0, 0, 1, 0, 1, 1],
+    blanks: [1, 3, 0, 0, 1, 1],
+};
+
+fn check_exchange(rt: &impl Abort, alloc: Global, exchange: &Exchange) -> Result<(), Fail> {
+    let mut store = store_after(rt, alloc, exchange.max, exchange.raw, exchange.lines)?;
+    assert_eq!(rt; batch_account(&mut store)?, exchange.batch);
+    assert_eq!(rt; blank_account(&mut store)?, exchange.blanks);
+    Ok(())
+}
+
+#[test]
+fn a_repeat_is_told_the_same_and_another_ask_is_refused(rt: HostRuntime) -> Result<(), Fail> {
+    check_exchange(&rt, rt.alloc(), &REPEATS)
+}
+
+#[test]
+fn a_spoiled_card_is_made_again(rt: HostRuntime) -> Result<(), Fail> {
+    check_exchange(&rt, rt.alloc(), &MADE_AGAIN)
+}
+
+#[test]
+fn a_batch_is_closed_where_its_records_are_finished(rt: HostRuntime) -> Result<(), Fail> {
+    check_exchange(&rt, rt.alloc(), &CLOSING)
+}
+
+#[test]
+fn a_late_reset_spoils_the_session_that_runs(rt: HostRuntime) -> Result<(), Fail> {
+    check_exchange(&rt, rt.alloc(), &LATE_RESET)
+}
+
+#[test]
+fn a_withdrawn_record_wants_no_card(rt: HostRuntime) -> Result<(), Fail> {
+    check_exchange(&rt, rt.alloc(), &WITHDRAWALS)
+}
+
+// A record of two pieces, the last of them tolerant, for a max of 16.
+pub(super) const TWO_PIECES: &str =
+    "record,aid,rank,enc,tol,dgi\nR1,F00000000101,1,0,1,90010E000102030405060708090A0B0C0D\n";
+
+const FIRST_PIECE: &str =
+    r#"{"command":"80E200001090010E000102030405060708090A0B0C","index":1,"result":"command","session":1}"#;
+
+const LAST_PIECE: &str = r#"{"command":"80E28001010D","index":2,"result":"command","session":1}"#;
+
+// A session of two pieces is opened, and its words are answered so.
+fn check_words(rt: &impl Abort, alloc: Global, words: &[(u16, &str)]) -> Result<(), Fail> {
+    let opened = [Line("m1", 1, Asked::Open("B1", 1000), 200, OPENED)];
+    let mut store = store_after(rt, alloc, 16, TWO_PIECES, &opened)?;
+    for (i, (sw, body)) in (0u32..3).zip(words) {
+        let asked = Asked::Answer(1, i, *sw);
+        tell(
+            rt,
+            alloc,
+            &mut store,
+            &[Line("m1", 2 + u64::from(i), asked, 200, body)],
+        )?;
+    }
+    Ok(())
+}
+
+#[test]
+fn a_tolerant_last_piece_may_be_answered_6a88(rt: HostRuntime) -> Result<(), Fail> {
+    let table: [&[(u16, &str)]; 5] = [
+        &[(0x9000, FIRST_PIECE), (0x9000, LAST_PIECE), (0x6A88, GOOD)],
+        &[(0x6110, FIRST_PIECE), (0x9000, LAST_PIECE), (0x9000, GOOD)],
+        &[(0x9000, FIRST_PIECE), (0x6A88, SPOILED)],
+        &[(0x6A88, SPOILED)],
+        &[(0x6283, SPOILED)],
+    ];
+    for words in table {
+        check_words(&rt, rt.alloc(), words)?;
+    }
+    Ok(())
+}
