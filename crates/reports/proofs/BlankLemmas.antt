@@ -19,7 +19,7 @@ use Rattle.job_core.specs.Accounts.{blank_states, blank_totals, is_blank_of, is_
 use Rattle.job_core.specs.Facts.{Facts, Session}
 use Rattle.job_core.specs.Sound.{IsSound, charges}
 use Rattle.job_core.specs.States.{is_good, is_in, is_running, is_spoiled, lot_of, session_state}
-use Rattle.reports.specs.Accounts.{AreAllCounted, charged, free}
+use Rattle.reports.specs.Accounts.{AreAllCounted, charged}
 
 -- ---- the serials of lots
 

@@ -1,16 +1,16 @@
 -- The texts of accounts, and a number in its places.
-use Rattle.std.proofs.Common.{◌≡◌, ℕ, ◌-◌, ◌≤◌, ◌^◌, Bool, true, false, List, [], ◌∷◌, ◌++◌, length, refl, sym, ap, ◌∙◌, arith, codes, decimal, append_assoc, append-nil}
+use Rattle.std.proofs.Common.{◌≡◌, ℕ, ◌-◌, ◌^◌, List, [], ◌∷◌, ◌++◌, length, sym, ap, ◌∙◌, arith, decimal, append_assoc, append-nil}
 use Rattle.std.specs.Prelude.{Result, Ok, Err, OnOk}
 use lib.Utf8.{encode}
-use Rattle.std.specs.Fmt.{char_count, digits, format_spec, padded_integral, styled_decimal}
+use Rattle.std.specs.Fmt.{char_count, format_spec, padded_integral, styled_decimal}
 use Rattle.std.specs.List.{repeat}
 use Rattle.json.specs.Print.{escape}
-use Rattle.serde_json.specs.Written.{compact_text, has_float}
+use Rattle.serde_json.specs.Written.{compact_text}
 use Rattle.serde_json.proofs.OnLiterals.{serde_json_on_literals}
 use Rattle.job_core.specs.declared.rows.BatchRow.{BatchRow}
 use Rattle.job_core.specs.declared.rows.BatchTotals.{BatchTotals}
 use Rattle.job_core.specs.declared.rows.BlankTotals.{BlankTotals}
-use Rattle.reports.specs.Accounts.{batch_text, blank_text, boolean}
+use Rattle.reports.specs.Accounts.{batch_text, blank_text}
 use Rattle.reports.specs.Report.{right_in}
 use Rattle.reports.specs.Values.{batch_value, blank_value}
 

@@ -1,4 +1,4 @@
-use Rattle.std.proofs.Common.{◌≡◌, ℕ, Vec, Global, arith, sym, ap, ◌∙◌}
+use Rattle.std.proofs.Common.{ℕ, Vec, Global, arith, sym, ap, ◌∙◌}
 use Rattle.job_core.specs.Store.{IsHonest}
 use Rattle.reports.specs.Report.{text_with}
 use Rattle.reports.proofs.ReportLemmas.{report_told}
