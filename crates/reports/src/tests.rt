@@ -1,4 +1,5 @@
-//! The worked accounts and the report, over a store of lists.
+//! The worked accounts and the report, over a store of lists. What is refused memory is asked again, so that each test says the same
+//! under `rt try --test --fail-alloc N`.
 ghost use Rattle.std.specs.Prelude.{◌≤◌, ◌<◌, ◌^◌, IfOk};
 ghost use Rattle.job_core.specs.Requests.{IsRequest};
 
@@ -6,6 +7,8 @@ use super::*;
 use job_core::{Lot, Request};
 use list_store::ListStore;
 use reply_store::handle;
+use std::alloc::AllocError;
+use std::process::Abort;
 use std::test::Fail;
 use store_data::Product;
 
@@ -15,7 +18,17 @@ fn name(text: &str) -> Result<Name, Fail> {
     Ok(Name::new(text.as_bytes()).ok_or("no name")?)
 }
 
-// The request of a client's number is accepted.
+// Asks again where memory was refused.
+macro_rules! at_last {
+    ($call:expr) => {
+        match $call {
+            Err(AccountFault::Store(StoreFault::Memory)) => $call,
+            answer => answer,
+        }
+    };
+}
+
+// The request of a client's number is accepted, at once or where it comes again after refused memory.
 fn accept(
     alloc: Global,
     store: &mut ListStore,
@@ -27,11 +40,20 @@ fn accept(
     requires most { number < 10 ^ 18 }
     requires ranged { IsRequest request.now }
 {
-    match handle(alloc, store, &name(client)?, number, b"", request) {
+    let client = name(client)?;
+    let kept = match handle(alloc, store, &client, number, b"", request) {
+        Err(StoreFault::Memory) => handle(alloc, store, &client, number, b"", request),
+        kept => kept,
+    };
+    match kept {
         Ok(kept) if kept.status == 200 => Ok(()),
         Ok(_) => Err(Fail::new("refused")),
         Err(_) => Err(Fail::new("a fault")),
     }
+}
+
+fn copy(alloc: Global, bytes: &[u8]) -> Result<Vec<u8>, AllocError> {
+    Vec::from_slice(alloc, bytes).or_else(|_| Vec::from_slice(alloc, bytes))
 }
 
 // Product P1, lot L1 of three blanks from 1000, and batch B1 of record R1.
@@ -52,7 +74,7 @@ fn stocked(alloc: Global) -> Result<ListStore, Fail> {
     let import = Request::Import {
         batch: name("B1")?,
         product: name("P1")?,
-        raw: Bytes::from_vec(Vec::from_slice(alloc, FILE)?),
+        raw: Bytes::from_vec(copy(alloc, FILE)?),
     };
     accept(
         alloc,
@@ -95,14 +117,31 @@ fn check_accounts(
     batch: &str,
     blanks: &str,
 ) -> Result<(), Fail> {
-    match batch_counts(alloc, store, &name("B1")?) {
+    match at_last!(batch_counts(alloc, store, &name("B1")?)) {
         Ok(told) if told.as_slice() == batch.as_bytes() => {}
         _ => return Err(Fail::new(batch)),
     }
-    match blank_counts(alloc, store, &name("P1")?) {
+    match at_last!(blank_counts(alloc, store, &name("P1")?)) {
         Ok(told) if told.as_slice() == blanks.as_bytes() => Ok(()),
         _ => Err(Fail::new(blanks)),
     }
+}
+
+// The report of batch B1 is this.
+fn check_report(
+    rt: &impl Abort,
+    alloc: Global,
+    store: &mut ListStore,
+    text: &str,
+) -> Result<(), Fail> {
+    let batch = name("B1")?;
+    let mut room = [0; 256];
+    let mut writer = &mut room[..];
+    let ended = at_last!(close_report(alloc, store, &batch, &mut writer));
+    assert_eq!(rt; ended, Ok(()));
+    assert!(rt; room.starts_with(text.as_bytes()));
+    assert_eq!(rt; room.get(text.len()).copied(), Some(0));
+    Ok(())
 }
 
 #[test]
@@ -132,6 +171,20 @@ fn a_running_card_and_a_discarded_blank_are_charged(rt: HostRuntime) -> Result<(
     )
 }
 
+const OPEN_REPORT: &str = "batch B1
+product P1
+state open
+record R1 good 2 1001
+records            1
+waiting            0
+running            0
+failed             0
+withdrawn          0
+good               1
+sessions           2
+spoiled            1
+";
+
 #[test]
 fn a_spoiled_card_is_counted_beside_its_remake(rt: HostRuntime) -> Result<(), Fail> {
     let alloc = rt.alloc();
@@ -153,15 +206,7 @@ fn a_spoiled_card_is_counted_beside_its_remake(rt: HostRuntime) -> Result<(), Fa
         r#"{"batch":"B1","closed":false,"failed":0,"good":1,"product":"P1","records":1,"running":0,"sessions":2,"spoiled":1,"waiting":0,"withdrawn":0}"#,
         r#"{"charged":2,"discarded":0,"free":1,"good":1,"lots":1,"product":"P1","running":0,"spoiled":1,"total":3}"#,
     )?;
-    let mut text = Vec::new(alloc);
-    assert!(rt; close_report(alloc, &mut store, &batch, &mut text).is_ok());
-    let text = String::from_utf8(text).ok().ok_or("not UTF-8")?;
-    assert!(rt;
-        text.starts_with(
-            "batch B1\nproduct P1\nstate open\nrecord R1 good 2 1001\nrecords            1\n"
-        )
-    );
-    Ok(())
+    check_report(&rt, alloc, &mut store, OPEN_REPORT)
 }
 
 #[test]
@@ -211,10 +256,7 @@ fn closed(alloc: Global) -> Result<ListStore, Fail> {
 fn a_closed_batch_is_reported(rt: HostRuntime) -> Result<(), Fail> {
     let alloc = rt.alloc();
     let mut store = closed(alloc)?;
-    let mut text = Vec::new(alloc);
-    assert!(rt; close_report(alloc, &mut store, &name("B1")?, &mut text).is_ok());
-    assert_eq!(rt; text.as_slice(), REPORT.as_bytes());
-    Ok(())
+    check_report(&rt, alloc, &mut store, REPORT)
 }
 
 #[test]
@@ -225,7 +267,7 @@ fn a_writer_that_fails_has_the_beginning(rt: HostRuntime) -> Result<(), Fail> {
     for most in 0..REPORT.len() {
         let mut room = [0; 256];
         let mut writer = &mut room[..most];
-        let ended = close_report(alloc, &mut store, &batch, &mut writer);
+        let ended = at_last!(close_report(alloc, &mut store, &batch, &mut writer));
         assert_eq!(rt; ended, Err(AccountFault::Write), "at {most}");
         assert_eq!(rt; &room[..most], &REPORT.as_bytes()[..most]);
     }
@@ -239,18 +281,18 @@ fn what_is_not_there_is_refused(rt: HostRuntime) -> Result<(), Fail> {
     let (batch, product) = (name("B9")?, name("P9")?);
     let unknown = AccountFault::Refused(Refusal::BatchUnknown);
     assert_eq!(rt;
-        batch_counts(alloc, &mut store, &batch).err(),
+        at_last!(batch_counts(alloc, &mut store, &batch)).err(),
         Some(unknown)
     );
     let mut text = Vec::new(alloc);
     assert_eq!(rt;
-        close_report(alloc, &mut store, &batch, &mut text),
+        at_last!(close_report(alloc, &mut store, &batch, &mut text)),
         Err(unknown)
     );
     assert!(rt; text.is_empty());
     let unknown = AccountFault::Refused(Refusal::ProductUnknown);
     assert_eq!(rt;
-        blank_counts(alloc, &mut store, &product).err(),
+        at_last!(blank_counts(alloc, &mut store, &product)).err(),
         Some(unknown)
     );
     Ok(())
