@@ -2,8 +2,6 @@
 use super::bodies::{BATCH_DIFFERS, LIMIT, LOT_DIFFERS, OVERLAP, PRODUCT_DIFFERS, PRODUCT_UNKNOWN};
 use super::*;
 
-const OTHER: &str = "record,aid,rank,enc,tol,dgi\nR1,F00000000101,1,0,0,0102027000\n";
-
 // A store with product P1, asked for under number 1.
 fn one_product(rt: &impl Abort, alloc: Global, max: u8) -> Result<ListStore, Fail> {
     let mut store = ListStore::new(alloc);

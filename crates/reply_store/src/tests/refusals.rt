@@ -7,8 +7,6 @@ use super::bodies::{
 };
 use super::*;
 
-const OTHER: &str = "record,aid,rank,enc,tol,dgi\nR1,F00000000101,1,0,0,0102027000\n";
-
 // After a set-up, these lines are told what they say.
 fn check(rt: &impl Abort, alloc: Global, lines: &[Line<'_>]) -> Result<(), Fail> {
     let _store = store_after(rt, alloc, 255, SMALL, lines)?;
