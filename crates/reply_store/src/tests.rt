@@ -20,6 +20,9 @@ use store_data::Product;
 // A batch file of one record with one grouping.
 const SMALL: &str = "record,aid,rank,enc,tol,dgi\nR1,F00000000101,1,0,0,0101027000\n";
 
+// Another one.
+const OTHER: &str = "record,aid,rank,enc,tol,dgi\nR1,F00000000101,1,0,0,0102027000\n";
+
 // What is asked: a product with its max, low and check, a lot with its product, first serial and count, a batch with its product
 // and its file, and the rest with the values of requests in their order.
 #[derive(Clone, Copy, Debug)]

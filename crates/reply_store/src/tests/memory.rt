@@ -1,5 +1,9 @@
 //! Refused memory, by `rt try --test --fail-alloc N`: each line is told what it says, or `Memory` and then what it says.
-use super::worked::{CLOSING, Exchange, LATE_RESET, MADE_AGAIN, REPEATS, TWO_PIECES, WITHDRAWALS};
+ghost use Rattle.reply_store.specs.Runs.{IsArrival};
+
+use super::worked::{
+    CLOSING, Exchange, LATE_RESET, MADE_AGAIN, REFUSED, REPEATS, STOCKING, TOLERANT, WITHDRAWALS,
+};
 use super::*;
 
 // Asks again where memory was refused.
@@ -84,4 +88,61 @@ fn a_late_reset_spoils_after_refused_memory(rt: HostRuntime) -> Result<(), Fail>
 #[test]
 fn a_record_is_withdrawn_after_refused_memory(rt: HostRuntime) -> Result<(), Fail> {
     check_exchange(&rt, rt.alloc(), &WITHDRAWALS)
+}
+
+#[test]
+fn two_pieces_are_sent_after_refused_memory(rt: HostRuntime) -> Result<(), Fail> {
+    check_exchange(&rt, rt.alloc(), &TOLERANT)
+}
+
+#[test]
+fn lots_and_batches_are_stocked_after_refused_memory(rt: HostRuntime) -> Result<(), Fail> {
+    check_exchange(&rt, rt.alloc(), &STOCKING)
+}
+
+#[test]
+fn a_refusal_is_told_after_refused_memory(rt: HostRuntime) -> Result<(), Fail> {
+    check_exchange(&rt, rt.alloc(), &REFUSED)
+}
+
+fn discard(alloc: Global, client: Name, blank: u64) -> Arrival
+    ensures { IsArrival result }
+{
+    Arrival {
+        client,
+        number: 1,
+        ask: Bytes::from_vec(Vec::new(alloc)),
+        request: Request::Discard { blank },
+    }
+}
+
+// In one of two runs each arrival meets no refusal. Where the memory of the outcomes is refused, none is handled.
+#[test]
+fn a_list_is_handled_after_refused_memory(rt: HostRuntime) -> Result<(), Fail> {
+    let alloc = rt.alloc();
+    let mut store = ListStore::new(alloc);
+    tell_at_last(&rt, alloc, &mut store, &set_up(255, SMALL))?;
+    let (a, b, c) = (name("m1"), name("m2"), name("m3"));
+    let arrivals = [
+        discard(alloc, a.ok_or("no name")?, 1000),
+        discard(alloc, b.ok_or("no name")?, 1001),
+        discard(alloc, c.ok_or("no name")?, 1002),
+    ];
+    for _ in 0..2 {
+        let before = store.is_charged(1000)?;
+        match run(alloc, &mut store, &arrivals) {
+            Err(_) => assert_eq!(rt; store.is_charged(1000)?, before),
+            Ok(outcomes) => {
+                assert_eq!(rt; outcomes.len(), 3);
+                for outcome in &outcomes {
+                    match outcome {
+                        Ok(kept) => assert_eq!(rt; kept.status, 200),
+                        Err(fault) => assert_eq!(rt; *fault, StoreFault::Memory),
+                    }
+                }
+            }
+        }
+    }
+    assert_eq!(rt; at_last!(blank_account(&mut store)), [1, 3, 0, 0, 0, 3]);
+    Ok(())
 }
