@@ -1,1 +1,3 @@
 pub mod Texts
+pub mod HeadLemmas
+pub mod LineLemmas

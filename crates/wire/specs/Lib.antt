@@ -1,1 +1,4 @@
 pub mod Texts
+pub mod Refusals
+pub mod Heads
+pub mod Judged

@@ -1,8 +1,10 @@
-//! The heads of the worked replies.
+//! The heads of the worked replies, and the heads that are taken and refused.
 ghost use Rattle.std.specs.Prelude.{◌≡◌};
 ghost use Rattle.wire.specs.Texts.{IsStatus};
 
-use super::{Kind, Route, reply_head};
+use super::{Kind, Refusal, Route, reply_head};
+use crate::head::judge;
+use std::alloc::Global;
 use std::process::Abort;
 use std::test::Fail;
 
@@ -65,5 +67,112 @@ fn the_longest_head_has_room(rt: HostRuntime) -> Result<(), Fail> {
     let end = reply_head(431, Kind::WrongMethod(Route::Post), usize::MAX, &mut out);
     assert_eq!(rt; end, 150);
     assert!(rt; out[..end].starts_with(b"HTTP/1.1 431 Request Header Fields Too Large\r\n"));
+    Ok(())
+}
+
+#[test]
+fn fixed_replies_have_their_sizes(rt: HostRuntime) -> Result<(), Fail> {
+    let table = [
+        (Refusal::Malformed, 400, 34),
+        (Refusal::NoRoute, 404, 33),
+        (Refusal::WrongMethod(Route::Get), 405, 31),
+        (Refusal::TooLarge, 413, 34),
+        (Refusal::HeadTooLarge, 431, 39),
+        (Refusal::Storage, 503, 32),
+    ];
+    for (why, status, size) in table {
+        assert_eq!(rt; (why.status(), why.body().len()), (status, size));
+    }
+    Ok(())
+}
+
+// A head has this size of a body, or is refused so.
+fn check_judged(rt: &impl Abort, head: &str, judged: Result<usize, Refusal>) -> Result<(), Fail> {
+    assert_eq!(rt;
+        judge(head.as_bytes()).map(|asks| asks.size),
+        judged,
+        "at {head:?}"
+    );
+    Ok(())
+}
+
+#[test]
+fn a_head_tells_its_bodys_size(rt: HostRuntime) -> Result<(), Fail> {
+    let table = [
+        ("Host: localhost\r\nContent-Length: 63", Ok(63)),
+        ("Host: localhost", Ok(0)),
+        ("content-LENGTH: \t5 ", Ok(5)),
+        ("Content-Length:007", Ok(7)),
+        ("Content-Length: 1048576", Ok(1_048_576)),
+        ("Content-Length: 1048577", Err(Refusal::TooLarge)),
+        (
+            "Content-Length: 99999999999999999999999",
+            Err(Refusal::TooLarge),
+        ),
+        ("Content-Length: +1", Err(Refusal::Malformed)),
+        ("Content-Length: 1 2", Err(Refusal::Malformed)),
+        ("Content-Length:", Err(Refusal::Malformed)),
+        (
+            "Content-Length: 1\r\nContent-Length: 1",
+            Err(Refusal::Malformed),
+        ),
+        (
+            "Content-Length: 9999999\r\nContent-Length: x",
+            Err(Refusal::Malformed),
+        ),
+        ("Transfer-Encoding: chunked", Err(Refusal::Malformed)),
+        (
+            "Content-Length: 9999999\r\nTRANSFER-encoding: x",
+            Err(Refusal::Malformed),
+        ),
+        ("Expect: 100-continue", Ok(0)),
+    ];
+    for (lines, judged) in table {
+        let head = format!(in rt.alloc(); "POST /c/office/1 HTTP/1.1\r\n{lines}\r\n\r\n")?;
+        check_judged(&rt, head.as_str(), judged)?;
+    }
+    Ok(())
+}
+
+#[test]
+fn a_head_is_of_the_grammar(rt: HostRuntime) -> Result<(), Fail> {
+    let table = [
+        ("GET /batch/B9 HTTP/1.0\r\n\r\n", Ok(0)),
+        ("\r\nGET / HTTP/1.1\r\n\r\n", Ok(0)),
+        ("GET / HTTP/2.0\r\n\r\n", Err(Refusal::Malformed)),
+        ("GET  / HTTP/1.1\r\n\r\n", Err(Refusal::Malformed)),
+        ("GET / HTTP/1.1\nHost: x\r\n\r\n", Err(Refusal::Malformed)),
+        (
+            "GET / HTTP/1.1\r\nHost : x\r\n\r\n",
+            Err(Refusal::Malformed),
+        ),
+        ("\r\n\r\n", Err(Refusal::Malformed)),
+        ("GET / HTTP/1.1\r\n\r\nX", Err(Refusal::Malformed)),
+        ("GET / HTTP/1.1\r\nHost", Err(Refusal::Malformed)),
+    ];
+    for (head, judged) in table {
+        check_judged(&rt, head, judged)?;
+    }
+    Ok(())
+}
+
+// A head of so many header lines.
+fn lines(alloc: Global, front: &str, count: usize) -> Result<String, Fail> {
+    let lines = "A: b\r\n".repeat(alloc, count)?;
+    Ok(format!(in alloc; "{front}GET / HTTP/1.1\r\n{lines}\r\n")?)
+}
+
+#[test]
+fn a_head_has_32_lines_at_most(rt: HostRuntime) -> Result<(), Fail> {
+    let table = [
+        ("", 32, Ok(0)),
+        ("", 33, Err(Refusal::HeadTooLarge)),
+        ("\r\n", 31, Ok(0)),
+        ("\r\n", 32, Err(Refusal::HeadTooLarge)),
+    ];
+    for (front, count, judged) in table {
+        let head = lines(rt.alloc(), front, count)?;
+        check_judged(&rt, head.as_str(), judged)?;
+    }
     Ok(())
 }

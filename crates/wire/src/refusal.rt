@@ -1,0 +1,64 @@
+//! Fixed replies, to messages that ask for nothing or can't be answered.
+ghost use Rattle.std.specs.Prelude.{◌≡◌};
+ghost use Rattle.wire.specs.Refusals.{body_of, kind_of, status_of};
+ghost use Rattle.wire.specs.Texts.{IsStatus};
+
+use crate::reply::{Kind, Route};
+
+/// Why a message is answered by a fixed reply (this project's profile).
+#[derive(Clone, Copy, Debug, PartialEq, Eq)]
+pub enum Refusal {
+    /// The head, a name, a number or the JSON isn't as it has to be: 400.
+    Malformed,
+    /// The target is none that is served: 404.
+    NoRoute,
+    /// The target has another method: 405.
+    WrongMethod(Route),
+    /// The body has over 1,048,576 bytes: 413.
+    TooLarge,
+    /// The head has over 8,192 bytes or 32 header lines: 431.
+    HeadTooLarge,
+    /// The store failed, or memory was refused: 503.
+    Storage,
+}
+
+impl Refusal {
+    /// The status of the reply (RFC 9110 section 15; RFC 6585 section 5).
+    pub fn status(self) -> u16
+        ensures value { result ≡ status_of self }
+        ensures is { IsStatus result }
+    {
+        match self {
+            Refusal::Malformed => 400,
+            Refusal::NoRoute => 404,
+            Refusal::WrongMethod(_) => 405,
+            Refusal::TooLarge => 413,
+            Refusal::HeadTooLarge => 431,
+            Refusal::Storage => 503,
+        }
+    }
+
+    /// What the reply carries.
+    pub fn kind(self) -> Kind
+        ensures { result ≡ kind_of self }
+    {
+        match self {
+            Refusal::WrongMethod(route) => Kind::WrongMethod(route),
+            _ => Kind::Json,
+        }
+    }
+
+    /// The reply's body.
+    pub fn body(self) -> &'static [u8]
+        ensures { result.now ≡ body_of self }
+    {
+        match self {
+            Refusal::Malformed => br#"{"code":400,"refused":"malformed"}"#,
+            Refusal::NoRoute => br#"{"code":404,"refused":"no-route"}"#,
+            Refusal::WrongMethod(_) => br#"{"code":405,"refused":"method"}"#,
+            Refusal::TooLarge => br#"{"code":413,"refused":"too-large"}"#,
+            Refusal::HeadTooLarge => br#"{"code":431,"refused":"head-too-large"}"#,
+            Refusal::Storage => br#"{"code":503,"refused":"storage"}"#,
+        }
+    }
+}
