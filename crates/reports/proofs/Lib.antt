@@ -1,3 +1,4 @@
 pub mod BlankLemmas
+pub mod RecordLemmas
 pub mod TextLemmas
 pub mod ReportLemmas

@@ -20,11 +20,15 @@ batch_text b row t =
     ++ codes ",\"running\":" ++ decimal t.running ++ codes ",\"sessions\":" ++ decimal t.sessions ++ codes ",\"spoiled\":" ++ decimal t.spoiled
     ++ codes ",\"waiting\":" ++ decimal t.waiting ++ codes ",\"withdrawn\":" ++ decimal t.withdrawn ++ codes "}"
 
+-- the five numbers add up to the records
+abbrev pub AreAllStanding : BatchTotals → Type 0
+AreAllStanding t = t.waiting + t.running + t.failed + t.withdrawn + t.good ≡ t.records
+
 -- the account of the batch with this name, if there is one
 abbrev pub batch_account : Facts → List ℕ → Option (List ℕ)
 batch_account f b = option_map (λ row. batch_text b row (batch_totals f b)) (batch_row_of f b)
 
--- the blanks that an opening or a discard names
+-- the sum of these four
 abbrev pub charged : BlankTotals → ℕ
 charged t = t.good + t.running + t.spoiled + t.discarded
 
@@ -41,6 +45,6 @@ blank_text p t =
 abbrev pub blank_account : Facts → List ℕ → Option (List ℕ)
 blank_account f p = option_map (λ _. blank_text p (blank_totals f p)) (product_named f.products p)
 
--- each blank is free, good, running, spoiled or discarded
+-- the five numbers add up to the total
 abbrev pub AreAllCounted : BlankTotals → Type 0
 AreAllCounted t = free t + t.good + t.running + t.spoiled + t.discarded ≡ t.total

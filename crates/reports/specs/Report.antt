@@ -10,11 +10,11 @@ use Rattle.job_core.specs.Rows.{batch_row_of}
 use Rattle.job_core.specs.States.{records_named}
 use Rattle.reports.specs.Names.{closed_name, state_name}
 
--- the text, with blanks after it up to this many places
+-- the text, with spaces after it up to this many places
 abbrev pub left_in : ℕ → List ℕ → List ℕ
 left_in places text = text ++ repeat (places - length text) (codes " ")
 
--- the text, with blanks before it up to this many places
+-- the text, with spaces before it up to this many places
 abbrev pub right_in : ℕ → List ℕ → List ℕ
 right_in places text = repeat (places - length text) (codes " ") ++ text
 
@@ -22,15 +22,15 @@ unfoldable pub head_text : List ℕ → BatchRow → List ℕ
 head_text b row = codes "batch " ++ b ++ codes "\nproduct " ++ row.product ++ codes "\nstate " ++ closed_name row.is_closed ++ codes "\n"
 
 -- the serial of the good card, or `-`
-abbrev pub blank_text : Option ℕ → List ℕ
-blank_text None = codes "-"
-blank_text (Some blank) = decimal blank
+abbrev pub serial_text : Option ℕ → List ℕ
+serial_text None = codes "-"
+serial_text (Some blank) = decimal blank
 
 unfoldable pub record_text : RecordLine → List ℕ
 record_text line =
-    codes "record " ++ line.rec ++ codes " " ++ state_name line.stands ++ codes " " ++ decimal line.sessions ++ codes " " ++ blank_text line.blank ++ codes "\n"
+    codes "record " ++ line.rec ++ codes " " ++ state_name line.stands ++ codes " " ++ decimal line.sessions ++ codes " " ++ serial_text line.blank ++ codes "\n"
 
--- after the label a blank, and the number right in 10 places
+-- after the label a space, and the number right in 10 places
 abbrev pub labelled : List ℕ → ℕ → List ℕ
 labelled label n = label ++ codes " " ++ right_in 10 (decimal n) ++ codes "\n"
 

@@ -18,12 +18,14 @@ IsTold why text (Err Write) = ⊥
 abbrev pub Tells : State → State → Refusal → (Contents → Option (List ℕ)) → Result (List ℕ) AccountFault → Type 0
 Tells old new why text_of result = IsHonest new → (c : Contents) → old.holds c → IsTold why (text_of c) result
 
--- a fault of the device is told only where it failed
-abbrev pub HasFaultCause : {T : Type 0} → State → Result T AccountFault → Type 0
-HasFaultCause new (Ok answer) = ⊤
-HasFaultCause new (Err (Refused refusal)) = ⊤
-HasFaultCause new (Err (Store fault)) = HasCause {T = Unit {0}} new (Err fault)
-HasFaultCause new (Err Write) = ⊤
+-- what isn't told: another refusal, a fault of a device that didn't fail, or a failed write
+abbrev pub HasFaultCause : Refusal → State → Result (List ℕ) AccountFault → Type 0
+HasFaultCause why new (Ok told) = ⊤
+HasFaultCause why new (Err (Refused refusal)) = refusal ≡ why
+HasFaultCause why new (Err (Store fault)) = HasCause {T = Unit {0}} new (Err fault)
+HasFaultCause why new (Err Write) = ⊥
+
+-- ---- what is written
 
 -- the text was written, a beginning of it where the writer failed, or where there is none, the refusal was told
 abbrev pub IsWritten : Refusal → Option (List ℕ) → Option (List ℕ) → Option (List ℕ) → Result (Unit {0}) AccountFault → Type 0
@@ -36,9 +38,16 @@ IsWritten why text before after (Err Write) = (told : List ℕ) × (text ≡ Som
 abbrev pub Reports : State → State → Refusal → (Contents → Option (List ℕ)) → Option (List ℕ) → Option (List ℕ) → Result (Unit {0}) AccountFault → Type 0
 Reports old new why text_of before after result = IsHonest new → (c : Contents) → old.holds c → IsWritten why (text_of c) before after result
 
--- nothing is written where no write was tried
+-- what was there stays, and nothing is written where no write was tried
 abbrev pub KeepsUntold : Option (List ℕ) → Option (List ℕ) → Result (Unit {0}) AccountFault → Type 0
-KeepsUntold before after (Ok u) = ⊤
+KeepsUntold before after (Ok u) = (told : List ℕ) × Appends before after told
 KeepsUntold before after (Err (Refused refusal)) = Keeps before after
 KeepsUntold before after (Err (Store fault)) = Keeps before after
-KeepsUntold before after (Err Write) = ⊤
+KeepsUntold before after (Err Write) = (told : List ℕ) × Appends before after told
+
+-- the same of a report, whose write may fail
+abbrev pub HasReportCause : Refusal → State → Result (Unit {0}) AccountFault → Type 0
+HasReportCause why new (Ok u) = ⊤
+HasReportCause why new (Err (Refused refusal)) = refusal ≡ why
+HasReportCause why new (Err (Store fault)) = HasCause {T = Unit {0}} new (Err fault)
+HasReportCause why new (Err Write) = ⊤

@@ -1,14 +1,14 @@
 //! The accounts of batches and of products' blanks, and the report of a batch (this project's profile).
 #![tactic(auto)]
 
-ghost use Rattle.std.specs.Prelude.{◌≡◌, OnOk, map, take};
-ghost use Rattle.job_core.specs.Accounts.{blank_totals, record_line};
+ghost use Rattle.std.specs.Prelude.{◌≡◌, map, take};
+ghost use Rattle.job_core.specs.Accounts.{batch_totals, blank_totals, record_line};
 ghost use Rattle.job_core.specs.States.{records_named};
 ghost use Rattle.job_core.specs.Store.{Contents, HasCause, IsHonest, Reads, Stays};
 ghost use Rattle.job_core.specs.declared.refusal.Refusal.TheVariants.{BatchUnknown, ProductUnknown};
-ghost use Rattle.reports.specs.Accounts.{AreAllCounted, batch_account, blank_account};
+ghost use Rattle.reports.specs.Accounts.{AreAllCounted, AreAllStanding, batch_account, blank_account};
 ghost use Rattle.reports.specs.Report.{report_text};
-ghost use Rattle.reports.specs.Told.{HasFaultCause, KeepsUntold, Reports, Tells};
+ghost use Rattle.reports.specs.Told.{HasFaultCause, HasReportCause, KeepsUntold, Reports, Tells};
 
 mod accounts;
 mod fault;
@@ -26,6 +26,7 @@ use text_writer::write_text;
 
 /// The account of a batch, in JSON: its records by their states, its sessions, and how many of these are spoiled. Errors: 56 for
 /// a batch that is not there, the store's faults, and refused memory as `Memory`.
+#[tactic(auto, using(crate::proofs::RecordLemmas::all_standing))]
 pub fn batch_counts<S: JobStore>(
     alloc: Global,
     store: &mut S,
@@ -33,7 +34,8 @@ pub fn batch_counts<S: JobStore>(
 ) -> Result<Bytes, AccountFault>
     ensures stays { Stays (S.state store.old) (S.state store.new) }
     ensures tells { Tells (S.state store.old) (S.state store.new) BatchUnknown (λ c. batch_account c.facts batch.now) result }
-    ensures cause { HasFaultCause (S.state store.new) result }
+    ensures all { (c : Contents) → AreAllStanding (batch_totals c.facts batch.now) }
+    ensures cause { HasFaultCause BatchUnknown (S.state store.new) result }
 {
     let Some(row) = store.batch(batch)? else {
         return Err(AccountFault::Refused(Refusal::BatchUnknown));
@@ -51,8 +53,8 @@ pub fn blank_counts<S: JobStore>(
 ) -> Result<Bytes, AccountFault>
     ensures stays { Stays (S.state store.old) (S.state store.new) }
     ensures tells { Tells (S.state store.old) (S.state store.new) ProductUnknown (λ c. blank_account c.facts product.now) result }
-    ensures all { OnOk result ((c : Contents) → (S.state store.old).holds c → AreAllCounted (blank_totals c.facts product.now)) }
-    ensures cause { HasFaultCause (S.state store.new) result }
+    ensures all { (c : Contents) → (S.state store.old).holds c → AreAllCounted (blank_totals c.facts product.now) }
+    ensures cause { HasFaultCause ProductUnknown (S.state store.new) result }
 {
     let Some(_) = store.product(product)? else {
         return Err(AccountFault::Refused(Refusal::ProductUnknown));
@@ -74,7 +76,7 @@ pub fn close_report<S: JobStore, W: Write>(
     ensures reports { Reports (S.state store.old) (S.state store.new) BatchUnknown (λ c. report_text c.facts batch.now)
         (W.contents writer.old) (W.contents writer.new) result }
     ensures untold { KeepsUntold (W.contents writer.old) (W.contents writer.new) result }
-    ensures cause { HasFaultCause (S.state store.new) result }
+    ensures cause { HasReportCause BatchUnknown (S.state store.new) result }
 {
     let text = report_of(alloc, store, batch)?;
     write_text(writer, text.as_slice())?;
@@ -85,7 +87,7 @@ pub fn close_report<S: JobStore, W: Write>(
 fn report_of<S: JobStore>(alloc: Global, store: &mut S, batch: &Name) -> Result<Bytes, AccountFault>
     ensures stays { Stays (S.state store.old) (S.state store.new) }
     ensures tells { Tells (S.state store.old) (S.state store.new) BatchUnknown (λ c. report_text c.facts batch.now) result }
-    ensures cause { HasFaultCause (S.state store.new) result }
+    ensures cause { HasFaultCause BatchUnknown (S.state store.new) result }
 {
     let Some(row) = store.batch(batch)? else {
         return Err(AccountFault::Refused(Refusal::BatchUnknown));

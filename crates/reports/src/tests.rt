@@ -127,14 +127,15 @@ fn check_accounts(
     }
 }
 
-// The report of batch B1 is this.
+// The report of a batch is this.
 fn check_report(
     rt: &impl Abort,
     alloc: Global,
     store: &mut ListStore,
+    batch: &str,
     text: &str,
 ) -> Result<(), Fail> {
-    let batch = name("B1")?;
+    let batch = name(batch)?;
     let mut room = [0; 256];
     let mut writer = &mut room[..];
     let ended = at_last!(close_report(alloc, store, &batch, &mut writer));
@@ -206,7 +207,7 @@ fn a_spoiled_card_is_counted_beside_its_remake(rt: HostRuntime) -> Result<(), Fa
         r#"{"batch":"B1","closed":false,"failed":0,"good":1,"product":"P1","records":1,"running":0,"sessions":2,"spoiled":1,"waiting":0,"withdrawn":0}"#,
         r#"{"charged":2,"discarded":0,"free":1,"good":1,"lots":1,"product":"P1","running":0,"spoiled":1,"total":3}"#,
     )?;
-    check_report(&rt, alloc, &mut store, OPEN_REPORT)
+    check_report(&rt, alloc, &mut store, "B1", OPEN_REPORT)
 }
 
 #[test]
@@ -237,6 +238,37 @@ sessions           1
 spoiled            1
 ";
 
+const OTHER_FILE: &[u8] =
+    b"record,aid,rank,enc,tol,dgi\nR2,F00000000101,1,0,0,0101027000\nR1,F00000000101,1,0,0,0101027000\n";
+
+const OTHER_REPORT: &str = "batch B2
+product P1
+state open
+record R2 waiting 0 -
+record R1 waiting 0 -
+records            2
+waiting            2
+running            0
+failed             0
+withdrawn          0
+good               0
+sessions           0
+spoiled            0
+";
+
+#[test]
+fn another_batch_is_reported_apart(rt: HostRuntime) -> Result<(), Fail> {
+    let alloc = rt.alloc();
+    let mut store = spoiled(alloc)?;
+    let import = Request::Import {
+        batch: name("B2")?,
+        product: name("P1")?,
+        raw: Bytes::from_vec(copy(alloc, OTHER_FILE)?),
+    };
+    accept(alloc, &mut store, "office", 4, &import)?;
+    check_report(&rt, alloc, &mut store, "B2", OTHER_REPORT)
+}
+
 // The batch of a spoiled card, its record withdrawn, closed.
 fn closed(alloc: Global) -> Result<ListStore, Fail> {
     let mut store = spoiled(alloc)?;
@@ -256,7 +288,7 @@ fn closed(alloc: Global) -> Result<ListStore, Fail> {
 fn a_closed_batch_is_reported(rt: HostRuntime) -> Result<(), Fail> {
     let alloc = rt.alloc();
     let mut store = closed(alloc)?;
-    check_report(&rt, alloc, &mut store, REPORT)
+    check_report(&rt, alloc, &mut store, "B1", REPORT)
 }
 
 #[test]

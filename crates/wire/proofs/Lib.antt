@@ -1,3 +1,4 @@
 pub mod Texts
 pub mod HeadLemmas
 pub mod LineLemmas
+pub mod EndLemmas

@@ -1,5 +1,5 @@
 -- A head has at least a line end for each of its fields.
-use Rattle.std.proofs.Common.{◌≡◌, ℕ, ◌+◌, ◌≤◌, ◌==◌, ◌&&◌, Bool, true, false, cond, not, List, [], ◌∷◌, ◌++◌, length, map, take, drop, refl, sym, ap, subst, ◌∙◌, arith, append-nil}
+use Rattle.std.proofs.Common.{◌≡◌, ℕ, ◌+◌, ◌≤◌, ◌==◌, ◌&&◌, Bool, true, false, cond, not, List, [], ◌∷◌, ◌++◌, length, map, take, drop, inl, inr, refl, sym, ap, subst, ◌∙◌, arith, append-nil}
 use Rattle.std.specs.Prelude.{⊤, Err, IsTrue, nat_lt, count_by, sum_by, Result, Ok}
 use Rattle.std.specs.List.{flat_map}
 use Rattle.std.proofs.lemmas.Bool.Decides.{nat_tests}
@@ -13,7 +13,7 @@ use Rattle.httparse.specs.declared.spans.RequestSpans.{RequestSpans}
 use Rattle.httparse.specs.Spans.{IsRequestAt, header_bytes, name_and_value, span_bytes}
 use Rattle.wire.specs.declared.refusal.Refusal.TheVariants.{Malformed}
 use Rattle.wire.specs.declared.refusal.Refusal.{Refusal}
-use Rattle.wire.specs.Heads.{Asks, IsJudged, asks_of, bare_lf_after, body_size, sized, has_bare_lf, pairs, pairs_after}
+use Rattle.wire.specs.Heads.{HeadParts, IsJudged, parts_of, bare_lf_after, body_size, sized, has_bare_lf, pairs, pairs_after}
 
 abbrev is_lf : ℕ → Bool
 is_lf b = b == 10
@@ -75,23 +75,23 @@ judged_unread head whole few none = record {
   bare = λ bare. absurd (not_both (has_bare_lf head) bare whole);
   many = λ _ many. absurd (not_both (nat_lt 34 (pairs head)) many few);
   read = λ _ _ h reads. absurd (none h reads (omega (arith, few_fields head h reads, few_pairs head whole few)));
-  unread = λ _ _ _. refl;
+  either = λ _ _. inr ((λ h reads. none h reads (omega (arith, few_fields head h reads, few_pairs head whole few))), refl);
 }
 
-pub judged_read : (head : List ℕ) (result : Result Asks Refusal) → has_bare_lf head ≡ false → nat_lt 34 (pairs head) ≡ false → (h : RequestHead) → ReadsRequest head h []
-    → ((h : RequestHead) → ReadsRequest head h [] → length h.fields ≤ 34 → result ≡ asks_of h) → IsJudged head result
+pub judged_read : (head : List ℕ) (result : Result HeadParts Refusal) → has_bare_lf head ≡ false → nat_lt 34 (pairs head) ≡ false → (h : RequestHead) → ReadsRequest head h []
+    → ((h : RequestHead) → ReadsRequest head h [] → length h.fields ≤ 34 → result ≡ parts_of h) → IsJudged head result
 judged_read head result whole few h reads each = record {
   bare = λ bare. absurd (not_both (has_bare_lf head) bare whole);
   many = λ _ many. absurd (not_both (nat_lt 34 (pairs head)) many few);
   read = λ _ _ g same. each g same (omega (arith, few_fields head g same, few_pairs head whole few));
-  unread = λ _ _ none. absurd (none h reads);
+  either = λ _ _. inl (h, reads, each h reads (omega (arith, few_fields head h reads, few_pairs head whole few)));
 }
 
 -- what the parts of a head that was read ask for
-pub asks_is : (head : List ℕ) (headers : List HeaderSpan) (spans : RequestSpans) (h : RequestHead) (r : Result ℕ Refusal) → IsRequestAt head headers spans h
+pub parts_are : (head : List ℕ) (headers : List HeaderSpan) (spans : RequestSpans) (h : RequestHead) (r : Result ℕ Refusal) → IsRequestAt head headers spans h
     → r ≡ body_size (map (header_bytes head) (take spans.headers headers))
-    → sized (span_bytes head spans.method) (span_bytes head spans.path) r ≡ asks_of h
-asks_is head headers spans h r at is =
+    → sized (span_bytes head spans.method) (span_bytes head spans.path) r ≡ parts_of h
+parts_are head headers spans h r at is =
     (λ i. sized (at.method i) (at.path i) (is i)) ∙ ap (λ fields. sized h.method h.target (body_size fields)) at.fields
 
 -- a head that takes all of its bytes

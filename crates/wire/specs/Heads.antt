@@ -1,6 +1,6 @@
 -- The heads of messages: HTTP/1.1 (RFC 9112), as this project's profile takes them.
-use Rattle.std.specs.Prelude.{◌≡◌, ℕ, ◌+◌, ◌==◌, ◌&&◌, Bool, true, false, not, nat_le, nat_lt, List, [], ◌∷◌, length, map, filter, codes, if◌then◌else◌, Option, Some, None, Result, Ok, Err}
-use Rattle.std.specs.List.{list_all, list_any}
+use Rattle.std.specs.Prelude.{◌≡◌, ◌⊎◌, ℕ, zero, suc, ◌+◌, ◌==◌, ◌&&◌, Bool, true, false, not, nat_eq, nat_le, nat_lt, List, [], ◌∷◌, length, map, filter, take, codes, if◌then◌else◌, Option, Some, None, Result, Ok, Err}
+use Rattle.std.specs.List.{ends_with, list_all, list_any}
 use Rattle.std.specs.Char.{is_ascii_digit}
 use Rattle.std.specs.Str.{str_eq_ignore_ascii_case}
 use Rattle.std.specs.Str.Parse.{digits_value}
@@ -8,6 +8,26 @@ use Rattle.httparse.specs.Grammar.{RequestHead, ReadsRequest}
 use Rattle.httparse.specs.Spans.{name_and_value}
 use Rattle.wire.specs.declared.refusal.Refusal.{Refusal}
 use Rattle.wire.specs.declared.refusal.Refusal.TheVariants.{Malformed, TooLarge, HeadTooLarge}
+
+-- ---- the end of a head
+
+-- the first, or where there is none, the second
+abbrev pub or_else : Option ℕ → Option ℕ → Option ℕ
+or_else None other = other
+or_else (Some n) other = Some n
+
+-- the least number up to n that passes
+abbrev pub least : (ℕ → Bool) → ℕ → Option ℕ
+least p zero = if p zero then Some zero else None
+least p (suc n) = or_else (least p n) (if p (suc n) then Some (suc n) else None)
+
+-- the first n bytes end with CR LF CR LF
+abbrev pub ends_head : List ℕ → ℕ → Bool
+ends_head bytes n = ends_with nat_eq (take n bytes) (codes "\r\n\r\n")
+
+-- how far the first CR LF CR LF reaches
+abbrev pub head_end : List ℕ → Option ℕ
+head_end bytes = least (ends_head bytes) (length bytes)
 
 -- ---- lines
 
@@ -50,7 +70,7 @@ size_in [] = Ok 0
 size_in (f ∷ []) = size_text f.1
 size_in (f ∷ g ∷ more) = Err Malformed
 
--- by the fields of a head: no other coding than none, and at most one size (RFC 9112 section 6.3)
+-- by the fields of a head: this project's profile, within RFC 9112 section 6.3: no transfer coding, and at most one size
 unfoldable pub body_size : List Pair → Result ℕ Refusal
 body_size fields =
     if list_any (is_named (codes "transfer-encoding")) fields then Err Malformed
@@ -59,22 +79,23 @@ body_size fields =
 -- ---- a head
 
 -- what a head asks for, and the size of the body that comes
-pub record Asks : Type 0 where
+pub record HeadParts : Type 0 where
   pub method : List ℕ
   pub target : List ℕ
   pub size : ℕ
 
-abbrev pub sized : List ℕ → List ℕ → Result ℕ Refusal → Result Asks Refusal
+abbrev pub sized : List ℕ → List ℕ → Result ℕ Refusal → Result HeadParts Refusal
 sized method target (Ok size) = Ok (record { method = method; target = target; size = size })
 sized method target (Err why) = Err why
 
-abbrev pub asks_of : RequestHead → Result Asks Refusal
-asks_of h = sized h.method h.target (body_size (map name_and_value h.fields))
+abbrev pub parts_of : RequestHead → Result HeadParts Refusal
+parts_of h = sized h.method h.target (body_size (map name_and_value h.fields))
 
 -- what follows of a head, by the first test that it fails
-pub record IsJudged (head : List ℕ) (result : Result Asks Refusal) : Type 0 where
+pub record IsJudged (head : List ℕ) (result : Result HeadParts Refusal) : Type 0 where
   pub bare : has_bare_lf head ≡ true → result ≡ Err Malformed
   pub many : has_bare_lf head ≡ false → nat_lt 34 (pairs head) ≡ true → result ≡ Err HeadTooLarge
-  -- else it is read by the grammar of heads, as a whole
-  pub read : has_bare_lf head ≡ false → nat_lt 34 (pairs head) ≡ false → (h : RequestHead) → ReadsRequest head h [] → result ≡ asks_of h
-  pub unread : has_bare_lf head ≡ false → nat_lt 34 (pairs head) ≡ false → ((h : RequestHead) → ReadsRequest head h [] → ⊥) → result ≡ Err Malformed
+  -- else it is read by the grammar of heads, as a whole, or not at all
+  pub read : has_bare_lf head ≡ false → nat_lt 34 (pairs head) ≡ false → (h : RequestHead) → ReadsRequest head h [] → result ≡ parts_of h
+  pub either : has_bare_lf head ≡ false → nat_lt 34 (pairs head) ≡ false
+      → ((h : RequestHead) × ReadsRequest head h [] × (result ≡ parts_of h)) ⊎ (((h : RequestHead) → ReadsRequest head h [] → ⊥) × (result ≡ Err Malformed))

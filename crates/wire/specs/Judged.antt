@@ -4,16 +4,16 @@ use Rattle.httparse.specs.declared.spans.HeaderSpan.{HeaderSpan}
 use Rattle.httparse.specs.declared.spans.RequestSpans.{RequestSpans}
 use Rattle.httparse.specs.Grammar.{ReadsRequest, RequestHead}
 use Rattle.httparse.specs.Spans.{IsRequestAt, IsRequestOf, IsRequestWithin}
-use Rattle.wire.specs.declared.head.Asks.{Asks as AsksValue}
+use Rattle.wire.specs.declared.head.HeadParts.{HeadParts as PartsValue}
 use Rattle.wire.specs.declared.head.Found.{Found}
 use Rattle.wire.specs.declared.head.Found.TheVariants as found
 use Rattle.wire.specs.declared.refusal.Refusal.{Refusal}
 use Rattle.wire.specs.declared.refusal.Refusal.TheVariants.{Malformed}
-use Rattle.wire.specs.Heads.{Asks, Pair, is_named, size_text}
+use Rattle.wire.specs.Heads.{HeadParts, Pair, is_named, size_text}
 
-abbrev pub asks : Result AsksValue Refusal → Result Asks Refusal
-asks (Ok a) = Ok (record { method = a.method.now; target = a.target.now; size = a.size })
-asks (Err why) = Err why
+abbrev pub parts : Result PartsValue Refusal → Result HeadParts Refusal
+parts (Ok a) = Ok (record { method = a.method.now; target = a.target.now; size = a.size })
+parts (Err why) = Err why
 
 -- none, one, or more values, as far as it matters how many there are
 pub data Values : Type 0 where

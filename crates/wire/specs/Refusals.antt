@@ -9,7 +9,7 @@ use Rattle.wire.specs.Texts.{reply_text}
 abbrev pub status_of : Refusal → ℕ
 status_of Malformed = 400
 status_of NoRoute = 404
-status_of (WrongMethod route) = 405
+status_of (WrongMethod method) = 405
 status_of TooLarge = 413
 status_of HeadTooLarge = 431
 status_of Storage = 503
@@ -17,7 +17,7 @@ status_of Storage = 503
 abbrev pub kind_of : Refusal → Kind
 kind_of Malformed = kind.Json
 kind_of NoRoute = kind.Json
-kind_of (WrongMethod route) = kind.WrongMethod route
+kind_of (WrongMethod method) = kind.WrongMethod method
 kind_of TooLarge = kind.Json
 kind_of HeadTooLarge = kind.Json
 kind_of Storage = kind.Json
@@ -25,7 +25,7 @@ kind_of Storage = kind.Json
 abbrev pub body_of : Refusal → List ℕ
 body_of Malformed = codes "{\"code\":400,\"refused\":\"malformed\"}"
 body_of NoRoute = codes "{\"code\":404,\"refused\":\"no-route\"}"
-body_of (WrongMethod route) = codes "{\"code\":405,\"refused\":\"method\"}"
+body_of (WrongMethod method) = codes "{\"code\":405,\"refused\":\"method\"}"
 body_of TooLarge = codes "{\"code\":413,\"refused\":\"too-large\"}"
 body_of HeadTooLarge = codes "{\"code\":431,\"refused\":\"head-too-large\"}"
 body_of Storage = codes "{\"code\":503,\"refused\":\"storage\"}"

@@ -5,7 +5,7 @@ ghost use Rattle.std.specs.Char.{is_ascii_digit};
 ghost use Rattle.std.specs.Str.Parse.{digits_value};
 ghost use Rattle.httparse.specs.Spans.{IsHeaderWithin, header_bytes};
 ghost use Rattle.wire.specs.Heads.{IsJudged, body_size, has_bare_lf, is_named, pairs, size_text};
-ghost use Rattle.wire.specs.Judged.{IsRead, asks, found_of, one_more, size_by, values};
+ghost use Rattle.wire.specs.Judged.{IsRead, parts, found_of, one_more, size_by, values};
 
 use crate::refusal::Refusal;
 use httparse::Status;
@@ -19,7 +19,7 @@ const MOST_PAIRS: usize = 34;
 
 /// What a head asks for, and the size of the body that comes.
 #[derive(Clone, Copy)]
-pub(crate) struct Asks<'a> {
+pub(crate) struct HeadParts<'a> {
     pub method: &'a [u8],
     pub target: &'a [u8],
     pub size: usize,
@@ -34,8 +34,8 @@ enum Found<'a> {
 }
 
 /// What a whole head asks for, or the first test that it fails.
-pub(crate) fn judge(head: &[u8]) -> Result<Asks<'_>, Refusal>
-    ensures { IsJudged head.now (asks result) }
+pub(crate) fn judge(head: &[u8]) -> Result<HeadParts<'_>, Refusal>
+    ensures { IsJudged head.now (parts result) }
 {
     if has_bare_lf(head) {
         return Err(Refusal::Malformed);
@@ -51,7 +51,7 @@ pub(crate) fn judge(head: &[u8]) -> Result<Asks<'_>, Refusal>
         return Err(Refusal::Malformed);
     }
     let size = body_size(head, &headers[..spans.headers])?;
-    Ok(Asks {
+    Ok(HeadParts {
         method: spans.method.of(head),
         target: spans.path.of(head),
         size,

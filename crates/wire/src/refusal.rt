@@ -1,9 +1,8 @@
 //! Fixed replies, to messages that ask for nothing or can't be answered.
 ghost use Rattle.std.specs.Prelude.{◌≡◌};
 ghost use Rattle.wire.specs.Refusals.{body_of, kind_of, status_of};
-ghost use Rattle.wire.specs.Texts.{IsStatus};
 
-use crate::reply::{Kind, Route};
+use crate::reply::{Kind, Method};
 
 /// Why a message is answered by a fixed reply (this project's profile).
 #[derive(Clone, Copy, Debug, PartialEq, Eq)]
@@ -13,10 +12,10 @@ pub enum Refusal {
     /// The target is none that is served: 404.
     NoRoute,
     /// The target has another method: 405.
-    WrongMethod(Route),
+    WrongMethod(Method),
     /// The body has over 1,048,576 bytes: 413.
     TooLarge,
-    /// The head has over 8,192 bytes or 32 header lines: 431.
+    /// The head has over 8,192 bytes, or over 34 pairs CR LF: 431.
     HeadTooLarge,
     /// The store failed, or memory was refused: 503.
     Storage,
@@ -25,8 +24,7 @@ pub enum Refusal {
 impl Refusal {
     /// The status of the reply (RFC 9110 section 15; RFC 6585 section 5).
     pub fn status(self) -> u16
-        ensures value { result ≡ status_of self }
-        ensures is { IsStatus result }
+        ensures { result ≡ status_of self }
     {
         match self {
             Refusal::Malformed => 400,
@@ -43,7 +41,7 @@ impl Refusal {
         ensures { result ≡ kind_of self }
     {
         match self {
-            Refusal::WrongMethod(route) => Kind::WrongMethod(route),
+            Refusal::WrongMethod(method) => Kind::WrongMethod(method),
             _ => Kind::Json,
         }
     }

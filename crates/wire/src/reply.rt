@@ -1,6 +1,6 @@
 //! Heads of replies.
 ghost use Rattle.std.specs.Prelude.{◌≡◌, ◌+◌, ◌≤◌, ◌++◌, length, take, codes};
-ghost use Rattle.wire.specs.Texts.{IsStatus, allow_text, head_text, status_text, type_text};
+ghost use Rattle.wire.specs.Texts.{allow_text, head_text, status_text, type_text};
 
 use itoa::Buffer;
 
@@ -12,19 +12,19 @@ pub enum Kind {
     /// A batch's report.
     Report,
     /// JSON, to a message whose target has another method.
-    WrongMethod(Route),
+    WrongMethod(Method),
 }
 
 /// The method of a target.
 #[derive(Clone, Copy, Debug, PartialEq, Eq)]
-pub enum Route {
+pub enum Method {
     Get,
     Post,
 }
 
-/// Puts all of a reply before its body at the front, and answers its length. It takes no memory.
+/// Puts all of a reply before its body at the front, and answers its length. A status that no reply has is told as 503. It
+/// takes no memory.
 pub fn reply_head(status: u16, kind: Kind, size: usize, out: &mut [u8; 256]) -> usize
-    requires { IsStatus status }
     ensures head { take result out.new ≡ head_text status kind size }
     ensures room { result ≤ 256 }
 {
@@ -52,7 +52,6 @@ fn put(out: &mut [u8; 256], at: usize, text: &[u8]) -> usize
 }
 
 fn status_text(status: u16) -> &'static str
-    requires { IsStatus status }
     ensures text { result.now ≡ status_text status }
     ensures few { length result.now ≤ 35 }
 {
@@ -84,7 +83,7 @@ fn allow_text(kind: Kind) -> &'static str
 {
     match kind {
         Kind::Json | Kind::Report => "",
-        Kind::WrongMethod(Route::Get) => "Allow: GET\r\n",
-        Kind::WrongMethod(Route::Post) => "Allow: POST\r\n",
+        Kind::WrongMethod(Method::Get) => "Allow: GET\r\n",
+        Kind::WrongMethod(Method::Post) => "Allow: POST\r\n",
     }
 }

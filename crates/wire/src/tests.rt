@@ -1,17 +1,19 @@
 //! The heads of the worked replies, and the heads that are taken and refused.
-ghost use Rattle.std.specs.Prelude.{◌≡◌};
-ghost use Rattle.wire.specs.Texts.{IsStatus};
-
-use super::{Kind, Refusal, Route, reply_head};
+use super::{Kind, Method, Pieces, Refusal, reply_head};
 use crate::head::judge;
+use crate::reading::{Reach, read_head};
 use std::alloc::Global;
 use std::process::Abort;
 use std::test::Fail;
 
 // The head of a reply with a body of this size.
-fn check_head(rt: &impl Abort, status: u16, kind: Kind, size: usize, head: &str) -> Result<(), Fail>
-    requires { IsStatus status }
-{
+fn check_head(
+    rt: &impl Abort,
+    status: u16,
+    kind: Kind,
+    size: usize,
+    head: &str,
+) -> Result<(), Fail> {
     let mut out = [0; 256];
     let end = reply_head(status, kind, size, &mut out);
     assert_eq!(rt; &out[..end], head.as_bytes());
@@ -38,8 +40,8 @@ fn replies_have_their_heads(rt: HostRuntime) -> Result<(), Fail> {
         &rt,
         200,
         Kind::Report,
-        211,
-        "HTTP/1.1 200 OK\r\nContent-Type: text/plain\r\nContent-Length: 211\r\nConnection: close\r\n\r\n",
+        225,
+        "HTTP/1.1 200 OK\r\nContent-Type: text/plain\r\nContent-Length: 225\r\nConnection: close\r\n\r\n",
     )
 }
 
@@ -48,14 +50,14 @@ fn another_method_is_told_which_there_is(rt: HostRuntime) -> Result<(), Fail> {
     check_head(
         &rt,
         405,
-        Kind::WrongMethod(Route::Get),
+        Kind::WrongMethod(Method::Get),
         31,
         "HTTP/1.1 405 Method Not Allowed\r\nContent-Type: application/json\r\nContent-Length: 31\r\nConnection: close\r\nAllow: GET\r\n\r\n",
     )?;
     check_head(
         &rt,
         405,
-        Kind::WrongMethod(Route::Post),
+        Kind::WrongMethod(Method::Post),
         31,
         "HTTP/1.1 405 Method Not Allowed\r\nContent-Type: application/json\r\nContent-Length: 31\r\nConnection: close\r\nAllow: POST\r\n\r\n",
     )
@@ -64,7 +66,7 @@ fn another_method_is_told_which_there_is(rt: HostRuntime) -> Result<(), Fail> {
 #[test]
 fn the_longest_head_has_room(rt: HostRuntime) -> Result<(), Fail> {
     let mut out = [0; 256];
-    let end = reply_head(431, Kind::WrongMethod(Route::Post), usize::MAX, &mut out);
+    let end = reply_head(431, Kind::WrongMethod(Method::Post), usize::MAX, &mut out);
     assert_eq!(rt; end, 150);
     assert!(rt; out[..end].starts_with(b"HTTP/1.1 431 Request Header Fields Too Large\r\n"));
     Ok(())
@@ -75,7 +77,7 @@ fn fixed_replies_have_their_sizes(rt: HostRuntime) -> Result<(), Fail> {
     let table = [
         (Refusal::Malformed, 400, 34),
         (Refusal::NoRoute, 404, 33),
-        (Refusal::WrongMethod(Route::Get), 405, 31),
+        (Refusal::WrongMethod(Method::Get), 405, 31),
         (Refusal::TooLarge, 413, 34),
         (Refusal::HeadTooLarge, 431, 39),
         (Refusal::Storage, 503, 32),
@@ -89,7 +91,7 @@ fn fixed_replies_have_their_sizes(rt: HostRuntime) -> Result<(), Fail> {
 // A head has this size of a body, or is refused so.
 fn check_judged(rt: &impl Abort, head: &str, judged: Result<usize, Refusal>) -> Result<(), Fail> {
     assert_eq!(rt;
-        judge(head.as_bytes()).map(|asks| asks.size),
+        judge(head.as_bytes()).map(|parts| parts.size),
         judged,
         "at {head:?}"
     );
@@ -174,5 +176,40 @@ fn a_head_has_32_lines_at_most(rt: HostRuntime) -> Result<(), Fail> {
         let head = lines(rt.alloc(), front, count)?;
         check_judged(&rt, head.as_str(), judged)?;
     }
+    Ok(())
+}
+
+// How far the head of these bytes is read, in pieces of at most so many.
+fn reached(bytes: &[u8], most: usize) -> Reach {
+    let mut buf = [0; 8192];
+    read_head(&mut Pieces::new(bytes, most), &mut buf)
+}
+
+#[test]
+fn a_head_is_read_in_pieces(rt: HostRuntime) -> Result<(), Fail> {
+    let bytes = b"GET /batch/B9 HTTP/1.1\r\nHost: localhost\r\n\r\nmore";
+    for most in [1, 2, 3, 7, 42, 43, 1000] {
+        match reached(bytes, most) {
+            Reach::Head { end, .. } => assert_eq!(rt; end, 43, "at {most}"),
+            _ => return Err(Fail::new("no head")),
+        }
+        for cut in 0..43 {
+            let front = bytes.get(..cut).ok_or("no front")?;
+            assert_eq!(rt; reached(front, most), Reach::Broken, "at {cut}");
+        }
+    }
+    Ok(())
+}
+
+#[test]
+fn a_head_has_8192_bytes_at_most(rt: HostRuntime) -> Result<(), Fail> {
+    let mut bytes = [b'x'; 8193];
+    assert_eq!(rt; reached(&bytes[..8191], 4096), Reach::Broken);
+    assert_eq!(rt; reached(&bytes[..8192], 4096), Reach::HeadTooLarge);
+    bytes[8188..8192].copy_from_slice(b"\r\n\r\n");
+    let (end, filled) = (8192, 8192);
+    assert_eq!(rt; reached(&bytes[..8192], 4096), Reach::Head { end, filled });
+    bytes[8188..8193].copy_from_slice(b"x\r\n\r\n");
+    assert_eq!(rt; reached(&bytes, 4096), Reach::HeadTooLarge);
     Ok(())
 }

@@ -13,3 +13,15 @@ returns-clause-tells g c = λ h k held.
 
 pub returns-clause-all : goal.returns-clause-all
 returns-clause-all g c = λ k held. all_counted k.facts c.args.product.now (g.met.S.JobStore.sound c.args.store.now k held).facts
+
+pub returns-in_err-product-clause-all : goal.returns-in_err-product-clause-all
+returns-in_err-product-clause-all g c = λ k held. all_counted k.facts c.args.product.now (g.met.S.JobStore.sound c.args.store.now k held).facts
+
+pub returns-in_default-clause-all : goal.returns-in_default-clause-all
+returns-in_default-clause-all g c = λ k held. all_counted k.facts c.args.product.now (g.met.S.JobStore.sound c.args.store.now k held).facts
+
+pub returns-in_err-totals-clause-all : goal.returns-in_err-totals-clause-all
+returns-in_err-totals-clause-all g c = λ k held. all_counted k.facts c.args.product.now (g.met.S.JobStore.sound c.args.store.now k held).facts
+
+pub returns-in_err-blank_text-clause-all : goal.returns-in_err-blank_text-clause-all
+returns-in_err-blank_text-clause-all g c = λ k held. all_counted k.facts c.args.product.now (g.met.S.JobStore.sound c.args.store.now k held).facts

@@ -4,7 +4,7 @@ use Rattle.std.proofs.lemmas.Bool.Decides.{nat_tests}
 use Rattle.std.proofs.lemmas.Result.{err_from_is_err_and}
 use Rattle.wire.specs.Heads.{pairs, sized}
 use Rattle.wire.specs.Judged.{FindsAt}
-use Rattle.wire.proofs.LineLemmas.{asks_is, head_is_whole, judged_read, judged_unread, whole_head}
+use Rattle.wire.proofs.LineLemmas.{parts_are, head_is_whole, judged_read, judged_unread, whole_head}
 use Rattle.wire.proofs.head.judge.Goals as goal
 
 pub returns-in_default : goal.returns-in_default
@@ -27,7 +27,7 @@ returns-in_err-size c =
     let h0 = c.in-Some.ensures.is in
     judged_read c.args.head.now _ (sym c.has_bare_lf.ensures ∙ c.if-has_bare_lf.false) few h0.0 (whole_head c.args.head.now h0.0 c.in-Some.spans.len h0.1.reads c.if-spans-head.false) (λ h reads fits.
     let at = subst (FindsAt c.args.head.now c.read.new.headers h) c.in-Some.is (c.read.ensures.finds h [] reads fits) in
-    rw p.1 (ap (λ why. sized [] [] (Err why)) p.2 ∙ asks_is c.args.head.now c.read.new.headers c.in-Some.spans h (Err c.in_err-size.field-0.0) at c.in_err-size.ensures))
+    rw p.1 (ap (λ why. sized [] [] (Err why)) p.2 ∙ parts_are c.args.head.now c.read.new.headers c.in-Some.spans h (Err c.in_err-size.field-0.0) at c.in_err-size.ensures))
 
 pub returns : goal.returns
 returns c =
@@ -36,4 +36,4 @@ returns c =
     judged_read c.args.head.now _ (sym c.has_bare_lf.ensures ∙ c.if-has_bare_lf.false) few h0.0 (whole_head c.args.head.now h0.0 c.in-Some.spans.len h0.1.reads c.if-spans-head.false) (λ h reads fits.
     let at = subst (FindsAt c.args.head.now c.read.new.headers h) c.in-Some.is (c.read.ensures.finds h [] reads fits) in
     (λ i. sized (c.of.ensures i) (c.of-2.ensures i) (Ok c.in_ok-size.size))
-    ∙ asks_is c.args.head.now c.read.new.headers c.in-Some.spans h (Ok c.in_ok-size.size) at c.in_ok-size.ensures)
+    ∙ parts_are c.args.head.now c.read.new.headers c.in-Some.spans h (Ok c.in_ok-size.size) at c.in_ok-size.ensures)
