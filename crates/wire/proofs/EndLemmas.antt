@@ -1,5 +1,5 @@
 -- Where a head ends.
-use Rattle.std.proofs.Common.{◌≡◌, ℕ, zero, suc, ◌+◌, ◌-◌, ◌<◌, ◌≤◌, Bool, true, false, cond, List, [], ◌++◌, length, take, drop, Option, Some, None, codes, refl, sym, ap, subst, ◌∙◌, arith}
+use Rattle.std.proofs.Common.{◌≡◌, ℕ, zero, suc, ◌+◌, ◌-◌, ◌<◌, ◌≤◌, Bool, true, cond, List, ◌++◌, length, take, drop, Option, Some, None, codes, sym, ap, subst, ◌∙◌, arith}
 use Rattle.std.specs.Prelude.{IfSome, nat_eq}
 use Rattle.std.specs.List.{ends_with}
 use Rattle.std.specs.Io.KnownBytes.{Consumes, IsAtEnd}

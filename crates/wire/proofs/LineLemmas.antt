@@ -1,6 +1,6 @@
 -- A head has at least a line end for each of its fields.
 use Rattle.std.proofs.Common.{◌≡◌, ℕ, ◌+◌, ◌≤◌, ◌==◌, ◌&&◌, Bool, true, false, cond, not, List, [], ◌∷◌, ◌++◌, length, map, take, drop, inl, inr, refl, sym, ap, subst, ◌∙◌, arith, append-nil}
-use Rattle.std.specs.Prelude.{⊤, Err, IsTrue, nat_lt, count_by, sum_by, Result, Ok}
+use Rattle.std.specs.Prelude.{⊤, Err, nat_lt, sum_by, Result}
 use Rattle.std.specs.List.{flat_map}
 use Rattle.std.proofs.lemmas.Bool.Decides.{nat_tests}
 use Rattle.std.proofs.Math.Seq.{drop-length}
@@ -10,7 +10,7 @@ use Rattle.httparse.specs.Grammar.{Field, LineEnd, crlf, lf, ReadsRequest, Reque
 use Rattle.httparse.specs.Ascii.{space}
 use Rattle.httparse.specs.declared.spans.HeaderSpan.{HeaderSpan}
 use Rattle.httparse.specs.declared.spans.RequestSpans.{RequestSpans}
-use Rattle.httparse.specs.Spans.{IsRequestAt, header_bytes, name_and_value, span_bytes}
+use Rattle.httparse.specs.Spans.{IsRequestAt, header_bytes, span_bytes}
 use Rattle.wire.specs.declared.refusal.Refusal.TheVariants.{Malformed}
 use Rattle.wire.specs.declared.refusal.Refusal.{Refusal}
 use Rattle.wire.specs.Heads.{HeadParts, IsJudged, parts_of, bare_lf_after, body_size, sized, has_bare_lf, pairs, pairs_after}

@@ -1,5 +1,5 @@
 -- What the parts of the judgement of a head answer.
-use Rattle.std.specs.Prelude.{◌≤◌, IfSome, Option, Some, None, length, ℕ, List, [], ◌∷◌, map, filter, Result, Ok, Err}
+use Rattle.std.specs.Prelude.{◌≤◌, IfSome, Option, Some, None, length, ℕ, List, [], ◌∷◌, filter, Result, Ok, Err}
 use Rattle.httparse.specs.declared.spans.HeaderSpan.{HeaderSpan}
 use Rattle.httparse.specs.declared.spans.RequestSpans.{RequestSpans}
 use Rattle.httparse.specs.Grammar.{ReadsRequest, RequestHead}

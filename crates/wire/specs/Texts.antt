@@ -2,7 +2,6 @@
 use Rattle.std.specs.Prelude.{ℕ, ◌==◌, List, [], ◌++◌, length, codes, decimal, if◌then◌else◌}
 use Rattle.wire.specs.declared.reply.Kind.{Kind}
 use Rattle.wire.specs.declared.reply.Kind.TheVariants.{Json, Report, WrongMethod}
-use Rattle.wire.specs.declared.reply.Method.{Method}
 use Rattle.wire.specs.declared.reply.Method.TheVariants.{Get, Post}
 
 -- a status with its words (RFC 9110 section 15, with RFC 7231's words for 413; RFC 6585 section 5 for 431); there is no other than these
