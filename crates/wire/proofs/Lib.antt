@@ -2,3 +2,13 @@ pub mod Texts
 pub mod HeadLemmas
 pub mod LineLemmas
 pub mod EndLemmas
+pub mod BodyLemmas
+pub mod RequestLemmas
+pub mod RouteLemmas
+pub mod AskLemmas
+pub mod ParseLemmas
+pub mod SendLemmas
+pub mod SentHeads
+pub mod SentAsks
+pub mod SentRequests
+pub mod Arriving

@@ -4,3 +4,9 @@ pub mod Heads
 pub mod Judged
 pub mod Brought
 pub mod Reaching
+pub mod Messages
+pub mod Routes
+pub mod Requests
+pub mod Asks
+pub mod Parsing
+pub mod Sending

@@ -175,7 +175,8 @@ fn are_digits(text: &[u8]) -> bool
     !text.is_empty() && all_digits(text)
 }
 
-fn all_digits(text: &[u8]) -> bool
+/// Whether each byte is a decimal digit.
+pub(crate) fn all_digits(text: &[u8]) -> bool
     ensures { result ≡ list_all is_ascii_digit text.now }
 {
     text.iter().all(|byte| byte.is_ascii_digit())

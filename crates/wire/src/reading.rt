@@ -1,5 +1,8 @@
 //! Reading a head, however its bytes are cut.
-ghost use Rattle.std.specs.Prelude.{◌≡◌, ◌+◌, ◌≤◌, None, length, take};
+ghost use Rattle.std.specs.Prelude.{◌≡◌, ◌+◌, ◌<◌, ◌≤◌, ℕ, IfSome, List, None, length, take};
+ghost use Rattle.std.specs.Bool.{OnFalse, OnTrue};
+ghost use Rattle.std.specs.Io.KnownBytes.{Consumes};
+ghost use Rattle.wire.specs.Messages.{Tells};
 ghost use Rattle.wire.specs.Heads.{ends_head, head_end, least};
 ghost use Rattle.wire.specs.Reaching.{Reaches};
 
@@ -39,7 +42,8 @@ pub(crate) fn read_head<I: Incoming>(incoming: &mut I, buf: &mut [u8; 8192]) -> 
 fn find_end(bytes: &[u8], from: usize) -> Option<usize>
     requires within { from ≤ length bytes.now }
     requires before { least (ends_head bytes.now) from ≡ None }
-    ensures { result ≡ head_end bytes.now }
+    ensures first { result ≡ head_end bytes.now }
+    ensures within { IfSome result (λ end. end ≤ length bytes.now) }
 {
     for at in from..bytes.len() {
         if bytes[..at + 1].ends_with(b"\r\n\r\n") {
@@ -47,4 +51,20 @@ fn find_end(bytes: &[u8], from: usize) -> Option<usize>
         }
     }
     None
+}
+
+/// Fills a buffer, unless the bytes end before.
+pub(crate) fn fill<I: Incoming>(incoming: &mut I, buf: &mut [u8]) -> bool
+    ensures full { OnTrue result (Consumes (I.brings incoming.old) (I.brings incoming.new) buf.new) }
+    ensures early { OnFalse result ((more : List ℕ) × Tells (I.brings incoming.old) more × (length more < length buf.new)) }
+{
+    let mut at = 0;
+    while at < buf.len() {
+        let count = incoming.bring(&mut buf[at..]);
+        if count == 0 {
+            return false;
+        }
+        at += count;
+    }
+    true
 }

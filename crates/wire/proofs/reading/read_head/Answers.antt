@@ -25,7 +25,7 @@ returns-in-Some g c =
     let came = subst (Consumes (brings c.args.incoming.now) (brings c.bring-count.new.self)) (sym (take_filled l.filled c.bring-count.result 8192 l.buf c.bring-count.new.buf l.invariant.size l.invariant.within c.bring-count.ensures.count))
     (Consumes-trans (brings c.args.incoming.now) (brings l.incoming) (brings c.bring-count.new.self) _ _ l.invariant.came c.bring-count.ensures.bytes) in
     let few : c.loop-filled.filled + c.bring-count.result ≤ 8192 = search rules in
-    (few, came, sym c.find_end.ensures ∙ c.in-Some.is)
+    (search rules, few, came, sym c.find_end.ensures.first ∙ c.in-Some.is)
 
 pub loop-filled-preserved : goal.loop-filled-preserved
 loop-filled-preserved g c =
@@ -40,7 +40,7 @@ loop-filled-preserved g c =
       size = size;
       within = few;
       came = came;
-      none = none_so_far _ (l.filled + c.bring-count.result) (omega (arith, size, few)) (sym c.find_end.ensures ∙ c.in_default.is);
+      none = none_so_far _ (l.filled + c.bring-count.result) (omega (arith, size, few)) (sym c.find_end.ensures.first ∙ c.in_default.is);
     }
 
 pub returns : goal.returns

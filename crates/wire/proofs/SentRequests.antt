@@ -1,0 +1,205 @@
+-- The body of a request that is sent is read as that request.
+use Rattle.std.proofs.Common.{◌≡◌, ◌<◌, ◌≤◌, ◌+◌, ◌-◌, ◌*◌, ◌^◌, ◌/◌, ◌%◌, ◌==◌, ℕ, zero, suc, Bool, true, false, cond, List, [], ◌∷◌, ◌++◌, length, Option, Some, None, inl, inr, refl, sym, ap, ◌∙◌, codes, decimal, arith, append_assoc, length-append}
+use Rattle.std.specs.Prelude.{◌&&◌, not, nat_lt, nat_le, slice_index, bytes_eq, option_map, option_and_then, IsUtf8, IsTrue}
+use Rattle.std.specs.List.{list_all}
+use Rattle.std.specs.Char.{digit_value, is_ascii_hexdigit}
+use Rattle.std.specs.Str.Parse.{digits_value}
+use Rattle.std.proofs.lemmas.Bool.{and_parts, cases_lt}
+use Rattle.std.proofs.lemmas.Bool.Decides.{nat_tests}
+use Rattle.std.proofs.lemmas.Fmt.{length-decimal-le}
+use Rattle.std.proofs.lemmas.List.Folds.{list_all-append}
+use Rattle.std.proofs.lemmas.Str.{IsUtf8-from_ascii}
+use Rattle.hex.specs.Hex.{encode_with, upper_digits}
+use Rattle.json.proofs.Printed.Decimals.{IsNumber-decimal}
+use Rattle.serde_json.specs.Data.{Data}
+use Rattle.serde_json.specs.Read.{read}
+use Rattle.serde_json.specs.Written.{compact_text}
+use Rattle.serde_json.proofs.Numbers.{number_of-decimal}
+use Rattle.store_data.specs.Name.{is_name, is_name_char}
+use Rattle.job_core.specs.declared.request.Request.{Request}
+use Rattle.job_core.specs.declared.request.Request.TheVariants as request
+use Rattle.reply_store.specs.Values.{IsPlain}
+use Rattle.reply_store.proofs.Escapes.{name_plain}
+use Rattle.wire.specs.Requests.{abort_in, answer_in, close_in, discard_in, flag_at, is_lot, is_within, is_word, kept, lot_in, name_at, number_at, open_in, product_in, remake_in, request_by_word, request_in, request_of_value, text_at, withdraw_in, word_in, with_two, with_three, with_four}
+use Rattle.wire.specs.Sending.{AreNames, IsSendable, body_of, flag_text, value_of, word_text}
+use Rattle.wire.proofs.ParseLemmas.{read_whole}
+use Rattle.wire.proofs.RequestLemmas.{value_in-read}
+use Rattle.wire.proofs.SendLemmas.{IsNoImport, text_is_body, word_is_plain}
+use Rattle.wire.proofs.SentHeads.{are_seen, decimal_is_seen, is_seen, seen_ascii}
+
+-- ---- words
+
+-- the first n digits are read back
+are_read : ℕ → Bool
+are_read zero = true
+are_read (suc n) = (is_ascii_hexdigit (slice_index upper_digits n) && (digit_value (slice_index upper_digits n) == n)) && are_read n
+
+read_at : (n k : ℕ) → are_read n ≡ true → k < n → (is_ascii_hexdigit (slice_index upper_digits k) && (digit_value (slice_index upper_digits k) == k)) ≡ true
+unfolding are_read
+read_at zero k h lt = absurd (omega arith)
+read_at (suc n) k h lt =
+    let both = and_parts (is_ascii_hexdigit (slice_index upper_digits n) && (digit_value (slice_index upper_digits n) == n)) (are_read n) h in
+    elim (cases_lt k n) [
+      | inl below ↦ read_at n k both.1 below
+      | inr top ↦ let e : k ≡ n = omega arith in rw e both.0
+    ]
+
+digit_read : (k : ℕ) → k < 16 → (is_ascii_hexdigit (slice_index upper_digits k) ≡ true) × (digit_value (slice_index upper_digits k) ≡ k)
+unfolding are_read
+digit_read k lt =
+    let both = and_parts (is_ascii_hexdigit (slice_index upper_digits k)) (digit_value (slice_index upper_digits k) == k) (read_at 16 k refl lt) in
+    let same = both.1 in
+    (both.0, grind (arith, nat_tests, same))
+
+word_is_word : (sw : ℕ) → sw < 65536 → is_word (word_text sw) ≡ true
+unfolding encode_with
+word_is_word sw h =
+    let a = (digit_read (sw / 256 / 16) (omega arith)).0 in
+    let b = (digit_read (sw / 256 % 16) (omega arith)).0 in
+    let c = (digit_read (sw % 256 / 16) (omega arith)).0 in
+    let d = (digit_read (sw % 256 % 16) (omega arith)).0 in
+    λ i. a i && (b i && (c i && (d i && true)))
+
+word_value : (sw : ℕ) → sw < 65536 → digits_value 16 (word_text sw) ≡ sw
+unfolding encode_with
+word_value sw h =
+    let a = (digit_read (sw / 256 / 16) (omega arith)).1 in
+    let b = (digit_read (sw / 256 % 16) (omega arith)).1 in
+    let c = (digit_read (sw % 256 / 16) (omega arith)).1 in
+    let d = (digit_read (sw % 256 % 16) (omega arith)).1 in
+    let sum : (((0 * 16 + sw / 256 / 16) * 16 + sw / 256 % 16) * 16 + sw % 256 / 16) * 16 + sw % 256 % 16 ≡ sw = omega arith in
+    (λ i. (((0 * 16 + a i) * 16 + b i) * 16 + c i) * 16 + d i) ∙ sum
+
+word_is_read : (sw : ℕ) → sw < 65536 → option_map (digits_value 16) (kept is_word (word_text sw)) ≡ Some sw
+word_is_read sw h = ap (λ (t : Bool). option_map (digits_value 16) (cond t (Some (word_text sw)) None)) (word_is_word sw h) ∙ ap (λ (n : ℕ). Some n) (word_value sw h)
+
+-- ---- the value is the request's
+
+pub number_kept : (least most n : ℕ) → least ≤ n → n ≤ most → kept (is_within least most) n ≡ Some n
+number_kept least most n low high =
+    let a : nat_le least n ≡ true = grind (arith, nat_tests, low) in
+    let b : nat_le n most ≡ true = grind (arith, nat_tests, high) in
+    λ i. cond (a i && b i) (Some n) None
+
+name_kept : (n : List ℕ) → IsTrue (is_name n) → kept is_name n ≡ Some n
+name_kept n h = ap (λ (t : Bool). cond t (Some n) None) h
+
+request_is_found : (r : Request) → AreNames r → IsSendable r → IsNoImport r → request_of_value (value_of r) ≡ Some r
+unfolding request_of_value request_by_word text_at name_at number_at flag_at product_in lot_in open_in answer_in word_in abort_in discard_in remake_in withdraw_in close_in
+request_is_found (request.Product p) h s other = λ i. with_four (λ code max low check. request.Product (record { code = code; max = max; low = low; check = check }))
+    (name_kept p.code h i) (number_kept 16 255 p.max s.least s.most i) (number_kept 0 31 p.low (omega arith) s.low i) (Some p.check)
+request_is_found (request.Lot l) h s other =
+    let range : is_lot l ≡ true = let r = s.range in grind (arith, nat_tests, r) in
+    (λ i. option_map request.Lot (option_and_then (kept is_lot) (with_four (λ name product first count. record { name = name; product = product; first = first; count = count })
+    (name_kept l.name h.0 i) (name_kept l.product h.1 i) (number_kept 0 (10 ^ 18 - 1) l.first (omega arith) (omega (arith, s.range, s.least)) i) (number_kept 1 1000000 l.count s.least s.most i))))
+    ∙ ap (λ (t : Bool). option_map request.Lot (cond t (Some l) None)) range
+request_is_found (request.Import b p raw) h s other = absurd (other b p raw refl)
+request_is_found (request.Open b blank) h s other = λ i. with_two (λ batch blank. request.Open batch blank) (name_kept b h i) (number_kept 0 (10 ^ 18 - 1) blank (omega arith) (omega (arith, s)) i)
+request_is_found (request.Answer n k sw) h s other = λ i. with_three (λ session index sw. request.Answer session index sw)
+    (number_kept 1 (10 ^ 18 - 1) n s.0 (omega (arith, s.1)) i) (number_kept 0 (2 ^ 32 - 1) k (omega arith) (omega (arith, s.2)) i) (word_is_read sw (omega (arith, s.3)) i)
+request_is_found (request.Abort n) h s other = ap (option_map (λ session. request.Abort session)) (number_kept 1 (10 ^ 18 - 1) n s.0 (omega (arith, s.1)))
+request_is_found request.Reset h s other = refl
+request_is_found (request.Discard blank) h s other = ap (option_map (λ blank. request.Discard blank)) (number_kept 0 (10 ^ 18 - 1) blank (omega arith) (omega (arith, s)))
+request_is_found (request.Remake b r) h s other = λ i. with_two (λ batch rec. request.Remake batch rec) (name_kept b h.0 i) (name_kept r h.1 i)
+request_is_found (request.Withdraw b r) h s other = λ i. with_two (λ batch rec. request.Withdraw batch rec) (name_kept b h.0 i) (name_kept r h.1 i)
+request_is_found (request.Close b) h s other = ap (option_map (λ batch. request.Close batch)) (name_kept b h)
+
+-- ---- the body is the value's text
+
+value_is_read : (r : Request) → IsSendable r → IsNoImport r → read (compact_text (value_of r)) ≡ Some (value_of r)
+value_is_read (request.Product p) s other =
+    let low : p.low < 2 ^ 64 = omega (arith, s.low) in
+    let max : p.max < 2 ^ 64 = omega (arith, s.most) in
+    elim p.check as (λ b. read (compact_text (value_of (request.Product (record { code = p.code; max = p.max; low = p.low; check = b })))) ≡ Some (value_of (request.Product (record { code = p.code; max = p.max; low = p.low; check = b })))) [
+      | true ↦ read_whole _ (tt, (tt, (IsNumber-decimal p.low low, (IsNumber-decimal p.max max, (tt, tt))))) (simp (number_of-decimal p.low low, number_of-decimal p.max max)) (omega arith)
+      | false ↦ read_whole _ (tt, (tt, (IsNumber-decimal p.low low, (IsNumber-decimal p.max max, (tt, tt))))) (simp (number_of-decimal p.low low, number_of-decimal p.max max)) (omega arith)
+    ]
+value_is_read (request.Lot l) s other =
+    let count : l.count < 2 ^ 64 = omega (arith, s.most) in
+    let first : l.first < 2 ^ 64 = omega (arith, s.range) in
+    read_whole _ (IsNumber-decimal l.count count, (tt, (IsNumber-decimal l.first first, (tt, (tt, tt))))) (simp (number_of-decimal l.count count, number_of-decimal l.first first)) (omega arith)
+value_is_read (request.Import b p raw) s other = absurd (other b p raw refl)
+value_is_read (request.Open b blank) s other =
+    let few : blank < 2 ^ 64 = omega (arith, s) in
+    read_whole _ (tt, (IsNumber-decimal blank few, (tt, tt))) (simp (number_of-decimal blank few)) (omega arith)
+value_is_read (request.Answer n k sw) s other =
+    let few : n < 2 ^ 64 = omega (arith, s.1) in
+    let index : k < 2 ^ 64 = omega (arith, s.2) in
+    read_whole _ (tt, (IsNumber-decimal k index, (IsNumber-decimal n few, (tt, tt)))) (simp (number_of-decimal k index, number_of-decimal n few)) (omega arith)
+value_is_read (request.Abort n) s other = let few : n < 2 ^ 64 = omega (arith, s.1) in read_whole _ (tt, (IsNumber-decimal n few, tt)) (simp (number_of-decimal n few)) (omega arith)
+value_is_read request.Reset s other = read_whole _ (tt, tt) refl (omega arith)
+value_is_read (request.Discard blank) s other = let few : blank < 2 ^ 64 = omega (arith, s) in read_whole _ (IsNumber-decimal blank few, (tt, tt)) (simp (number_of-decimal blank few)) (omega arith)
+value_is_read (request.Remake b r) s other = read_whole _ (tt, (tt, (tt, tt))) refl (omega arith)
+value_is_read (request.Withdraw b r) s other = read_whole _ (tt, (tt, (tt, tt))) refl (omega arith)
+value_is_read (request.Close b) s other = read_whole _ (tt, (tt, tt)) refl (omega arith)
+
+-- ---- bytes and sizes
+
+char_is_seen : (b : ℕ) → is_name_char b ≡ true → is_seen b ≡ true
+char_is_seen b h = grind (arith, nat_tests)
+
+plain_is_seen : (xs : List ℕ) → IsPlain xs → are_seen xs ≡ true
+plain_is_seen [] h = refl
+plain_is_seen (b ∷ xs) h =
+    let both = and_parts (is_name_char b) (list_all is_name_char xs) h in
+    ap (λ (t : Bool). t && are_seen xs) (char_is_seen b both.0) ∙ plain_is_seen xs both.1
+
+pub name_is_seen : (n : List ℕ) → IsTrue (is_name n) → are_seen n ≡ true
+name_is_seen n h = plain_is_seen n (name_plain n h)
+
+pub name_is_short : (n : List ℕ) → IsTrue (is_name n) → length n ≤ 32
+name_is_short n h = grind (arith, nat_tests)
+
+word_is_seen : (sw : ℕ) → sw < 65536 → are_seen (word_text sw) ≡ true
+word_is_seen sw h = plain_is_seen (word_text sw) (word_is_plain sw h)
+
+flag_is_seen : (b : Bool) → are_seen (flag_text b) ≡ true
+flag_is_seen true = refl
+flag_is_seen false = refl
+
+flag_is_short : (b : Bool) → length (flag_text b) ≤ 5
+flag_is_short true = omega arith
+flag_is_short false = omega arith
+
+few : (n : ℕ) → n < 2 ^ 64 → length (decimal n) ≤ 20
+few n h = length-decimal-le 20 n (omega arith) (omega (arith, h)) h
+
+body_is_seen : (r : Request) → AreNames r → IsSendable r → IsNoImport r → are_seen (body_of r) ≡ true
+unfolding body_of
+body_is_seen (request.Product p) h s other =
+    simp (list_all-append, flag_is_seen p.check, decimal_is_seen p.low (omega (arith, s.low)), decimal_is_seen p.max (omega (arith, s.most)), name_is_seen p.code h)
+body_is_seen (request.Lot l) h s other =
+    simp (list_all-append, decimal_is_seen l.count (omega (arith, s.most)), decimal_is_seen l.first (omega (arith, s.range)), name_is_seen l.name h.0, name_is_seen l.product h.1)
+body_is_seen (request.Import b p raw) h s other = absurd (other b p raw refl)
+body_is_seen (request.Open b blank) h s other = simp (list_all-append, name_is_seen b h, decimal_is_seen blank (omega (arith, s)))
+body_is_seen (request.Answer n k sw) h s other =
+    simp (list_all-append, decimal_is_seen k (omega (arith, s.2)), decimal_is_seen n (omega (arith, s.1)), word_is_seen sw (omega (arith, s.3)))
+body_is_seen (request.Abort n) h s other = simp (list_all-append, decimal_is_seen n (omega (arith, s.1)))
+body_is_seen request.Reset h s other = refl
+body_is_seen (request.Discard blank) h s other = simp (list_all-append, decimal_is_seen blank (omega (arith, s)))
+body_is_seen (request.Remake b r) h s other = simp (list_all-append, name_is_seen b h.0, name_is_seen r h.1)
+body_is_seen (request.Withdraw b r) h s other = simp (list_all-append, name_is_seen b h.0, name_is_seen r h.1)
+body_is_seen (request.Close b) h s other = simp (list_all-append, name_is_seen b h)
+
+pub body_is_short : (r : Request) → AreNames r → IsSendable r → IsNoImport r → length (body_of r) ≤ 1048576
+unfolding body_of encode_with
+body_is_short (request.Product p) h s other =
+    simp length-append (omega (arith, flag_is_short p.check, few p.low (omega (arith, s.low)), few p.max (omega (arith, s.most)), name_is_short p.code h))
+body_is_short (request.Lot l) h s other =
+    simp length-append (omega (arith, few l.count (omega (arith, s.most)), few l.first (omega (arith, s.range)), name_is_short l.name h.0, name_is_short l.product h.1))
+body_is_short (request.Import b p raw) h s other = absurd (other b p raw refl)
+body_is_short (request.Open b blank) h s other = simp length-append (omega (arith, name_is_short b h, few blank (omega (arith, s))))
+body_is_short (request.Answer n k sw) h s other = simp length-append (omega (arith, few k (omega (arith, s.2)), few n (omega (arith, s.1))))
+body_is_short (request.Abort n) h s other = simp length-append (omega (arith, few n (omega (arith, s.1))))
+body_is_short request.Reset h s other = omega arith
+body_is_short (request.Discard blank) h s other = simp length-append (omega (arith, few blank (omega (arith, s))))
+body_is_short (request.Remake b r) h s other = simp length-append (omega (arith, name_is_short b h.0, name_is_short r h.1))
+body_is_short (request.Withdraw b r) h s other = simp length-append (omega (arith, name_is_short b h.0, name_is_short r h.1))
+body_is_short (request.Close b) h s other = simp length-append (omega (arith, name_is_short b h))
+
+pub request_is_read : (r : Request) → AreNames r → IsSendable r → IsNoImport r → request_in (body_of r) ≡ Some r
+unfolding request_in
+request_is_read r h s other =
+    let text : IsUtf8 (body_of r) = IsUtf8-from_ascii (body_of r) (seen_ascii (body_of r) (body_is_seen r h s other)) in
+    let body : read (body_of r) ≡ Some (value_of r) = ap read (sym (text_is_body r h s other)) ∙ value_is_read r s other in
+    ap (option_and_then request_of_value) (value_in-read (body_of r) (value_of r) text body) ∙ request_is_found r h s other

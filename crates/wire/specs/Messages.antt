@@ -1,0 +1,80 @@
+-- Messages: HTTP/1.1 (RFC 9112), as this project's profile takes them, by the whole bytes of a connection.
+use Rattle.std.specs.Prelude.{◌≡◌, ◌<◌, ◌≤◌, ℕ, nat_lt, Bool, true, false, IfSome, if◌then◌else◌, List, length, take, drop, Option, Some, None, Result, Ok, Err}
+use Rattle.wire.specs.declared.message.Message.{Message}
+use Rattle.wire.specs.declared.message.Reading.{Reading}
+use Rattle.wire.specs.declared.message.Reading.TheVariants as reading
+use Rattle.wire.specs.declared.refusal.Refusal.{Refusal}
+use Rattle.wire.specs.declared.refusal.Refusal.TheVariants.{HeadTooLarge}
+use Rattle.wire.specs.Heads.{HeadParts, IsJudged, head_end}
+
+-- what a message brings
+pub record Came : Type 0 where
+  pub method : List ℕ
+  pub target : List ℕ
+  pub body : List ℕ
+
+-- what the bytes of a connection are
+pub data Heard : Type 0 where
+  Broken : Heard
+  Refused : Refusal → Heard
+  Brings : Came → Heard
+
+-- a head that passes its tests, or the first that it fails, before these bytes
+abbrev pub after_head : Result HeadParts Refusal → List ℕ → Heard
+after_head (Ok p) rest =
+    if nat_lt (length rest) p.size then Broken else Brings (record { method = p.method; target = p.target; body = take p.size rest })
+after_head (Err why) rest = Refused why
+
+-- a head ends within the first 8,192 bytes
+abbrev pub end_of_head : List ℕ → Option ℕ
+end_of_head bytes = head_end (take 8192 bytes)
+
+-- by where the head ends; what comes after the message is ignored
+abbrev pub IsHeardBy : List ℕ → Option ℕ → Heard → Type 0
+IsHeardBy bytes None heard = heard ≡ (if nat_lt (length bytes) 8192 then Broken else Refused HeadTooLarge)
+IsHeardBy bytes (Some end) heard = (judged : Result HeadParts Refusal) × IsJudged (take end bytes) judged × (heard ≡ after_head judged (drop end bytes))
+
+abbrev pub IsHeard : List ℕ → Heard → Type 0
+IsHeard bytes heard = IsHeardBy bytes (end_of_head bytes) heard
+
+-- a head is there, and passes its tests
+abbrev pub HasHead : List ℕ → Type 0
+HasHead bytes = (end : ℕ) × (p : HeadParts) × (end_of_head bytes ≡ Some end) × IsJudged (take end bytes) (Ok p)
+
+-- ---- what the code calls them
+
+abbrev pub came : Message → Came
+came m = record { method = m.method; target = m.target; body = m.body }
+
+-- memory is only wanted for what follows a head
+abbrev pub IsReading : List ℕ → Reading → Type 0
+IsReading bytes (reading.Message m) = IsHeard bytes (Brings (came m))
+IsReading bytes reading.Broken = IsHeard bytes Broken
+IsReading bytes (reading.Refused why) = IsHeard bytes (Refused why)
+IsReading bytes reading.Memory = HasHead bytes
+
+-- ---- on the way
+
+-- the bytes are those that are known, if they are
+abbrev pub Tells : Option (List ℕ) → List ℕ → Type 0
+Tells known bytes = IfSome known (λ told. told ≡ bytes)
+
+-- the body of this size in front of these bytes, if so many came
+abbrev pub IsBody : ℕ → List ℕ → Option (List ℕ) → Type 0
+IsBody size rest None = length rest < size
+IsBody size rest (Some body) = (size ≤ length rest) × (body ≡ take size rest)
+
+-- the body is in front of these bytes, or too few came
+abbrev pub IsFilled : List ℕ → List ℕ → Bool → Type 0
+IsFilled body rest true = (length body ≤ length rest) × (body ≡ take (length body) rest)
+IsFilled body rest false = length rest < length body
+
+-- what is read behind a head
+abbrev pub IsReadingBy : Result HeadParts Refusal → List ℕ → Reading → Type 0
+IsReadingBy judged rest (reading.Message m) = after_head judged rest ≡ Brings (came m)
+IsReadingBy judged rest reading.Broken = after_head judged rest ≡ Broken
+IsReadingBy judged rest (reading.Refused why) = after_head judged rest ≡ Refused why
+IsReadingBy judged rest reading.Memory = (p : HeadParts) × (judged ≡ Ok p)
+
+abbrev pub IsReadingAfter : List ℕ → List ℕ → Reading → Type 0
+IsReadingAfter head rest result = (judged : Result HeadParts Refusal) × IsJudged head judged × IsReadingBy judged rest result

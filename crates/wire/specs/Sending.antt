@@ -1,0 +1,141 @@
+-- The texts of requests: HTTP/1.1 (RFC 9112), with the lines of this project's profile, and compact JSON (RFC 8259) with the members in order of their names.
+use Rattle.std.specs.Prelude.{◌≡◌, ◌≤◌, ◌<◌, ◌^◌, ◌/◌, ◌%◌, ℕ, Bool, true, false, List, [], ◌∷◌, ◌++◌, length, codes, decimal, Ok, ⊤}
+use Rattle.hex.specs.Hex.{encode_upper}
+use Rattle.serde_json.specs.Data.{Data, boolean, null, string, object, member, no_members}
+use Rattle.reply_store.specs.Values.{num}
+use Rattle.job_core.specs.Requests.{IsRequest}
+use Rattle.job_core.specs.declared.request.Request.{Request}
+use Rattle.job_core.specs.declared.request.Request.TheVariants as request
+use Rattle.wire.specs.declared.ask.Asked.TheVariants as asked
+use Rattle.wire.specs.Asks.{ask_with, asked_of}
+use Rattle.wire.specs.Messages.{Brings, Came, IsHeard}
+use Rattle.wire.specs.Parsing.{IsName}
+
+-- ---- what callers owe
+
+-- serials and sessions have at most 18 digits, and a file is no longer than a body
+abbrev pub IsSendable : Request → Type 0
+IsSendable (request.Product p) = IsRequest (request.Product p)
+IsSendable (request.Lot l) = IsRequest (request.Lot l)
+IsSendable (request.Import b p raw) = length raw ≤ 1048576
+IsSendable (request.Open b blank) = blank < 10 ^ 18
+IsSendable (request.Answer s k sw) = (1 ≤ s) × (s < 10 ^ 18) × (k < 2 ^ 32) × (sw < 2 ^ 16)
+IsSendable (request.Abort s) = (1 ≤ s) × (s < 10 ^ 18)
+IsSendable request.Reset = ⊤
+IsSendable (request.Discard blank) = blank < 10 ^ 18
+IsSendable (request.Remake b r) = ⊤
+IsSendable (request.Withdraw b r) = ⊤
+IsSendable (request.Close b) = ⊤
+
+-- ---- bodies
+
+abbrev pub flag_text : Bool → List ℕ
+flag_text true = codes "true"
+flag_text false = codes "false"
+
+-- four digits in upper case
+abbrev pub word_text : ℕ → List ℕ
+word_text sw = encode_upper (sw / 256 ∷ sw % 256 ∷ [])
+
+-- names stand as they are, since none of their characters needs an escape; an import's body is its file
+unfoldable pub body_of : Request → List ℕ
+body_of (request.Product p) =
+    codes "{\"check\":" ++ flag_text p.check ++ codes ",\"do\":\"product\",\"low\":" ++ decimal p.low
+    ++ codes ",\"max\":" ++ decimal p.max ++ codes ",\"product\":\"" ++ p.code ++ codes "\"}"
+body_of (request.Lot l) =
+    codes "{\"count\":" ++ decimal l.count ++ codes ",\"do\":\"lot\",\"first\":" ++ decimal l.first
+    ++ codes ",\"lot\":\"" ++ l.name ++ codes "\",\"product\":\"" ++ l.product ++ codes "\"}"
+body_of (request.Import b p raw) = raw
+body_of (request.Open b blank) = codes "{\"batch\":\"" ++ b ++ codes "\",\"blank\":" ++ decimal blank ++ codes ",\"do\":\"open\"}"
+body_of (request.Answer s k sw) =
+    codes "{\"do\":\"answer\",\"index\":" ++ decimal k ++ codes ",\"session\":" ++ decimal s ++ codes ",\"sw\":\"" ++ word_text sw ++ codes "\"}"
+body_of (request.Abort s) = codes "{\"do\":\"abort\",\"session\":" ++ decimal s ++ codes "}"
+body_of request.Reset = codes "{\"do\":\"reset\"}"
+body_of (request.Discard blank) = codes "{\"blank\":" ++ decimal blank ++ codes ",\"do\":\"discard\"}"
+body_of (request.Remake b r) = codes "{\"batch\":\"" ++ b ++ codes "\",\"do\":\"remake\",\"record\":\"" ++ r ++ codes "\"}"
+body_of (request.Withdraw b r) = codes "{\"batch\":\"" ++ b ++ codes "\",\"do\":\"withdraw\",\"record\":\"" ++ r ++ codes "\"}"
+body_of (request.Close b) = codes "{\"batch\":\"" ++ b ++ codes "\",\"do\":\"close\"}"
+
+-- ---- whole texts
+
+-- what follows the number in an import's target
+abbrev pub import_tail : List ℕ → List ℕ → List ℕ
+import_tail batch product = codes "/batch/" ++ batch ++ codes "/" ++ product
+
+abbrev pub tail_of : Request → List ℕ
+tail_of (request.Import b p raw) = import_tail b p
+tail_of (request.Product p) = []
+tail_of (request.Lot l) = []
+tail_of (request.Open b blank) = []
+tail_of (request.Answer s k sw) = []
+tail_of (request.Abort s) = []
+tail_of request.Reset = []
+tail_of (request.Discard blank) = []
+tail_of (request.Remake b r) = []
+tail_of (request.Withdraw b r) = []
+tail_of (request.Close b) = []
+
+abbrev pub target_with : List ℕ → ℕ → List ℕ → List ℕ
+target_with client number tail = codes "/c/" ++ client ++ codes "/" ++ decimal number ++ tail
+
+-- a request's head, by its target and the size of its body
+unfoldable pub sending_head : List ℕ → ℕ → List ℕ
+sending_head target size = codes "POST " ++ target ++ codes " HTTP/1.1\r\nHost: localhost\r\nContent-Length: " ++ decimal size ++ codes "\r\n\r\n"
+
+-- a message by its client, its number, what follows the number in the target, and its body
+abbrev pub sending_with : List ℕ → ℕ → List ℕ → List ℕ → List ℕ
+sending_with client number tail body = sending_head (target_with client number tail) (length body) ++ body
+
+-- the message that asks for a request
+abbrev pub sending_of : List ℕ → ℕ → Request → List ℕ
+sending_of client number r = sending_with client number (tail_of r) (body_of r)
+
+-- what a repeat of it has to have alike
+abbrev pub ask_of : Request → List ℕ
+ask_of r = ask_with (tail_of r) (body_of r)
+
+-- ---- the JSON of a request
+
+-- a word, and the names that it is for
+abbrev pub record_request : List ℕ → List ℕ → List ℕ → Data
+record_request b word r = object (member (codes "batch") (string b) (member (codes "do") (string word) (member (codes "record") (string r) no_members)))
+
+-- an import has none
+abbrev pub value_of : Request → Data
+value_of (request.Product p) =
+    object (member (codes "check") (boolean p.check) (member (codes "do") (string (codes "product")) (member (codes "low") (num p.low)
+    (member (codes "max") (num p.max) (member (codes "product") (string p.code) no_members)))))
+value_of (request.Lot l) =
+    object (member (codes "count") (num l.count) (member (codes "do") (string (codes "lot")) (member (codes "first") (num l.first)
+    (member (codes "lot") (string l.name) (member (codes "product") (string l.product) no_members)))))
+value_of (request.Import b p raw) = null
+value_of (request.Open b blank) = object (member (codes "batch") (string b) (member (codes "blank") (num blank) (member (codes "do") (string (codes "open")) no_members)))
+value_of (request.Answer s k sw) =
+    object (member (codes "do") (string (codes "answer")) (member (codes "index") (num k) (member (codes "session") (num s) (member (codes "sw") (string (word_text sw)) no_members))))
+value_of (request.Abort s) = object (member (codes "do") (string (codes "abort")) (member (codes "session") (num s) no_members))
+value_of request.Reset = object (member (codes "do") (string (codes "reset")) no_members)
+value_of (request.Discard blank) = object (member (codes "blank") (num blank) (member (codes "do") (string (codes "discard")) no_members))
+value_of (request.Remake b r) = record_request b (codes "remake") r
+value_of (request.Withdraw b r) = record_request b (codes "withdraw") r
+value_of (request.Close b) = object (member (codes "batch") (string b) (member (codes "do") (string (codes "close")) no_members))
+
+-- its names are names
+abbrev pub AreNames : Request → Type 0
+AreNames (request.Product p) = IsName p.code
+AreNames (request.Lot l) = IsName l.name × IsName l.product
+AreNames (request.Import b p raw) = ⊤
+AreNames (request.Open b blank) = IsName b
+AreNames (request.Answer s k sw) = ⊤
+AreNames (request.Abort s) = ⊤
+AreNames request.Reset = ⊤
+AreNames (request.Discard blank) = ⊤
+AreNames (request.Remake b r) = IsName b × IsName r
+AreNames (request.Withdraw b r) = IsName b × IsName r
+AreNames (request.Close b) = IsName b
+
+-- ---- what becomes of a text
+
+-- a message that is this request of a client under its number
+abbrev pub Arrives : List ℕ → List ℕ → ℕ → Request → Type 0
+Arrives text client number r =
+    (c : Came) × IsHeard text (Brings c) × (asked_of c ≡ Ok (asked.Arrival (record { client = client; number = number; ask = ask_of r; request = r })))

@@ -1,0 +1,331 @@
+//! Replies, read back from their bytes.
+ghost use Rattle.std.specs.Prelude.{◌≡◌, ◌≢◌, ◌<◌, ◌≤◌, ◌^◌, ◌↔◌, ◌++◌, ℕ, List, length, slice_index, option_map, Some, IfOk, IfSome, IsTrue, IsUtf8};
+ghost use Rattle.hex.specs.Hex.{IsBytes};
+ghost use Rattle.job_core.specs.declared.reply.Reply.{Reply as ReplyValue};
+ghost use Rattle.serde_json.specs.Read.{read};
+ghost use Rattle.serde_json.specs.View.{view};
+ghost use Rattle.wire.specs.Parsing.{HasNoBrace, IsName, IsReply, accepted_in, bytes_at, command_in, count_at, ended_in, import_in, kind_by, made_in, next_in, noted_in, number_at, opened_in, refusal_by, refused_in, reply_bytes, reply_in};
+ghost use Rattle.wire.specs.Requests.{name_at, text_at};
+
+use crate::reply::{Kind, reply_head};
+use crate::request::{name_at, text_at};
+use batch_import::{Kind as FaultKind, RowFault};
+use hex::FromHexError;
+use job_core::{Made, Refusal, Reply};
+use reply_store::{body_of, status_of};
+use serde_json::Value;
+use std::alloc::{AllocError, Global};
+use store_data::{Bytes, Name};
+
+/// The reply to a request that these bytes are, status line to body, or `None` where they are no such reply. It fails only where
+/// memory is refused.
+pub fn parse_reply(alloc: Global, bytes: &[u8]) -> Result<Option<Reply>, AllocError>
+    ensures is { IfOk result (λ found. IfSome found (λ r. IsReply r × (bytes.now ≡ reply_bytes r))) }
+    ensures found { (r : ReplyValue) → IsReply r → bytes.now ≡ reply_bytes r → IfOk result (λ found. found ≡ Some r) }
+{
+    let Some(value) = value_in(alloc, body_in(bytes))? else {
+        return Ok(None);
+    };
+    let Some(reply) = reply_in(alloc, &value)? else {
+        return Ok(None);
+    };
+    if is_text_of(alloc, bytes, &reply)? {
+        Ok(Some(reply))
+    } else {
+        Ok(None)
+    }
+}
+
+// From the first brace on: a head has none, and a body begins with one.
+fn body_in(bytes: &[u8]) -> &[u8]
+    ensures few { length bytes.now < 2 ^ 64 }
+    ensures body { (head body : List ℕ) → bytes.now ≡ head ++ body → HasNoBrace head → slice_index body 0 ≡ 123 → result.now ≡ body }
+{
+    &bytes[first_brace(bytes)..]
+}
+
+// Its index, or the length where there is none.
+fn first_brace(bytes: &[u8]) -> usize
+    ensures few { length bytes.now < 2 ^ 64 }
+    ensures within { result ≤ length bytes.now }
+    ensures before { (k : ℕ) → k < result → slice_index bytes.now k ≢ 123 }
+    ensures there { result < length bytes.now → slice_index bytes.now result ≡ 123 }
+{
+    for (i, b) in bytes.iter().enumerate() {
+        if *b == b'{' {
+            return i;
+        }
+    }
+    bytes.len()
+}
+
+// The JSON value of a text, if it is one.
+fn value_in(alloc: Global, text: &[u8]) -> Result<Option<Value>, AllocError>
+    ensures { IsUtf8 text.now → IfOk result (λ v. option_map view v ≡ read text.now) }
+{
+    match Value::from_slice(alloc, text) {
+        Ok(value) => Ok(Some(value)),
+        Err(why) => {
+            if why.is_memory() {
+                Err(AllocError)
+            } else {
+                Ok(None)
+            }
+        }
+    }
+}
+
+// Whether these bytes are the whole text of a reply.
+fn is_text_of(alloc: Global, bytes: &[u8], reply: &Reply) -> Result<bool, AllocError>
+    ensures { IfOk result (λ same. IsTrue same ↔ (bytes.now ≡ reply_bytes reply.now)) }
+{
+    let body = body_of(alloc, reply)?;
+    let mut head = [0; 256];
+    let size = body.as_slice().len();
+    let end = reply_head(status_of(reply), Kind::Json, size, &mut head);
+    match bytes.strip_prefix(&head[..end]) {
+        Some(rest) => Ok(rest == body.as_slice()),
+        None => Ok(false),
+    }
+}
+
+// The reply that a body may be of, by its members: its text decides.
+fn reply_in(alloc: Global, value: &Value) -> Result<Option<Reply>, AllocError>
+    ensures value { IfOk result (λ found. found ≡ reply_in (view value.now)) }
+    ensures ranged { IfOk result (λ found. IfSome found IsReply) }
+{
+    match text_at(value, "result") {
+        Some(word) => accepted_in(alloc, value, word),
+        None => Ok(refused_in(value)),
+    }
+}
+
+fn accepted_in(alloc: Global, value: &Value, word: &str) -> Result<Option<Reply>, AllocError>
+    ensures value { IfOk result (λ found. found ≡ accepted_in (view value.now) word.now) }
+    ensures ranged { IfOk result (λ found. IfSome found IsReply) }
+{
+    match word {
+        "created" => Ok(made_in(value, Made::Created)),
+        "known" => Ok(made_in(value, Made::Known)),
+        "command" => command_in(alloc, value),
+        _ => Ok(ended_in(value, word)),
+    }
+}
+
+fn made_in(value: &Value, made: Made) -> Option<Reply>
+    ensures value { result ≡ made_in made (view value.now) }
+    ensures ranged { IfSome result IsReply }
+{
+    if let Some(product) = name_at(value, "product") {
+        return Some(Reply::Product { product, made });
+    }
+    if let Some(lot) = name_at(value, "lot") {
+        return Some(Reply::Lot { lot, made });
+    }
+    import_in(value, made)
+}
+
+fn import_in(value: &Value, made: Made) -> Option<Reply>
+    ensures value { result ≡ import_in made (view value.now) }
+    ensures ranged { IfSome result IsReply }
+{
+    let batch = name_at(value, "batch")?;
+    let records = count_at(value, "records")?;
+    let rows = count_at(value, "rows")?;
+    Some(Reply::Import {
+        batch,
+        records,
+        made,
+        rows,
+    })
+}
+
+fn command_in(alloc: Global, value: &Value) -> Result<Option<Reply>, AllocError>
+    ensures value { IfOk result (λ found. found ≡ command_in (view value.now)) }
+    ensures ranged { IfOk result (λ found. IfSome found IsReply) }
+{
+    let Some(command) = bytes_at(alloc, value, "command")? else {
+        return Ok(None);
+    };
+    match name_at(value, "batch") {
+        Some(batch) => Ok(opened_in(value, batch, command)),
+        None => Ok(next_in(value, command)),
+    }
+}
+
+fn opened_in(value: &Value, batch: Name, command: Bytes) -> Option<Reply>
+    requires name { IsName batch }
+    requires bytes { IsBytes command }
+    ensures value { result ≡ opened_in batch command (view value.now) }
+    ensures ranged { IfSome result IsReply }
+{
+    let blank = number_at(value, "blank")?;
+    let rec = name_at(value, "record")?;
+    let session = number_at(value, "session")?;
+    Some(Reply::Opened {
+        batch,
+        blank,
+        command,
+        rec,
+        session,
+    })
+}
+
+fn next_in(value: &Value, command: Bytes) -> Option<Reply>
+    requires { IsBytes command }
+    ensures value { result ≡ next_in command (view value.now) }
+    ensures ranged { IfSome result IsReply }
+{
+    let index = number_at(value, "index")?;
+    let session = number_at(value, "session")?;
+    Some(Reply::Next {
+        command,
+        index,
+        session,
+    })
+}
+
+fn ended_in(value: &Value, word: &str) -> Option<Reply>
+    ensures value { result ≡ ended_in (view value.now) word.now }
+    ensures ranged { IfSome result IsReply }
+{
+    match word {
+        "good" => Some(Reply::Good {
+            session: number_at(value, "session")?,
+        }),
+        "spoiled" => Some(Reply::Spoiled {
+            session: number_at(value, "session")?,
+        }),
+        "reset" => Some(Reply::Reset {
+            session: number_at(value, "session")?,
+        }),
+        "discarded" => Some(Reply::Discarded {
+            blank: number_at(value, "blank")?,
+        }),
+        _ => noted_in(value, word),
+    }
+}
+
+fn noted_in(value: &Value, word: &str) -> Option<Reply>
+    ensures value { result ≡ noted_in (view value.now) word.now }
+    ensures ranged { IfSome result IsReply }
+{
+    let batch = name_at(value, "batch")?;
+    match word {
+        "waiting" => Some(Reply::Waiting {
+            batch,
+            rec: name_at(value, "record")?,
+        }),
+        "withdrawn" => Some(Reply::Withdrawn {
+            batch,
+            rec: name_at(value, "record")?,
+        }),
+        "closed" => Some(Reply::Closed { batch }),
+        _ => None,
+    }
+}
+
+fn refused_in(value: &Value) -> Option<Reply>
+    ensures value { result ≡ refused_in (view value.now) }
+    ensures ranged { IfSome result IsReply }
+{
+    let code = number_at(value, "code")?;
+    if let Some(session) = number_at(value, "session") {
+        return Some(Reply::Busy { session });
+    }
+    if let Some(row) = count_at(value, "row") {
+        let kind = kind_by(code)?;
+        return Some(Reply::Faulty {
+            fault: RowFault { row, kind },
+        });
+    }
+    let refusal = refusal_by(code)?;
+    Some(Reply::Refused { refusal })
+}
+
+// ---- members
+
+fn number_at(value: &Value, key: &str) -> Option<u64>
+    ensures value { result ≡ number_at key.now (view value.now) }
+    ensures ranged { IfSome result (λ n. n < 2 ^ 64) }
+{
+    value.get(key)?.as_u64()
+}
+
+fn count_at(value: &Value, key: &str) -> Option<u32>
+    ensures value { result ≡ count_at key.now (view value.now) }
+    ensures ranged { IfSome result (λ n. n < 2 ^ 32) }
+{
+    let number = number_at(value, key)?;
+    u32::try_from(number).ok()
+}
+
+// A text in hexadecimal, as bytes.
+fn bytes_at(alloc: Global, value: &Value, key: &str) -> Result<Option<Bytes>, AllocError>
+    ensures value { IfOk result (λ found. found ≡ bytes_at key.now (view value.now)) }
+    ensures ranged { IfOk result (λ found. IfSome found IsBytes) }
+{
+    let Some(text) = text_at(value, key) else {
+        return Ok(None);
+    };
+    match hex::decode(alloc, text.as_bytes()) {
+        Ok(bytes) => Ok(Some(Bytes::from_vec(bytes))),
+        Err(FromHexError::OutOfMemory) => Err(AllocError),
+        Err(_) => Ok(None),
+    }
+}
+
+// ---- numbers of refusals and faults
+
+#[tactic(auto, unfolding(crate::specs::Parsing::refusal_by))]
+fn refusal_by(code: u64) -> Option<Refusal>
+    ensures { result ≡ refusal_by code }
+{
+    match code {
+        51 => Some(Refusal::ProductDiffers),
+        52 => Some(Refusal::ProductUnknown),
+        53 => Some(Refusal::LotDiffers),
+        54 => Some(Refusal::SerialsOverlap),
+        55 => Some(Refusal::BatchDiffers),
+        56 => Some(Refusal::BatchUnknown),
+        57 => Some(Refusal::BatchClosed),
+        58 => Some(Refusal::BlankUnknown),
+        59 => Some(Refusal::BlankOfOtherProduct),
+        60 => Some(Refusal::BlankUsed),
+        62 => Some(Refusal::NothingWaiting),
+        63 => Some(Refusal::SessionUnknown),
+        64 => Some(Refusal::NotYours),
+        65 => Some(Refusal::SessionEnded),
+        66 => Some(Refusal::OutOfTurn),
+        67 => Some(Refusal::RecordUnknown),
+        68 => Some(Refusal::NotFailed),
+        69 => Some(Refusal::NotWithdrawable),
+        70 => Some(Refusal::NotFinished),
+        71 => Some(Refusal::Limit),
+        72 => Some(Refusal::NumberReused),
+        _ => None,
+    }
+}
+
+#[tactic(auto, unfolding(crate::specs::Parsing::kind_by))]
+fn kind_by(code: u64) -> Option<FaultKind>
+    ensures { result ≡ kind_by code }
+{
+    match code {
+        21 => Some(FaultKind::MarksDiffer),
+        22 => Some(FaultKind::IdentifierTwice),
+        23 => Some(FaultKind::TooManyBlocks),
+        30 => Some(FaultKind::NotSixFields),
+        31 => Some(FaultKind::Header),
+        32 => Some(FaultKind::RecordName),
+        33 => Some(FaultKind::Aid),
+        34 => Some(FaultKind::Rank),
+        35 => Some(FaultKind::Mark),
+        36 => Some(FaultKind::Grouping),
+        37 => Some(FaultKind::NotARecord),
+        38 => Some(FaultKind::TooManyRows),
+        39 => Some(FaultKind::TooManyRecords),
+        40 => Some(FaultKind::NoRows),
+        _ => None,
+    }
+}
