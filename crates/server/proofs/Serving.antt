@@ -1,0 +1,126 @@
+-- One more connection.
+use Rattle.std.proofs.Common.{◌≡◌, ◌⊎◌, ℕ, zero, suc, ◌+◌, ◌<◌, ◌≤◌, Bool, true, false, List, [], ◌∷◌, ◌++◌, length, map, take, Option, Some, None, Result, Ok, Err, refl, sym, ap, ◌∙◌, subst, inl, inr, ⊎_elim, arith, append_assoc, append-nil}
+use Rattle.std.specs.Prelude.{All, drop, option_map, slice_get, unwrap_or}
+use Rattle.std.specs.Io.KnownBytes.{Appends}
+use Rattle.std.proofs.lemmas.List.{take_at, take-append-le, map_push}
+use Rattle.std.proofs.lemmas.List.Elements.{All-push, All-nil}
+use Rattle.std.proofs.lemmas.Option.{none-some, same_Some}
+use Rattle.job_core.specs.Store.{AreSound, Contents, State, IsHonest}
+use Rattle.reply_store.specs.Meaning.{contents_after}
+use Rattle.reply_store.specs.Runs.{Tried, arrived, decided, Leaves}
+use Rattle.reply_store.proofs.Commands.{hands_out_next}
+use Rattle.reply_store.proofs.Running.{leaves_none, leaves_more, leaves_stays}
+use Rattle.wire.specs.declared.ask.Asked.{Asked}
+use Rattle.wire.specs.declared.ask.Asked.TheVariants as asked
+use Rattle.wire.specs.Messages.{HasHead, Tells}
+use Rattle.server.specs.declared.served.Served.{Served}
+use Rattle.server.specs.Meant.{Meant, Broken, Refused, Asks, Means}
+use Rattle.server.specs.Replies.{IsAnswer, IsUnavailable}
+use Rattle.server.specs.Exchanges.{Exchange, Does, Entry, IsAnswered, IsNext, Moves, Opens, Queue, Serves, ServesAll, moved, shown, tries, tries_at, tries_of}
+
+abbrev brought : Exchange → List ℕ
+brought e = e.input
+
+written_is : (after : Option (List ℕ)) (written : List ℕ) → Appends (Some []) after written → unwrap_or after [] ≡ written
+written_is None written p = absurd p
+written_is (Some xs) written p = p
+
+tries-append : (es fs : List Exchange) → tries (es ++ fs) ≡ tries es ++ tries fs
+tries-append [] fs = refl
+tries-append (e ∷ es) fs = ap (λ (l : List Tried). tries_of e ++ l) (tries-append es fs) ∙ sym (append_assoc (tries_of e) (tries es) (tries fs))
+
+tries_push : (es : List Exchange) (e : Exchange) → tries (es ++ e ∷ []) ≡ tries es ++ tries_of e
+tries_push es e = tries-append es (e ∷ []) ∙ ap (λ (l : List Tried). tries es ++ l) (append-nil (tries_of e))
+
+-- what one connection leaves
+leaves_at : (m : Meant) (s0 s1 s2 : State) (ts : List Tried) (b : Bool) → Leaves s0 s1 ts → Does m s1 s2 b → Leaves s0 s2 (ts ++ tries_at m b)
+leaves_at Broken s0 s1 s2 ts b leaves does = subst (Leaves s0 s2) (sym (append-nil ts)) (leaves_stays s0 s1 s2 ts leaves does)
+leaves_at (Refused why) s0 s1 s2 ts b leaves does = subst (Leaves s0 s2) (sym (append-nil ts)) (leaves_stays s0 s1 s2 ts leaves does)
+leaves_at (Asks (asked.Account w)) s0 s1 s2 ts b leaves does = subst (Leaves s0 s2) (sym (append-nil ts)) (leaves_stays s0 s1 s2 ts leaves does)
+leaves_at (Asks (asked.Arrival a)) s0 s1 s2 ts b leaves does =
+    subst (λ (x : Bool). Leaves s0 s2 (ts ++ (arrived a, x) ∷ [])) (sym does.2) (leaves_more s0 s1 s2 ts (arrived a) does.0 leaves does.1)
+
+doubts_at : (m : Meant) (old new : State) (b : Bool) → Does m old new b → old.doubts ≤ new.doubts
+doubts_at Broken old new b does = does.doubts
+doubts_at (Refused why) old new b does = does.doubts
+doubts_at (Asks (asked.Account w)) old new b does = does.doubts
+doubts_at (Asks (asked.Arrival a)) old new b does = does.1.doubts
+
+slice_get_push : (es : List Exchange) (e f : Exchange) (i : ℕ) → slice_get (es ++ e ∷ []) i ≡ Some f → ((i < length es) × (slice_get es i ≡ Some f)) ⊎ ((i ≡ length es) × (e ≡ f))
+slice_get_push [] e f zero is = inr (refl, same_Some e f is)
+slice_get_push [] e f (suc i) is = absurd (none-some f is)
+slice_get_push (x ∷ es) e f zero is = inl (omega arith, is)
+slice_get_push (x ∷ es) e f (suc i) is = ⊎_elim (λ (p : (i < length es) × (slice_get es i ≡ Some f)). inl (omega (arith, p.0), p.1)) (λ (p : (i ≡ length es) × (e ≡ f)). inr (ap suc p.0, p.1)) (slice_get_push es e f i is)
+
+-- what holds of each by those before it, after one more
+each_more : (P : List Exchange → Exchange → Type 0) (es : List Exchange) (e : Exchange)
+    → ((i : ℕ) (f : Exchange) → slice_get es i ≡ Some f → P (take i es) f) → P es e
+    → (i : ℕ) (f : Exchange) → slice_get (es ++ e ∷ []) i ≡ Some f → P (take i (es ++ e ∷ [])) f
+each_more P es e each last i f is =
+    ⊎_elim
+    (λ (p : (i < length es) × (slice_get es i ≡ Some f)). subst (λ (l : List Exchange). P l f) (sym (take-append-le i es (e ∷ []) (omega (arith, p.0)))) (each i f p.1))
+    (λ (p : (i ≡ length es) × (e ≡ f)). subst (λ (l : List Exchange). P l f) (sym (take_at es (e ∷ []) i (sym p.0))) (subst (P es) p.1 last))
+    (slice_get_push es e f i is)
+
+pub is_next : (c : Contents) (m : Meant) → AreSound c → IsNext c m
+is_next c Broken sound = tt
+is_next c (Refused why) sound = tt
+is_next c (Asks (asked.Account w)) sound = tt
+is_next c (Asks (asked.Arrival a)) sound = λ first. hands_out_next c.facts sound.facts a.client a.request
+
+abbrev NextAt : Contents → List Exchange → Exchange → Type 0
+NextAt c before e = IsNext (contents_after c (decided (tries before))) e.meant
+
+abbrev AnsweredAt : Contents → List Exchange → Exchange → Type 0
+AnsweredAt c before e = IsAnswered (contents_after c (decided (tries before))) e
+
+pub serves_none : (s : State) → ServesAll s s []
+serves_none s = record { means = All-nil (λ (e : Exchange). Means e.input e.meant); leaves = leaves_none s; answered = λ h c held i e is. absurd (none-some e is); next = λ h c held i e is. absurd (none-some e is) }
+
+pub serves_more : (s0 s1 s2 : State) (es : List Exchange) (e : Exchange) → ServesAll s0 s1 es → Serves s1 s2 e → ServesAll s0 s2 (es ++ e ∷ [])
+serves_more s0 s1 s2 es e all one =
+    let b = e.served.decided in
+    record {
+      means = All-push (λ (x : Exchange). Means x.input x.meant) es e all.means one.means;
+      leaves = subst (Leaves s0 s2) (sym (tries_push es e)) (leaves_at e.meant s0 s1 s2 (tries es) b all.leaves one.does);
+      answered = λ h c held. let early : IsHonest s1 = omega (arith, doubts_at e.meant s1 s2 b one.does) in
+          each_more (AnsweredAt c) es e (all.answered early c held) (one.answered h (contents_after c (decided (tries es))) (all.leaves.contents early c held));
+      next = λ h c held. let early : IsHonest s1 = omega (arith, doubts_at e.meant s1 s2 b one.does) in
+          each_more (NextAt c) es e (all.next early c held) (one.next (contents_after c (decided (tries es))) (all.leaves.contents early c held));
+    }
+
+-- ---- those that were taken back
+
+pub moves_none : (queue : Option Queue) → Moves queue queue []
+moves_none None = tt
+moves_none (Some q) = (q.coming, refl, ap (λ (done : List Entry). Some (record { done = done; coming = q.coming })) (sym (append-nil q.done)))
+
+-- the first that came was served
+served_first : (q : Queue) (es : List Exchange) (e : Exchange) (rest : List (List ℕ)) (brings before after : Option (List ℕ)) (served : Served)
+    → q.coming ≡ map brought es ++ rest
+    → Opens (Some (record { done = q.done ++ map shown es; coming = rest })) brings before → Tells brings e.input → Appends before after e.written → e.served ≡ served
+    → Moves (Some q) (Some (moved after served (record { done = q.done ++ map shown es; coming = rest }))) (es ++ e ∷ [])
+served_first q es e rest brings before after served came (bytes, others, coming, is, empty) tells appends same =
+    let input : bytes ≡ e.input = subst (λ (o : Option (List ℕ)). Tells o e.input) is tells in
+    let all : rest ≡ e.input ∷ others = coming ∙ ap (λ (l : List ℕ). l ∷ others) input in
+    let gone : unwrap_or after [] ≡ e.written = written_is after e.written (subst (λ (o : Option (List ℕ)). Appends o after e.written) empty appends) in
+    let made : List ℕ → List ℕ → Served → Entry = λ a b s. record { input = a; written = b; served = s } in
+    let first : List (List ℕ) → List ℕ = λ l. unwrap_or (slice_get l 0) [] in
+    let entry : made (first rest) (unwrap_or after []) served ≡ shown e =
+    ap (λ (l : List (List ℕ)). made (first l) (unwrap_or after []) served) all ∙ ap (λ (b : List ℕ). made e.input b served) gone ∙ ap (made e.input e.written) (sym same) in
+    let done : (q.done ++ map shown es) ++ made (first rest) (unwrap_or after []) served ∷ [] ≡ q.done ++ map shown (es ++ e ∷ []) =
+    ap (λ (x : Entry). (q.done ++ map shown es) ++ x ∷ []) entry ∙ append_assoc q.done (map shown es) (shown e ∷ []) ∙ ap (λ (l : List Entry). q.done ++ l) (sym (map_push shown es e)) in
+    let queue : List Entry → List (List ℕ) → Option Queue = λ d c. Some (record { done = d; coming = c }) in (
+      others,
+      came ∙ ap (λ (l : List (List ℕ)). map brought es ++ l) all ∙ sym (append_assoc (map brought es) (e.input ∷ []) others) ∙ ap (λ (l : List (List ℕ)). l ++ others) (sym (map_push brought es e)),
+      ap (λ (d : List Entry). queue d (drop 1 rest)) done ∙ ap (λ (l : List (List ℕ)). queue (q.done ++ map shown (es ++ e ∷ [])) (drop 1 l)) all,
+    )
+
+-- the connection that is taken back is the one that was served
+pub moves_more : (q0 q1 : Option Queue) (es : List Exchange) (e : Exchange) (brings before after : Option (List ℕ)) (served : Served)
+    → Moves q0 q1 es → Opens q1 brings before → Tells brings e.input → Appends before after e.written → e.served ≡ served
+    → Moves q0 (option_map (moved after served) q1) (es ++ e ∷ [])
+moves_more None q1 es e brings before after served moves opens tells appends same = tt
+moves_more (Some q) q1 es e brings before after served (rest, came, now) opens tells appends same =
+    subst (λ (o : Option Queue). Opens o brings before → Moves (Some q) (option_map (moved after served) o) (es ++ e ∷ [])) (sym now)
+    (λ first. served_first q es e rest brings before after served came first tells appends same) opens

@@ -1,0 +1,7 @@
+-- The text of an answer.
+use Rattle.std.specs.Prelude.{ℕ, List}
+use Rattle.wire.specs.Texts.{reply_text}
+use Rattle.server.specs.declared.account.Answer.{Answer}
+
+abbrev pub answer_text : Answer → List ℕ
+answer_text a = reply_text a.status a.kind a.body

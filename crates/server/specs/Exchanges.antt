@@ -1,0 +1,125 @@
+-- What connections bring, get, and do to the store.
+use Rattle.std.specs.Prelude.{◌≡◌, ◌⊎◌, ℕ, Bool, All, List, [], ◌∷◌, ◌++◌, map, take, drop, slice_get, Option, Some, IfSome, unwrap_or, Result, is_ok, ⊤}
+use Rattle.std.specs.List.{flat_map}
+use Rattle.job_core.specs.declared.store.StoreFault.{StoreFault}
+use Rattle.job_core.specs.Steps.{step}
+use Rattle.job_core.specs.Store.{Contents, State, IsHonest, Stays, no_contents}
+use Rattle.reply_store.specs.declared.Kept.{Kept}
+use Rattle.reply_store.specs.Meaning.{contents_after}
+use Rattle.reply_store.specs.Commands.{HandsOutNext}
+use Rattle.reply_store.specs.Handled.{Handles, IsFirst}
+use Rattle.reply_store.specs.Runs.{Tried, arrived, decided, Leaves}
+use Rattle.wire.specs.declared.ask.Asked.{Asked}
+use Rattle.wire.specs.declared.ask.Asked.TheVariants as asked
+use Rattle.wire.specs.Messages.{HasHead}
+use Rattle.server.specs.declared.served.Served.{Served}
+use Rattle.server.specs.Meant.{Meant, Broken, Refused, Asks, Means}
+use Rattle.server.specs.Replies.{IsAnswer, IsUnavailable}
+
+-- ---- one connection
+
+-- the bytes that it brought, what they mean, the bytes that it got, and how it ended
+pub record Exchange : Type 0 where
+  pub input : List ℕ
+  pub meant : Meant
+  pub written : List ℕ
+  pub served : Served
+
+-- the answer, or, only where a head came that passes its tests, that the store is unavailable
+abbrev pub IsAnswered : Contents → Exchange → Type 0
+IsAnswered c e = IsAnswer c e.meant e.served e.written ⊎ (HasHead e.input × IsUnavailable e.served e.written)
+
+-- an arrival is handled, and all else changes nothing
+abbrev pub AskedDoes : Asked → State → State → Bool → Type 0
+AskedDoes (asked.Account w) old new was_decided = Stays old new
+AskedDoes (asked.Arrival a) old new was_decided = (outcome : Result Kept StoreFault) × Handles old new (arrived a) outcome × (was_decided ≡ is_ok outcome)
+
+abbrev pub Does : Meant → State → State → Bool → Type 0
+Does Broken old new was_decided = Stays old new
+Does (Refused why) old new was_decided = Stays old new
+Does (Asks a) old new was_decided = AskedDoes a old new was_decided
+
+-- where a first is handed out a command, it is the next of its record's sequence
+abbrev pub IsNext : Contents → Meant → Type 0
+IsNext c Broken = ⊤
+IsNext c (Refused why) = ⊤
+IsNext c (Asks (asked.Account w)) = ⊤
+IsNext c (Asks (asked.Arrival a)) = IsFirst c (arrived a) → HandsOutNext c.facts (step c.facts a.client a.request).1
+
+pub record Serves (old new : State) (e : Exchange) : Type 0 where
+  pub means : Means e.input e.meant
+  pub does : Does e.meant old new e.served.decided
+  pub answered : IsHonest new → (c : Contents) → old.holds c → IsAnswered c e
+  pub next : (c : Contents) → old.holds c → IsNext c e.meant
+
+-- ---- a list of connections
+
+-- the arrival that a connection brought, if it did, and whether it was decided
+abbrev pub asked_tries : Asked → Bool → List Tried
+asked_tries (asked.Account w) was_decided = []
+asked_tries (asked.Arrival a) was_decided = (arrived a, was_decided) ∷ []
+
+abbrev pub tries_at : Meant → Bool → List Tried
+tries_at Broken was_decided = []
+tries_at (Refused why) was_decided = []
+tries_at (Asks a) was_decided = asked_tries a was_decided
+
+abbrev pub tries_of : Exchange → List Tried
+tries_of e = tries_at e.meant e.served.decided
+
+abbrev pub tries : List Exchange → List Tried
+tries es = flat_map tries_of es
+
+-- each is answered on the contents that the decided arrivals of those before it leave
+abbrev pub AreAnswered : Contents → List Exchange → Type 0
+AreAnswered c es = (i : ℕ) (e : Exchange) → slice_get es i ≡ Some e → IsAnswered (contents_after c (decided (tries (take i es)))) e
+
+abbrev pub AreNext : Contents → List Exchange → Type 0
+AreNext c es = (i : ℕ) (e : Exchange) → slice_get es i ≡ Some e → IsNext (contents_after c (decided (tries (take i es)))) e.meant
+
+-- the headline, over any store
+pub record ServesAll (old new : State) (es : List Exchange) : Type 0 where
+  pub means : All (λ (e : Exchange). Means e.input e.meant) es
+  pub leaves : Leaves old new (tries es)
+  pub answered : IsHonest new → (c : Contents) → old.holds c → AreAnswered c es
+  pub next : IsHonest new → (c : Contents) → old.holds c → AreNext c es
+
+-- ---- where connections come from, and go
+
+-- a connection that was taken back: the bytes that it brought and got, and how it ended
+pub record Entry : Type 0 where
+  pub input : List ℕ
+  pub written : List ℕ
+  pub served : Served
+
+abbrev pub shown : Exchange → Entry
+shown e = record { input = e.input; written = e.written; served = e.served }
+
+-- those that were taken back, and what the others bring, in order
+pub record Queue : Type 0 where
+  pub done : List Entry
+  pub coming : List (List ℕ)
+
+-- the first that comes is taken back, with what it got
+abbrev pub moved : Option (List ℕ) → Served → Queue → Queue
+moved contents served q =
+    record { done = q.done ++ record { input = unwrap_or (slice_get q.coming 0) []; written = unwrap_or contents []; served = served } ∷ []; coming = drop 1 q.coming }
+
+-- the one that is handed out is the first that comes, and nothing was written to it
+abbrev pub Opens : Option Queue → Option (List ℕ) → Option (List ℕ) → Type 0
+Opens queue brings contents =
+    IfSome queue (λ (q : Queue). (bytes : List ℕ) × (rest : List (List ℕ)) × (q.coming ≡ bytes ∷ rest) × (brings ≡ Some bytes) × (contents ≡ Some []))
+
+-- these were served, and no others
+abbrev pub Moves : Option Queue → Option Queue → List Exchange → Type 0
+Moves before after es =
+    IfSome before (λ (q : Queue). (rest : List (List ℕ)) × (q.coming ≡ map (λ (e : Exchange). e.input) es ++ rest) × (after ≡ Some (record { done = q.done ++ map shown es; coming = rest })))
+
+-- the headline over lists, from an empty store: the connections that were served, and what is left
+pub record IsServed (inputs : List (List ℕ)) (done : List Entry) (after : Contents) (es : List Exchange) : Type 0 where
+  pub brought : map (λ (e : Exchange). e.input) es ≡ inputs
+  pub kept : done ≡ map shown es
+  pub means : All (λ (e : Exchange). Means e.input e.meant) es
+  pub answered : AreAnswered no_contents es
+  pub next : AreNext no_contents es
+  pub left : after ≡ contents_after no_contents (decided (tries es))

@@ -1,0 +1,40 @@
+-- What connections over memory show.
+use Rattle.std.specs.Prelude.{◌≡◌, ℕ, ◌<◌, List, [], length, map, drop, vec_len, vec_capacity}
+use Rattle.std.specs.Prelude.{Vec}
+use Rattle.std.specs.List.{zip}
+use Rattle.std.specs.declared.alloc.Global.{Global}
+use Rattle.server.specs.declared.connections.NextFault.{NextFault}
+use Rattle.server.specs.declared.connections.NextFault.TheVariants as fault
+use Rattle.server.specs.declared.memory.MemoryReader.{MemoryReader}
+use Rattle.server.specs.declared.memory.MemoryConnections.{MemoryConnections}
+use Rattle.server.specs.declared.memory.Replied.{Replied}
+use Rattle.server.specs.Exchanges.{Entry, Queue}
+
+-- the bytes that still come
+abbrev pub bytes_left : MemoryReader → List ℕ
+bytes_left r = drop r.at r.bytes.items
+
+abbrev pub texts : List (Vec ℕ Global) → List (List ℕ)
+texts inputs = map (λ (v : Vec ℕ Global). v.items) inputs
+
+abbrev pub entry : Vec ℕ Global × Replied → Entry
+entry p = record { input = p.0.items; written = p.1.written.items; served = p.1.served }
+
+-- what has a reply was taken back, and the rest comes
+abbrev pub queue_with : List (Vec ℕ Global) → List Replied → Queue
+queue_with inputs replies = record { done = map entry (zip inputs replies); coming = drop (length replies) (texts inputs) }
+
+abbrev pub queue : MemoryConnections → Queue
+queue c = queue_with c.inputs.items c.replies.items
+
+-- one is out, and there is room for it to come back
+abbrev pub IsOut : MemoryConnections → Type 0
+IsOut c = (vec_len c.replies < vec_len c.inputs) × (vec_len c.replies < vec_capacity c.replies)
+
+abbrev pub replies_of : MemoryConnections → List Replied
+replies_of c = c.replies.items
+
+-- the device is blamed only where none comes, and memory only where one does
+abbrev pub Refuses : MemoryConnections → NextFault → Type 0
+Refuses c fault.Memory = length c.replies.items < length c.inputs.items
+Refuses c fault.Device = (queue c).coming ≡ []

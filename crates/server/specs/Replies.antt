@@ -1,0 +1,78 @@
+-- What connections are answered (this project's profile).
+use Rattle.std.specs.Prelude.{◌≡◌, ℕ, Bool, true, false, List, [], ◌∷◌, ◌++◌, Option, Some, None}
+use Rattle.job_core.specs.declared.refusal.Refusal.{Refusal as Rule}
+use Rattle.job_core.specs.declared.refusal.Refusal.TheVariants as rule
+use Rattle.job_core.specs.declared.reply.Reply.TheVariants as reply
+use Rattle.job_core.specs.Facts.{Facts}
+use Rattle.job_core.specs.Store.{Contents}
+use Rattle.reply_store.specs.Told.{Told, told_of}
+use Rattle.reply_store.specs.Meaning.{contents_after, answer}
+use Rattle.reply_store.specs.Runs.{arrived}
+use Rattle.reports.specs.Accounts.{batch_account, blank_account}
+use Rattle.reports.specs.Report.{report_text}
+use Rattle.wire.specs.declared.ask.Asked.{Asked}
+use Rattle.wire.specs.declared.ask.Asked.TheVariants as asked
+use Rattle.wire.specs.declared.ask.Wanted.{Wanted}
+use Rattle.wire.specs.declared.ask.Wanted.TheVariants as wanted
+use Rattle.wire.specs.declared.refusal.Refusal.TheVariants.{Storage}
+use Rattle.wire.specs.declared.reply.Kind.{Kind}
+use Rattle.wire.specs.declared.reply.Kind.TheVariants as kind
+use Rattle.wire.specs.Refusals.{refusal_text}
+use Rattle.wire.specs.Texts.{reply_text}
+use Rattle.server.specs.declared.served.End.{End}
+use Rattle.server.specs.declared.served.End.TheVariants as ended
+use Rattle.server.specs.declared.served.Served.{Served}
+use Rattle.server.specs.Meant.{Meant, Broken, Refused, Asks}
+
+-- ---- texts
+
+abbrev pub told_text : Told → List ℕ
+told_text t = reply_text t.status kind.Json t.body
+
+-- the account, if what it is of is there
+abbrev pub account_of : Facts → Wanted → Option (List ℕ)
+account_of f (wanted.Batch b) = batch_account f b
+account_of f (wanted.Report b) = report_text f b
+account_of f (wanted.Blanks p) = blank_account f p
+
+abbrev pub account_kind : Wanted → Kind
+account_kind (wanted.Batch b) = kind.Json
+account_kind (wanted.Report b) = kind.Report
+account_kind (wanted.Blanks p) = kind.Json
+
+-- what is not there
+abbrev pub unknown_of : Wanted → Rule
+unknown_of (wanted.Batch b) = rule.BatchUnknown
+unknown_of (wanted.Report b) = rule.BatchUnknown
+unknown_of (wanted.Blanks p) = rule.ProductUnknown
+
+abbrev pub account_reply : Wanted → Option (List ℕ) → List ℕ
+account_reply w (Some text) = reply_text 200 (account_kind w) text
+account_reply w None = told_text (told_of (reply.Refused (unknown_of w)))
+
+abbrev pub account_text : Facts → Wanted → List ℕ
+account_text f w = account_reply w (account_of f w)
+
+-- ---- what is written
+
+-- all of the text, or a beginning where the writer failed
+abbrev pub IsWritten : End → List ℕ → List ℕ → Type 0
+IsWritten ended.Answered text written = written ≡ text
+IsWritten ended.WriteFailed text written = (rest : List ℕ) × (written ++ rest ≡ text)
+IsWritten ended.Broken text written = ⊥
+
+-- an account changes nothing, and an arrival is told what is kept of its number, or now is
+abbrev pub IsAskedAnswer : Contents → Asked → Served → List ℕ → Type 0
+IsAskedAnswer c (asked.Account w) served written = (served.decided ≡ false) × IsWritten served.end (account_text c.facts w) written
+IsAskedAnswer c (asked.Arrival a) served written =
+    (t : Told) × (answer (contents_after c (arrived a ∷ [])).kept (arrived a) ≡ Some t) × (served.decided ≡ true) × IsWritten served.end (told_text t) written
+
+-- the answer on these contents
+abbrev pub IsAnswer : Contents → Meant → Served → List ℕ → Type 0
+IsAnswer c Broken served written = (served ≡ record { end = ended.Broken; decided = false }) × (written ≡ [])
+IsAnswer c (Refused why) served written = (served.decided ≡ false) × IsWritten served.end (refusal_text why) written
+IsAnswer c (Asks a) served written = IsAskedAnswer c a served written
+
+-- the store failed, or memory was refused
+abbrev pub IsUnavailable : Served → List ℕ → Type 0
+IsUnavailable served written = (served.decided ≡ false) × IsWritten served.end (refusal_text Storage) written

@@ -1,0 +1,96 @@
+//! What is told of a batch, or of a product's blanks.
+ghost use Rattle.std.specs.Prelude.{◌≡◌, IfOk};
+ghost use Rattle.job_core.specs.Store.{Reads, Stays};
+ghost use Rattle.job_core.specs.declared.refusal.Refusal.TheVariants.{BatchUnknown};
+ghost use Rattle.reports.specs.Report.{report_text};
+ghost use Rattle.reports.specs.Told.{HasFaultCause, Tells};
+ghost use Rattle.reply_store.specs.Told.{told_of};
+ghost use Rattle.job_core.specs.declared.reply.Reply.TheVariants.{Refused};
+ghost use Rattle.server.specs.Replies.{account_kind, account_of, account_text, told_text, unknown_of};
+ghost use Rattle.server.specs.Answers.{answer_text};
+
+use job_core::{JobStore, Refusal, Reply, StoreFault};
+use reply_store::{body_of, status_of};
+use reports::{AccountFault, batch_counts, blank_counts, close_report};
+use std::alloc::{AllocError, Global};
+use store_data::{Bytes, Name};
+use wire::{Kind, Wanted};
+
+/// A reply, but for its bytes before the body.
+#[derive(Drop)]
+pub(crate) struct Answer {
+    pub(crate) status: u16,
+    pub(crate) kind: Kind,
+    pub(crate) body: Bytes,
+}
+
+/// The answer to an account, or to that what it is of is not there. Errors: the store's faults, and refused memory as `Memory`.
+pub(crate) fn account_answer<S: JobStore>(
+    alloc: Global,
+    store: &mut S,
+    wanted: Wanted,
+) -> Result<Answer, StoreFault>
+    ensures stays { Stays (S.state store.old) (S.state store.new) }
+    ensures value { Reads (S.state store.old) (S.state store.new) result (λ c answer. answer_text answer ≡ account_text c.facts wanted) }
+{
+    match account(alloc, store, wanted) {
+        Ok(body) => Ok(Answer {
+            status: 200,
+            kind: kind_of(wanted),
+            body,
+        }),
+        Err(fault) => match fault {
+            AccountFault::Refused(refusal) => Ok(refused(alloc, refusal)?),
+            AccountFault::Store(fault) => Err(fault),
+            AccountFault::Write => Err(StoreFault::Memory),
+        },
+    }
+}
+
+fn kind_of(wanted: Wanted) -> Kind
+    ensures { result ≡ account_kind wanted }
+{
+    match wanted {
+        Wanted::Report(_) => Kind::Report,
+        Wanted::Batch(_) | Wanted::Blanks(_) => Kind::Json,
+    }
+}
+
+fn account<S: JobStore>(alloc: Global, store: &mut S, wanted: Wanted) -> Result<Bytes, AccountFault>
+    ensures stays { Stays (S.state store.old) (S.state store.new) }
+    ensures tells { Tells (S.state store.old) (S.state store.new) (unknown_of wanted) (λ c. account_of c.facts wanted) result }
+{
+    match wanted {
+        Wanted::Batch(batch) => batch_counts(alloc, store, &batch),
+        Wanted::Report(batch) => report(alloc, store, &batch),
+        Wanted::Blanks(product) => blank_counts(alloc, store, &product),
+    }
+}
+
+// A write into memory fails where memory is refused.
+fn report<S: JobStore>(alloc: Global, store: &mut S, batch: &Name) -> Result<Bytes, AccountFault>
+    ensures stays { Stays (S.state store.old) (S.state store.new) }
+    ensures tells { Tells (S.state store.old) (S.state store.new) BatchUnknown (λ c. report_text c.facts batch.now) result }
+{
+    let mut text = Vec::new(alloc);
+    match close_report(alloc, store, batch, &mut text) {
+        Ok(()) => Ok(Bytes::from_vec(text)),
+        Err(fault) => match fault {
+            AccountFault::Write => Err(AccountFault::Store(StoreFault::Memory)),
+            AccountFault::Refused(refusal) => Err(AccountFault::Refused(refusal)),
+            AccountFault::Store(fault) => Err(AccountFault::Store(fault)),
+        },
+    }
+}
+
+fn refused(alloc: Global, refusal: Refusal) -> Result<Answer, AllocError>
+    ensures { IfOk result (λ answer. answer_text answer ≡ told_text (told_of (Refused refusal))) }
+{
+    let reply = Reply::Refused { refusal };
+    let body = body_of(alloc, &reply)?;
+    Ok(Answer {
+        status: status_of(&reply),
+        kind: Kind::Json,
+        body,
+    })
+}

@@ -1,0 +1,30 @@
+//! A list of connections: the headline.
+ghost use Rattle.std.specs.Prelude.{◌≡◌, List, OnOk, OnErr, IfErr, length, ◌<◌};
+ghost use Rattle.server.specs.Exchanges.{Exchange, Moves, ServesAll};
+
+use crate::connections::{Connections, NextFault};
+use crate::one::serve_one;
+use job_core::JobStore;
+use std::alloc::Global;
+
+/// Serves so many connections, one after the other. Errors: the fault that hands out no next one, which ends it; what was served
+/// stands.
+pub fn serve_all<S: JobStore, C: Connections>(
+    alloc: Global,
+    store: &mut S,
+    connections: &mut C,
+    turns: u64,
+) -> Result<(), NextFault>
+    ensures served { (es : List Exchange) × Moves (C.queue connections.old) (C.queue connections.new) es
+        × ServesAll (S.state store.old) (S.state store.new) es × OnOk result (length es ≡ turns) × OnErr result (length es < turns) }
+    ensures cause { IfErr result (λ fault. C.refuses connections.new fault) }
+{
+    let mut turn = 0;
+    while turn < turns {
+        let (mut incoming, mut writer) = connections.next()?;
+        let served = serve_one(alloc, store, &mut incoming, &mut writer);
+        connections.back(incoming, writer, served);
+        turn += 1;
+    }
+    Ok(())
+}

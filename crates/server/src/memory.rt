@@ -1,0 +1,114 @@
+//! Connections over memory, which keep what each brought and got.
+ghost use Rattle.std.specs.Prelude.{◌≡◌, ◌≤◌, []};
+ghost use Rattle.server.specs.Memory.{bytes_left, queue, replies_of, texts};
+
+use crate::connections::{Connections, NextFault};
+use crate::served::Served;
+use std::alloc::Global;
+use wire::Incoming;
+
+/// Bytes that come in pieces.
+#[derive(Drop)]
+pub struct MemoryReader {
+    bytes: Vec<u8>,
+    at: usize,
+    most: usize,
+}
+
+impl MemoryReader {
+    /// These bytes, in pieces of at most so many, and of one at least.
+    pub fn new(bytes: Vec<u8>, most: usize) -> MemoryReader
+        ensures { bytes_left result ≡ bytes.items }
+    {
+        MemoryReader { bytes, at: 0, most }
+    }
+}
+
+impl Incoming for MemoryReader {
+    ghost use Rattle.std.specs.Prelude.{Some};
+    ghost use Rattle.server.specs.Memory.{bytes_left};
+
+    ghost brings = { λ r. Some (bytes_left r) };
+
+    fn bring(&mut self, buf: &mut [u8]) -> usize {
+        let mut count = 0;
+        while count < buf.len() && self.at < self.bytes.len() && (count == 0 || count < self.most) {
+            buf[count] = self.bytes[self.at];
+            self.at += 1;
+            count += 1;
+        }
+        count
+    }
+}
+
+/// What a connection got, and what became of it.
+#[derive(Drop)]
+pub struct Replied {
+    pub written: Vec<u8>,
+    pub served: Served,
+}
+
+/// Connections that bring these bytes, one after the other.
+#[derive(Drop)]
+pub struct MemoryConnections {
+    alloc: Global,
+    most: usize,
+    inputs: Vec<Vec<u8>>,
+    replies: Vec<Replied>,
+}
+
+impl MemoryConnections {
+    /// One connection for each of these, whose bytes come in pieces of at most so many, and of one at least.
+    pub fn new(alloc: Global, inputs: Vec<Vec<u8>>, most: usize) -> MemoryConnections
+        ensures done { (queue result).done ≡ [] }
+        ensures coming { (queue result).coming ≡ texts inputs.items }
+    {
+        MemoryConnections {
+            alloc,
+            most,
+            inputs,
+            replies: Vec::new(alloc),
+        }
+    }
+
+    /// What those that were taken back got, in order.
+    pub fn replies(&self) -> &[Replied]
+        ensures { result.now ≡ replies_of self.now }
+    {
+        &self.replies
+    }
+}
+
+impl Connections for MemoryConnections {
+    ghost use Rattle.std.specs.Prelude.{Some};
+    ghost use Rattle.server.specs.Memory.{queue, IsOut, Refuses};
+
+    type In = MemoryReader;
+
+    type Out = Vec<u8>;
+
+    ghost queue = { λ c. Some (queue c) };
+
+    ghost awaits = { IsOut };
+
+    ghost refuses = { Refuses };
+
+    fn next(&mut self) -> Result<(MemoryReader, Vec<u8>), NextFault> {
+        let place = self.replies.len();
+        if place >= self.inputs.len() {
+            return Err(NextFault::Device);
+        }
+        self.replies.reserve(1)?;
+        let bytes = self.inputs[place].to_vec(self.alloc)?;
+        let reader = MemoryReader::new(bytes, self.most);
+        Ok((reader, Vec::new(self.alloc)))
+    }
+
+    fn back(&mut self, _incoming: MemoryReader, writer: Vec<u8>, served: Served) {
+        let reply = Replied {
+            written: writer,
+            served,
+        };
+        self.replies.push(reply).unwrap();
+    }
+}

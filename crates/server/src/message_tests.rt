@@ -1,0 +1,205 @@
+//! Worked messages as bytes, on connections in memory.
+use super::{End, MemoryConnections, NextFault, Served, serve_all, serve_one};
+use list_store::ListStore;
+use std::alloc::Global;
+use std::io::{self, ErrorKind, Write};
+use std::process::Abort;
+use std::test::Fail;
+use wire::Pieces;
+
+const PRODUCT: &str =
+    "POST /c/office/1 HTTP/1.1\r\nHost: localhost\r\nContent-Length: 63\r\n\r\n{\"do\":\"product\",\"product\":\"P1\",\"max\":255,\"low\":0,\"check\":false}";
+
+const CREATED: &str =
+    "HTTP/1.1 200 OK\r\nContent-Type: application/json\r\nContent-Length: 35\r\nConnection: close\r\n\r\n{\"product\":\"P1\",\"result\":\"created\"}";
+
+const UNKNOWN: &str = "GET /batch/B9 HTTP/1.1\r\nHost: localhost\r\n\r\n";
+
+const BATCH_UNKNOWN: &str =
+    "HTTP/1.1 409 Conflict\r\nContent-Type: application/json\r\nContent-Length: 37\r\nConnection: close\r\n\r\n{\"code\":56,\"refused\":\"batch-unknown\"}";
+
+const MALFORMED: &str =
+    "HTTP/1.1 400 Bad Request\r\nContent-Type: application/json\r\nContent-Length: 34\r\nConnection: close\r\n\r\n{\"code\":400,\"refused\":\"malformed\"}";
+
+const OPEN: &str =
+    "POST /c/m1/1 HTTP/1.1\r\nContent-Length: 40\r\n\r\n{\"do\":\"open\",\"batch\":\"B1\",\"blank\":1000}\n";
+
+// Messages in turn, and what each is answered.
+const MESSAGES: [(&str, &str); 12] = [
+    (UNKNOWN, BATCH_UNKNOWN),
+    (
+        "GET /blanks/P1 HTTP/1.1\r\n\r\n",
+        "HTTP/1.1 409 Conflict\r\nContent-Type: application/json\r\nContent-Length: 39\r\nConnection: close\r\n\r\n{\"code\":52,\"refused\":\"product-unknown\"}",
+    ),
+    (PRODUCT, CREATED),
+    (PRODUCT, CREATED),
+    (
+        "DELETE /batch/B9 HTTP/1.1\r\n\r\n",
+        "HTTP/1.1 405 Method Not Allowed\r\nContent-Type: application/json\r\nContent-Length: 31\r\nConnection: close\r\nAllow: GET\r\n\r\n{\"code\":405,\"refused\":\"method\"}",
+    ),
+    (
+        "GET /c/office/1 HTTP/1.1\r\n\r\n",
+        "HTTP/1.1 405 Method Not Allowed\r\nContent-Type: application/json\r\nContent-Length: 31\r\nConnection: close\r\nAllow: POST\r\n\r\n{\"code\":405,\"refused\":\"method\"}",
+    ),
+    (
+        "GET /batch/ HTTP/1.1\r\n\r\n",
+        "HTTP/1.1 404 Not Found\r\nContent-Type: application/json\r\nContent-Length: 33\r\nConnection: close\r\n\r\n{\"code\":404,\"refused\":\"no-route\"}",
+    ),
+    (
+        "GET /batch/B9 HTTP/1.1\r\nContent-Length: 1048577\r\n\r\n",
+        "HTTP/1.1 413 Payload Too Large\r\nContent-Type: application/json\r\nContent-Length: 34\r\nConnection: close\r\n\r\n{\"code\":413,\"refused\":\"too-large\"}",
+    ),
+    (
+        "POST /c/m1/1 HTTP/1.1\r\nContent-Length: 26\r\n\r\n{\"do\":\"open\",\"batch\":\"B1\"}",
+        MALFORMED,
+    ),
+    ("POST /c/office/01 HTTP/1.1\r\n\r\n", MALFORMED),
+    (OPEN, BATCH_UNKNOWN),
+    (
+        "POST /c/m1/1 HTTP/1.1\r\nContent-Length: 14\r\n\r\n{\"do\":\"reset\"}",
+        "HTTP/1.1 409 Conflict\r\nContent-Type: application/json\r\nContent-Length: 37\r\nConnection: close\r\n\r\n{\"code\":72,\"refused\":\"number-reused\"}",
+    ),
+];
+
+// The messages in turn, in pieces of at most so many bytes.
+fn check_messages<R: Abort + AllocGlobal>(rt: &R, most: usize) -> Result<(), Fail> {
+    let alloc = rt.alloc();
+    let mut inputs = Vec::new(alloc);
+    for (message, _) in MESSAGES {
+        inputs.push(message.as_bytes().to_vec(alloc)?)?;
+    }
+    let mut store = ListStore::new(alloc);
+    let mut connections = MemoryConnections::new(alloc, inputs, most);
+    let ended = serve_all(alloc, &mut store, &mut connections, 100);
+    assert_eq!(rt; ended, Err(NextFault::Device));
+    assert_eq!(rt; connections.replies().len(), MESSAGES.len());
+    for ((_, reply), replied) in MESSAGES.iter().zip(connections.replies()) {
+        let written = std::str::from_utf8(replied.written.as_slice()).unwrap_or("no text");
+        assert_eq!(rt; written, *reply);
+        assert_eq!(rt; replied.served.end, End::Answered);
+    }
+    Ok(())
+}
+
+#[test]
+fn messages_are_answered_in_turn(rt: HostRuntime) -> Result<(), Fail> {
+    check_messages(&rt, 8192)
+}
+
+#[test]
+fn messages_come_one_byte_at_a_time(rt: HostRuntime) -> Result<(), Fail> {
+    check_messages(&rt, 1)
+}
+
+// What a connection that brings these bytes is answered.
+fn served(alloc: Global, store: &mut ListStore, bytes: &[u8], writer: &mut impl Write) -> Served {
+    serve_one(alloc, store, &mut Pieces::new(bytes, bytes.len()), writer)
+}
+
+const BROKEN: Served = Served {
+    end: End::Broken,
+    decided: false,
+};
+
+#[test]
+fn a_cut_message_changes_nothing(rt: HostRuntime) -> Result<(), Fail> {
+    let alloc = rt.alloc();
+    for message in [PRODUCT, UNKNOWN] {
+        let bytes = message.as_bytes();
+        let mut store = ListStore::new(alloc);
+        for cut in 0..bytes.len() {
+            let front = bytes.get(..cut).ok_or("no front")?;
+            let mut writer = Vec::new(alloc);
+            assert_eq!(rt; served(alloc, &mut store, front, &mut writer), BROKEN);
+            assert_eq!(rt; writer.len(), 0);
+        }
+        let mut writer = Vec::new(alloc);
+        let _ = served(alloc, &mut store, bytes, &mut writer);
+        let reply = if message == PRODUCT {
+            CREATED
+        } else {
+            BATCH_UNKNOWN
+        };
+        assert_eq!(rt; writer.as_slice(), reply.as_bytes());
+    }
+    Ok(())
+}
+
+// Takes so many bytes in all, and at most so many at a call; then a write fails.
+#[derive(Drop)]
+struct Limited {
+    taken: Vec<u8>,
+    most: usize,
+    at_a_call: usize,
+}
+
+impl Write for Limited {
+    fn write(&mut self, buf: &[u8]) -> io::Result<usize> {
+        let room = self.most.saturating_sub(self.taken.len());
+        if room == 0 {
+            return Err(io::Error::from(ErrorKind::BrokenPipe));
+        }
+        let count = buf.len().min(self.at_a_call).min(room);
+        self.taken.extend_from_slice(&buf[..count])?;
+        Ok(count)
+    }
+
+    fn flush(&mut self) -> io::Result<()> {
+        Ok(())
+    }
+}
+
+// How a connection ends whose writer has room for so many bytes of the reply.
+fn end_of(room: usize) -> End {
+    if room < CREATED.len() {
+        End::WriteFailed
+    } else {
+        End::Answered
+    }
+}
+
+#[test]
+fn a_failed_reply_is_told_again(rt: HostRuntime) -> Result<(), Fail> {
+    let alloc = rt.alloc();
+    for most in 0..=CREATED.len() {
+        for at_a_call in [1, 1000] {
+            let mut store = ListStore::new(alloc);
+            let mut writer = Limited {
+                taken: Vec::new(alloc),
+                most,
+                at_a_call,
+            };
+            let first = served(alloc, &mut store, PRODUCT.as_bytes(), &mut writer);
+            assert_eq!(rt; first.end, end_of(most));
+            assert_eq!(rt; first.decided, true);
+            assert_eq!(rt;
+                Some(writer.taken.as_slice()),
+                CREATED.as_bytes().get(..most)
+            );
+            let mut again = Vec::new(alloc);
+            let _ = served(alloc, &mut store, PRODUCT.as_bytes(), &mut again);
+            assert_eq!(rt; again.as_slice(), CREATED.as_bytes());
+        }
+    }
+    Ok(())
+}
+
+const UNAVAILABLE: &str =
+    "HTTP/1.1 503 Service Unavailable\r\nContent-Type: application/json\r\nContent-Length: 32\r\nConnection: close\r\n\r\n{\"code\":503,\"refused\":\"storage\"}";
+
+// What is refused by `rt try --test --fail-alloc N` is told as 503, and then the message gets its reply.
+#[test]
+fn refused_memory_is_told_as_unavailable(rt: HostRuntime) -> Result<(), Fail> {
+    let mut store = ListStore::new(rt.alloc());
+    let mut first = [0; 256];
+    let mut writer = first.as_mut_slice();
+    let answer = served(rt.alloc(), &mut store, PRODUCT.as_bytes(), &mut writer);
+    let told = if answer.decided { CREATED } else { UNAVAILABLE };
+    assert_eq!(rt; first.starts_with(told.as_bytes()), true);
+    let mut second = [0; 256];
+    let mut writer = second.as_mut_slice();
+    let answer = served(rt.alloc(), &mut store, PRODUCT.as_bytes(), &mut writer);
+    assert_eq!(rt; answer.decided, true);
+    assert_eq!(rt; second.starts_with(CREATED.as_bytes()), true);
+    Ok(())
+}

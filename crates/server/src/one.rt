@@ -1,0 +1,146 @@
+//! One connection.
+ghost use Rattle.std.specs.Prelude.{◌≡◌, ℕ, List};
+ghost use Rattle.std.specs.Io.KnownBytes.{Appends};
+ghost use Rattle.reply_store.specs.Handled.{Handles};
+ghost use Rattle.reply_store.specs.Runs.{IsArrival, arrived};
+ghost use Rattle.reply_store.specs.Told.{told};
+ghost use Rattle.wire.specs.Asks.{IsInRange, asked_of};
+ghost use Rattle.wire.specs.Messages.{Tells, came};
+ghost use Rattle.wire.specs.declared.ask.Asked.TheVariants as asked;
+ghost use Rattle.server.specs.Exchanges.{Exchange, Serves};
+ghost use Rattle.server.specs.Meant.{Asks, meant_by};
+ghost use Rattle.server.specs.Replies.{IsWritten, told_text};
+ghost use Rattle.server.specs.Serving.{MayServe};
+
+use crate::account::account_answer;
+use crate::reply::{refuse, tell};
+use crate::served::{End, Served};
+use job_core::{JobStore, StoreFault};
+use reply_store::{Arrival, Kept, handle};
+use std::alloc::Global;
+use std::io::Write;
+use wire::{
+    AskFault, Asked, Incoming, Kind, Message, Reading, Refusal, Wanted, read_message, to_ask,
+};
+
+/// Serves one connection: reads a message, does what it asks, and writes the reply. Once an arrival is handled it takes no
+/// memory. Where the writer fails a beginning of the reply was written, and what was decided stays.
+pub fn serve_one<S: JobStore, I: Incoming, W: Write>(
+    alloc: Global,
+    store: &mut S,
+    incoming: &mut I,
+    writer: &mut W,
+) -> Served
+    ensures { (e : Exchange) × Tells (I.brings incoming.old) e.input × Appends (W.contents writer.old) (W.contents writer.new) e.written
+        × (e.served ≡ result) × Serves (S.state store.old) (S.state store.new) e }
+{
+    match read_message(alloc, incoming) {
+        Reading::Message(message) => serve_message(alloc, store, message, writer),
+        Reading::Broken => Served {
+            end: End::Broken,
+            decided: false,
+        },
+        Reading::Refused(why) => refuse(writer, why),
+        Reading::Memory => refuse(writer, Refusal::Storage),
+    }
+}
+
+// Serves a message.
+fn serve_message<S: JobStore, W: Write>(
+    alloc: Global,
+    store: &mut S,
+    message: Message,
+    writer: &mut W,
+) -> Served
+    ensures { (written : List ℕ) × Appends (W.contents writer.old) (W.contents writer.new) written
+        × MayServe (meant_by (asked_of (came message))) (S.state store.old) (S.state store.new) result written }
+{
+    match to_ask(alloc, message) {
+        Ok(asked) => serve_asked(alloc, store, asked, writer),
+        Err(fault) => match fault {
+            AskFault::Refused(why) => refuse(writer, why),
+            AskFault::Memory => refuse(writer, Refusal::Storage),
+        },
+    }
+}
+
+fn serve_asked<S: JobStore, W: Write>(
+    alloc: Global,
+    store: &mut S,
+    asked: Asked,
+    writer: &mut W,
+) -> Served
+    requires { IsInRange asked }
+    ensures { (written : List ℕ) × Appends (W.contents writer.old) (W.contents writer.new) written
+        × MayServe (Asks asked) (S.state store.old) (S.state store.new) result written }
+{
+    match asked {
+        Asked::Arrival(arrival) => serve_arrival(alloc, store, &arrival, writer),
+        Asked::Account(wanted) => serve_account(alloc, store, wanted, writer),
+    }
+}
+
+// Handles an arrival, and tells its reply.
+fn serve_arrival<S: JobStore, W: Write>(
+    alloc: Global,
+    store: &mut S,
+    arrival: &Arrival,
+    writer: &mut W,
+) -> Served
+    requires { IsArrival arrival.now }
+    ensures { (written : List ℕ) × Appends (W.contents writer.old) (W.contents writer.new) written
+        × MayServe (Asks (asked.Arrival arrival.now)) (S.state store.old) (S.state store.new) result written }
+{
+    match handle_arrival(alloc, store, arrival) {
+        Ok(kept) => Served {
+            end: tell_kept(writer, &kept),
+            decided: true,
+        },
+        Err(_) => refuse(writer, Refusal::Storage),
+    }
+}
+
+fn handle_arrival<S: JobStore>(
+    alloc: Global,
+    store: &mut S,
+    arrival: &Arrival,
+) -> Result<Kept, StoreFault>
+    requires { IsArrival arrival.now }
+    ensures { Handles (S.state store.old) (S.state store.new) (arrived arrival.now) result }
+{
+    let ask = arrival.ask.as_slice();
+    handle(
+        alloc,
+        store,
+        &arrival.client,
+        arrival.number,
+        ask,
+        &arrival.request,
+    )
+}
+
+fn tell_kept<W: Write>(writer: &mut W, kept: &Kept) -> End
+    ensures { (written : List ℕ) × Appends (W.contents writer.old) (W.contents writer.new) written
+        × IsWritten result (told_text (told kept.now)) written }
+{
+    tell(writer, kept.status, Kind::Json, kept.body.as_slice())
+}
+
+// Tells an account.
+fn serve_account<S: JobStore, W: Write>(
+    alloc: Global,
+    store: &mut S,
+    wanted: Wanted,
+    writer: &mut W,
+) -> Served
+    ensures { (written : List ℕ) × Appends (W.contents writer.old) (W.contents writer.new) written
+        × MayServe (Asks (asked.Account wanted)) (S.state store.old) (S.state store.new) result written }
+{
+    match account_answer(alloc, store, wanted) {
+        Ok(answer) => Served {
+            end: tell(writer, answer.status, answer.kind, answer.body.as_slice()),
+            decided: false,
+        },
+        Err(_) => refuse(writer, Refusal::Storage),
+    }
+}

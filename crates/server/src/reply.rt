@@ -1,0 +1,50 @@
+//! Replies, written from a fixed array and from a body. That takes no memory.
+ghost use Rattle.std.specs.Prelude.{◌≡◌, ℕ, List, false};
+ghost use Rattle.std.specs.Io.KnownBytes.{Appends};
+ghost use Rattle.wire.specs.Refusals.{refusal_text};
+ghost use Rattle.wire.specs.Texts.{reply_text};
+ghost use Rattle.text_writer.specs.Written.{Writes};
+ghost use Rattle.server.specs.Replies.{IsWritten};
+
+use crate::served::{End, Served};
+use std::io::Write;
+use text_writer::{WriteFailed, write_text};
+use wire::{Kind, Refusal, reply_head};
+
+/// Writes a reply, or a beginning of it where the writer fails.
+pub(crate) fn tell<W: Write>(writer: &mut W, status: u16, kind: Kind, body: &[u8]) -> End
+    ensures { (written : List ℕ) × Appends (W.contents writer.old) (W.contents writer.new) written
+        × IsWritten result (reply_text status kind body.now) written }
+{
+    match write_reply(writer, status, kind, body) {
+        Ok(()) => End::Answered,
+        Err(_) => End::WriteFailed,
+    }
+}
+
+// Writes the head, and then the body.
+fn write_reply<W: Write>(
+    writer: &mut W,
+    status: u16,
+    kind: Kind,
+    body: &[u8],
+) -> Result<(), WriteFailed>
+    ensures { Writes (W.contents writer.old) (W.contents writer.new) (reply_text status kind body.now) result }
+{
+    let mut head = [0; 256];
+    let size = reply_head(status, kind, body.len(), &mut head);
+    write_text(writer, &head[..size])?;
+    write_text(writer, body)
+}
+
+/// Writes a fixed reply.
+pub(crate) fn refuse<W: Write>(writer: &mut W, why: Refusal) -> Served
+    ensures written { (written : List ℕ) × Appends (W.contents writer.old) (W.contents writer.new) written
+        × IsWritten result.end (refusal_text why) written }
+    ensures decided { result.decided ≡ false }
+{
+    Served {
+        end: tell(writer, why.status(), why.kind(), why.body()),
+        decided: false,
+    }
+}
