@@ -1,6 +1,6 @@
 -- Where `clap` takes the program's words, they name `plan`, each of its options has a number, and its
--- flag is on or off.
-use Rattle.std.proofs.Common.{◌≡◌, ◌∙◌, ◌&&◌, ◌||◌, Bool, true, false, true≢false, cond, codes, inl, inr, refl, sym, ap, subst, List, [], ◌∷◌, Option, Some, None, is_some}
+-- flag is on or off; or they name `drill`.
+use Rattle.std.proofs.Common.{◌≡◌, ◌∙◌, ◌&&◌, ◌||◌, ◌⊎◌, Bool, true, false, true≢false, cond, codes, inl, inr, refl, sym, ap, subst, List, [], ◌∷◌, Option, Some, None, is_some}
 use Rattle.std.specs.Prelude.{option_map}
 use Rattle.std.specs.Option.{option_map_or}
 use Rattle.std.specs.Str.{bytes_eq}
@@ -11,15 +11,23 @@ use Rattle.clap.specs.Simple.{Shape, argument_words, built, entered, names_of, n
 use Rattle.clap.specs.Faults.{entered_fault, fault_of, level_fault}
 use Rattle.clap.specs.declared.builder.value_parser.ValueParser.TheVariants as vp
 use Rattle.clap.proofs.ValueTestLemmas.{accepts-Accepts}
-use Rattle.persod.specs.Words.{HasNumber, IsFlag, IsPlan, numbers, program}
+use Rattle.persod.specs.Words.{HasNumber, IsDrill, IsFlag, IsSubcommand, numbers, program}
 use Rattle.persod.proofs.TakenLemmas.{Each, OptionOf, SomeDefault, StopFits, level_below, level_stop, level_subcommand, level_value}
 
+-- the first shape of a list, and those after it
 abbrev shape_at : List Shape → Shape
 shape_at [] = new_shape []
 shape_at (s ∷ shapes) = s
 
+abbrev shapes_after : List Shape → List Shape
+shapes_after [] = []
+shapes_after (s ∷ shapes) = shapes
+
 abbrev plan_built : Shape
 plan_built = shape_at (built program).subs
+
+abbrev drill_built : Shape
+drill_built = shape_at (shapes_after (built program).subs)
 
 max_option : Each (OptionOf (codes "max") (numbers 16 255)) plan_built.rules
 max_option = (
@@ -88,17 +96,23 @@ no_option = ((λ bad. absurd (true≢false (sym bad))), tt)
 abbrev Stop : Type 0
 Stop = Option (Text × List Text)
 
+-- the subcommand is `plan`, which takes the words after it, or `drill`
 abbrev Entered : Option (Text × List Row) → Type 0
-Entered sub = (words : List Text) × (sub ≡ Some (codes "plan", rows_after plan_built.rules [] words))
-    × (level_fault plan_built [] nothing_held words false [] ≡ [])
+Entered sub = ((words : List Text) × (sub ≡ Some (codes "plan", rows_after plan_built.rules [] words))
+    × (level_fault plan_built [] nothing_held words false [] ≡ [])) ⊎ IsDrill sub
 
-entered_at : (is_plan is_help : Bool) (s : Shape) (words : List Text) → (is_help ≡ true → ⊥)
-    → is_some (option_map (λ s. rows_at s words) (cond is_plan (Some plan_built) (cond is_help (Some s) None))) ≡ true
-    → option_map_or (λ s. level_fault s [] nothing_held words false []) (cond is_plan (Some plan_built) (cond is_help (Some s) None)) [] ≡ []
-    → Entered (option_map (λ s. rows_at s words) (cond is_plan (Some plan_built) (cond is_help (Some s) None)))
-entered_at true is_help s words other some none = (words, refl, none)
-entered_at false true s words other some none = absurd (other refl)
-entered_at false false s words other some none = absurd (true≢false (sym some))
+abbrev chosen : Bool → Bool → Bool → Shape → Option Shape
+chosen is_plan is_drill is_help s =
+    cond is_plan (Some plan_built) (cond is_drill (Some drill_built) (cond is_help (Some s) None))
+
+entered_at : (is_plan is_drill is_help : Bool) (s : Shape) (words : List Text) → (is_help ≡ true → ⊥)
+    → is_some (option_map (λ s. rows_at s words) (chosen is_plan is_drill is_help s)) ≡ true
+    → option_map_or (λ s. level_fault s [] nothing_held words false []) (chosen is_plan is_drill is_help s) [] ≡ []
+    → Entered (option_map (λ s. rows_at s words) (chosen is_plan is_drill is_help s))
+entered_at true is_drill is_help s words other some none = inl (words, refl, none)
+entered_at false true is_help s words other some none = inr (rows_after drill_built.rules [] words, refl)
+entered_at false false true s words other some none = absurd (other refl)
+entered_at false false false s words other some none = absurd (true≢false (sym some))
 
 or_false : (b : Bool) → (b || false) ≡ true → b ≡ true
 or_false true e = refl
@@ -110,14 +124,15 @@ no_help name stop is =
     let both : (true && true) ≡ false = subst (λ b. (b && true) ≡ false) ((bytes_eq-Decides name (codes "help")).1 same) stop in
     true≢false both
 
-entered_plan : (stop : Stop) → StopFits (codes "max") (numbers 16 255) top (names_of (built program)) no_option stop
+entered_stop : (stop : Stop) → StopFits (codes "max") (numbers 16 255) top (names_of (built program)) no_option stop
     → is_some (entered (built program) stop) ≡ true → entered_fault (built program) stop ≡ [] → Entered (entered (built program) stop)
-entered_plan None fits some none = absurd (true≢false (sym some))
-entered_plan (Some p) fits some none =
-    entered_at (bytes_eq (codes "plan") p.0 || false) (bytes_eq (codes "help") p.0 || false) _ p.1 (no_help p.0 fits) some none
+entered_stop None fits some none = absurd (true≢false (sym some))
+entered_stop (Some p) fits some none =
+    entered_at (bytes_eq (codes "plan") p.0 || false) (bytes_eq (codes "drill") p.0 || false) (bytes_eq (codes "help") p.0 || false) _ p.1
+    (no_help p.0 fits) some none
 
-pub plan_taken : (words : List Text) → fault_of program words ≡ [] → IsPlan (subcommand_of program words)
-plan_taken words none =
+pub subcommand_taken : (words : List Text) → fault_of program words ≡ [] → IsSubcommand (subcommand_of program words)
+subcommand_taken words none =
     let given = argument_words program words in
     let names = names_of (built program) in
     let stop : Stop = (walk top.rules names nothing_held given).stopped in
@@ -125,6 +140,9 @@ plan_taken words none =
     let fits = level_stop (codes "max") (numbers 16 255) top names given (is_some sub) (entered_fault (built program) stop) no_option none in
     let below = level_below top names given (is_some sub) (entered_fault (built program) stop) none in
     let some = level_subcommand top names given (is_some sub) (entered_fault (built program) stop) refl none in
-    let plan = entered_plan stop fits some below in
-    let values = plan_values plan.0 plan.2 in
-    (rows_after plan_built.rules [] plan.0, plan.1, values.0, values.1, values.2)
+    elim (entered_stop stop fits some below) [
+      | inl plan ↦
+          let values = plan_values plan.0 plan.2 in
+          inl (rows_after plan_built.rules [] plan.0, plan.1, values.0, values.1, values.2)
+      | inr drill ↦ inr drill
+    ]

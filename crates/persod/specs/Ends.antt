@@ -1,18 +1,21 @@
 -- How the program ends: its exit status, and its words on standard error.
 use Rattle.std.specs.Prelude.{ℕ, None, Some}
 use Rattle.batch_import.specs.Kinds.{code_of}
+use Rattle.persod.specs.declared.drill.DrillStop.{DrillStop}
+use Rattle.persod.specs.declared.drill.DrillStop.TheVariants as drill
 use Rattle.persod.specs.declared.end.End.{End}
 use Rattle.persod.specs.declared.end.End.TheVariants.{Done, Usage, Stopped}
 use Rattle.persod.specs.declared.end.Exit.{Exit}
 use Rattle.persod.specs.declared.end.Told.{Told}
-use Rattle.persod.specs.declared.end.Told.TheVariants.{Refused, RefusedRow, Device, Memory}
+use Rattle.persod.specs.declared.end.Told.TheVariants.{Refused, RefusedRow, BadLine, Device, Memory}
 use Rattle.persod.specs.declared.plan.PlanStop.{PlanStop}
 use Rattle.persod.specs.declared.plan.PlanStop.TheVariants as stop
 
--- a refusal ends with 1, a fault of a device or of memory with 3
+-- a refusal or a bad line ends with 1, a fault of a device or of memory with 3
 abbrev pub status_of : Told → ℕ
 status_of (Refused number) = 1
 status_of (RefusedRow number row) = 1
+status_of (BadLine line) = 1
 status_of Device = 3
 status_of Memory = 3
 
@@ -29,3 +32,9 @@ told_of stop.TooLarge = Refused 413
 told_of stop.ReadFailed = Device
 told_of stop.WriteFailed = Device
 told_of stop.Memory = Memory
+
+abbrev pub drill_told : DrillStop → Told
+drill_told (drill.BadLine line) = BadLine line
+drill_told drill.ReadFailed = Device
+drill_told drill.WriteFailed = Device
+drill_told drill.Memory = Memory

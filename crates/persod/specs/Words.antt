@@ -1,5 +1,5 @@
 -- What the words of the program mean: this project's profile, as a command of `clap`.
-use Rattle.std.specs.Prelude.{◌≡◌, ◌≢◌, ◌≤◌, ⊤, ℕ, Bool, List, [], ◌∷◌, Option, Some, true, codes}
+use Rattle.std.specs.Prelude.{◌≡◌, ◌≢◌, ◌≤◌, ◌⊎◌, ⊤, ℕ, Bool, List, [], ◌∷◌, Option, Some, true, codes}
 use Rattle.std.specs.Prelude.{option_map, pos}
 use Rattle.std.specs.Str.Parse.{digits_value, without_leading_plus}
 use Rattle.clap.specs.Words.{App, IsAmong, IsSignedIn, Kinds, Row, Rule, Text, new_app, new_rule}
@@ -11,7 +11,7 @@ use Rattle.clap.specs.declared.builder.value_parser.ValueParser.TheVariants.{Sig
 use Rattle.clap.specs.declared.error.kind.ErrorKind.{ErrorKind}
 use Rattle.clap.specs.declared.error.kind.ErrorKind.TheVariants.{DisplayHelp}
 use Rattle.persod.specs.declared.words.Words.{Words}
-use Rattle.persod.specs.declared.words.Words.TheVariants.{Plan}
+use Rattle.persod.specs.declared.words.Words.TheVariants.{Plan, Drill}
 use Rattle.persod.specs.declared.words.WordsFault.{WordsFault}
 use Rattle.persod.specs.declared.words.WordsFault.TheVariants.{Help, Usage, Memory}
 
@@ -42,19 +42,26 @@ plan_command =
     (number_option (codes "low") (numbers 0 31) (codes "0")))
     (flag (codes "check"))
 
+-- `drill`, which has no options
+abbrev pub drill_command : App
+drill_command = new_app (codes "drill")
+
 -- the command of these subcommands, one of which has to be named
 abbrev pub needs_subcommand : App → App
 needs_subcommand a = record a { top = record a.top { subcommand_required = true } }
 
 -- the program's command: its words are refused by `fault_of`, and else have `subcommand_of`
 abbrev pub program : App
-program = with_subcommand (needs_subcommand (new_app (codes "persod"))) plan_command.top
+program =
+    with_subcommand (with_subcommand (needs_subcommand (new_app (codes "persod")))
+    plan_command.top) drill_command.top
 
 -- ---- the answers
 
 -- each value is in its range
 abbrev pub InRange : Words → Type 0
 InRange (Plan max low check) = (16 ≤ max) × (max ≤ 255) × (low ≤ 31)
+InRange Drill = ⊤
 
 -- the number that an option has, by the words or by default: what its text says in decimal digits
 abbrev pub number_of : Text → List Row → Option ℕ
@@ -65,11 +72,16 @@ number_of name rows =
 abbrev pub IsFlag : Text → List Row → Bool → Type 0
 IsFlag name rows on = one_of name rows ≡ Some (bool_text on)
 
+-- the subcommand is `drill`
+abbrev pub IsDrill : Option (Text × List Row) → Type 0
+IsDrill sub = (rows : List Row) × (sub ≡ Some (codes "drill", rows))
+
 -- a subcommand with its options is read as this answer
 abbrev pub ReadsAs : Option (Text × List Row) → Words → Type 0
 ReadsAs sub (Plan max low check) = (rows : List Row) × (sub ≡ Some (codes "plan", rows))
     × (number_of (codes "max") rows ≡ Some max) × (number_of (codes "low") rows ≡ Some low)
     × IsFlag (codes "check") rows check
+ReadsAs sub Drill = IsDrill sub
 
 -- the words ask for this: it is how clap's subcommand of the words reads
 abbrev pub Means : List Text → Words → Type 0
@@ -94,3 +106,7 @@ abbrev pub IsPlan : Option (Text × List Row) → Type 0
 IsPlan sub = (rows : List Row) × (sub ≡ Some (codes "plan", rows))
     × HasNumber (codes "max") 16 255 rows × HasNumber (codes "low") 0 31 rows
     × ((on : Bool) × IsFlag (codes "check") rows on)
+
+-- the subcommand is `plan` as above, or `drill`
+abbrev pub IsSubcommand : Option (Text × List Row) → Type 0
+IsSubcommand sub = IsPlan sub ⊎ IsDrill sub

@@ -1,7 +1,8 @@
 //! How the program ends: its exit status, and its words on standard error.
 ghost use Rattle.std.specs.Prelude.{◌≡◌};
-ghost use Rattle.persod.specs.Ends.{exit_of, status_of, told_of};
+ghost use Rattle.persod.specs.Ends.{drill_told, exit_of, status_of, told_of};
 
+use crate::drill::DrillStop;
 use crate::plan::PlanStop;
 use thiserror::Error;
 
@@ -25,6 +26,9 @@ pub enum Told {
     /// A refusal by its number, and the row that it is told with.
     #[error("refused {number} row {row}")]
     RefusedRow { number: u16, row: u32 },
+    /// The first line of a script that has none of its forms.
+    #[error("bad line {line}")]
+    BadLine { line: u32 },
     /// A read or a write failed.
     #[error("device")]
     Device,
@@ -45,6 +49,18 @@ impl From<PlanStop> for Told {
             PlanStop::TooLarge => Told::Refused { number: 413 },
             PlanStop::ReadFailed | PlanStop::WriteFailed => Told::Device,
             PlanStop::Memory => Told::Memory,
+        }
+    }
+}
+
+impl From<DrillStop> for Told {
+    ghost from_gives = { λ stop told. told ≡ drill_told stop };
+
+    fn from(stop: DrillStop) -> Told {
+        match stop {
+            DrillStop::BadLine(line) => Told::BadLine { line },
+            DrillStop::ReadFailed | DrillStop::WriteFailed => Told::Device,
+            DrillStop::Memory => Told::Memory,
         }
     }
 }
@@ -82,7 +98,7 @@ fn status_of(told: Told) -> u8
     ensures { result ≡ status_of told }
 {
     match told {
-        Told::Refused { .. } | Told::RefusedRow { .. } => 1,
+        Told::Refused { .. } | Told::RefusedRow { .. } | Told::BadLine { .. } => 1,
         Told::Device | Told::Memory => 3,
     }
 }

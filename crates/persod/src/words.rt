@@ -3,8 +3,8 @@ ghost use Rattle.std.specs.Prelude.{◌≡◌, [], IfOk, IfErr, false, map};
 ghost use Rattle.clap.specs.Words.{HasKind, Kinds, app_of, fault_of, rule_of};
 ghost use Rattle.clap.specs.declared.builder.command.Command.TheViews.{out-Command as fields_of};
 ghost use Rattle.clap.specs.Words.{subcommand_rows_of};
-ghost use Rattle.persod.specs.Words.{InRange, IsPlan, IsRefusal, Means, ReadsAs, flag};
-ghost use Rattle.persod.specs.Words.{number_option, plan_command, program};
+ghost use Rattle.persod.specs.Words.{InRange, IsRefusal, IsSubcommand, Means, ReadsAs};
+ghost use Rattle.persod.specs.Words.{drill_command, flag, number_option, plan_command, program};
 ghost use Rattle.persod.specs.declared.words.WordsFault.TheVariants.{Memory};
 
 use clap::builder::ValueParser;
@@ -19,6 +19,8 @@ pub enum Words {
     /// Prints the commands of a batch, with at most `max` bytes of data in each STORE DATA, 16 to
     /// 255, the product's number `low` in its P1, 0 to 31, and whether plain records are checked.
     Plan { max: u8, low: u8, check: bool },
+    /// Runs the server and its machines in memory, by a script. It has no options.
+    Drill,
 }
 
 /// Why the words give no subcommand.
@@ -61,7 +63,8 @@ fn program<'a>(alloc: Global) -> Result<Command<'a>, AllocError>
     Command::new(alloc, "persod")
         .about("A job server for card personalisation")
         .subcommand_required(true)
-        .subcommand(plan_command(alloc)?)
+        .subcommand(plan_command(alloc)?)?
+        .subcommand(drill_command(alloc))
 }
 
 fn plan_command<'a>(alloc: Global) -> Result<Command<'a>, AllocError>
@@ -81,6 +84,14 @@ fn plan_command<'a>(alloc: Global) -> Result<Command<'a>, AllocError>
         .arg(max)?
         .arg(low)?
         .arg(check)
+}
+
+fn drill_command<'a>(alloc: Global) -> Command<'a>
+    ensures { (app_of result ≡ drill_command) × ((fields_of result).has_globals ≡ false) }
+{
+    Command::new(alloc, "drill").about(
+        "Runs the server and its machines in memory, by a script read from standard input",
+    )
 }
 
 // `--name N`, and the default where it is not given.
@@ -109,7 +120,7 @@ fn flag<'a>(alloc: Global, name: &'a str) -> Arg<'a>
 }
 
 fn words_of(matches: &ArgMatches<'_>) -> Words
-    requires { IsPlan (subcommand_rows_of matches.now) }
+    requires { IsSubcommand (subcommand_rows_of matches.now) }
     ensures ranges { InRange result }
     ensures meaning { ReadsAs (subcommand_rows_of matches.now) result }
 {
@@ -119,6 +130,7 @@ fn words_of(matches: &ArgMatches<'_>) -> Words
             low: plan.get_one("low").unwrap(),
             check: plan.get_flag("check"),
         },
+        Some(("drill", _)) => Words::Drill,
         _ => unreachable!(),
     }
 }

@@ -11,6 +11,7 @@ fn each_end_has_its_status_and_words(rt: HostRuntime) -> Result<(), Fail> {
             "refused 23 row 2",
             1,
         ),
+        (Told::BadLine { line: 7 }, "bad line 7", 1),
         (Told::Device, "device", 3),
         (Told::Memory, "memory", 3),
     ];

@@ -24,9 +24,15 @@ fn plan_has_its_values_or_the_defaults(rt: HostRuntime) {
 }
 
 #[test]
+fn drill_has_no_options(rt: HostRuntime) {
+    let read = read_words(rt.alloc(), &["persod", "drill"]).ok();
+    assert_eq!(rt; read, Some(Words::Drill));
+}
+
+#[test]
 fn a_usage_fault_says_what_is_wrong(rt: HostRuntime) {
     let alloc = rt.alloc();
-    let cases: [(&[&str], &str); 15] = [
+    let cases: [(&[&str], &str); 20] = [
         (&["persod", "plan", "--max", "15"], "'15'"),
         (&["persod", "plan", "--max", "256"], "'256'"),
         (&["persod", "plan", "--max", "x"], "'x'"),
@@ -39,6 +45,11 @@ fn a_usage_fault_says_what_is_wrong(rt: HostRuntime) {
         (&["persod", "plan", "--check", "true"], "true"),
         (&["persod", "plan", "--size", "16"], "--size"),
         (&["persod", "plan", "batch.csv"], "batch.csv"),
+        (&["persod", "drill", "x"], "'x'"),
+        (&["persod", "drill", "--max", "3"], "--max"),
+        (&["persod", "drill", "--check"], "--check"),
+        (&["persod", "drill", "plan"], "plan"),
+        (&["persod", "--max", "16", "drill"], "--max"),
         (&["persod", "print"], "print"),
         (&["persod"], "subcommand"),
         (&[], "subcommand"),
@@ -56,9 +67,11 @@ fn a_usage_fault_says_what_is_wrong(rt: HostRuntime) {
 #[test]
 fn help_names_the_subcommands_and_the_options(rt: HostRuntime) {
     let alloc = rt.alloc();
-    let cases: [(&[&str], &[&str]); 5] = [
-        (&["persod", "--help"], &["plan", "--help"]),
-        (&["persod", "help"], &["plan", "--help"]),
+    let cases: [(&[&str], &[&str]); 7] = [
+        (&["persod", "--help"], &["plan", "drill", "--help"]),
+        (&["persod", "help"], &["plan", "drill", "--help"]),
+        (&["persod", "drill", "--help"], &["persod drill", "--help"]),
+        (&["persod", "help", "drill"], &["persod drill", "--help"]),
         (
             &["persod", "plan", "--help"],
             &["--max <N>", "16 to 255", "[default: 255]"],

@@ -1,8 +1,8 @@
 use Rattle.std.proofs.Common.{◌≡◌, refl, sym, subst, true, [], map}
 use Rattle.clap.specs.Words.{App, HasMatchesOf, fault_of, is_simple, is_simple_and_free, HasKind}
 use Rattle.clap.proofs.OnLiterals.{clap_on_literals}
-use Rattle.persod.specs.Words.{IsPlan, program}
-use Rattle.persod.proofs.PlanLemmas.{plan_taken}
+use Rattle.persod.specs.Words.{IsSubcommand, program}
+use Rattle.persod.proofs.PlanLemmas.{subcommand_taken}
 use Rattle.persod.proofs.words.read_words.Goals as goal
 
 free : is_simple_and_free program ≡ true
@@ -17,7 +17,7 @@ pub words_of-requires : goal.words_of-requires
 words_of-requires g c =
     let words = map g.S.AsStr.text c.args.words.now in
     let matched = subst (λ (a : App). HasMatchesOf a words c.in-Ok.matches) c.in_ok-program.ensures c.in-Ok.ensures.matches simple in
-    subst IsPlan (sym matched.1) (plan_taken words (subst (λ (a : App). is_simple_and_free a ≡ true → fault_of a words ≡ []) c.in_ok-program.ensures c.in-Ok.ensures.kinds free))
+    subst IsSubcommand (sym matched.1) (subcommand_taken words (subst (λ (a : App). is_simple_and_free a ≡ true → fault_of a words ≡ []) c.in_ok-program.ensures c.in-Ok.ensures.kinds free))
 
 pub returns-in-Ok-clause-taken : goal.returns-in-Ok-clause-taken
 returns-in-Ok-clause-taken g c =

@@ -1,0 +1,11 @@
+use Rattle.std.proofs.Common.{◌≤◌, length}
+use Rattle.persod.proofs.drill.script.Script.file.Given as goal
+
+abbrev pub invariant-loop-text : goal.invariant-loop-text
+invariant-loop-text l = record {
+  within : length l.self.rest.now ≤ length l.text;
+  shorter : length l.self.rest.now ≤ length l.fn.self.rest.now;
+}
+
+abbrev pub decreases-loop-text : goal.decreases-loop-text
+decreases-loop-text l = length l.self.rest.now

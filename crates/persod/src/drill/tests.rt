@@ -1,0 +1,125 @@
+//! Scripts as they are run by hand.
+use super::scripts::{
+    BLANKS, CLOSE, Case, IMPORTS, LATE_RESET, NOT_SERVED, PIECES, REMAKE, REPEAT, SET_UP,
+    SET_UP_PRINTS,
+};
+use super::{DrillStop, drill_engine};
+use std::io::Cursor;
+use std::process::Abort;
+use std::test::Fail;
+
+// A script prints this, and stops so.
+fn check<R: Abort + AllocGlobal>(
+    rt: &R,
+    script: &str,
+    printed: &str,
+    stop: Result<(), DrillStop>,
+) -> Result<(), Fail> {
+    let mut reader = Cursor::new(script.as_bytes());
+    let mut writer = Vec::new(rt.alloc());
+    let ended = drill_engine(rt.alloc(), &mut reader, &mut writer);
+    let text = std::str::from_utf8(writer.as_slice()).unwrap_or("no text");
+    assert_eq!(rt; text, printed);
+    assert_eq!(rt; ended, stop);
+    Ok(())
+}
+
+// The same behind the set-up.
+fn check_case<R: Abort + AllocGlobal>(rt: &R, case: Case) -> Result<(), Fail> {
+    let (script, printed) = case;
+    let script = format!(in rt.alloc(); "{SET_UP}{script}")?;
+    let printed = format!(in rt.alloc(); "{SET_UP_PRINTS}{printed}")?;
+    check(rt, script.as_str(), printed.as_str(), Ok(()))
+}
+
+#[test]
+fn repeats(rt: HostRuntime) -> Result<(), Fail> {
+    check_case(&rt, REPEAT)
+}
+
+#[test]
+fn pieces_and_words(rt: HostRuntime) -> Result<(), Fail> {
+    check_case(&rt, PIECES)
+}
+
+#[test]
+fn remade_records(rt: HostRuntime) -> Result<(), Fail> {
+    check_case(&rt, REMAKE)
+}
+
+#[test]
+fn a_closed_batch_and_its_report(rt: HostRuntime) -> Result<(), Fail> {
+    check_case(&rt, CLOSE)
+}
+
+#[test]
+fn imports(rt: HostRuntime) -> Result<(), Fail> {
+    check_case(&rt, IMPORTS)
+}
+
+#[test]
+fn blanks_and_lots(rt: HostRuntime) -> Result<(), Fail> {
+    check_case(&rt, BLANKS)
+}
+
+#[test]
+fn a_late_reset(rt: HostRuntime) -> Result<(), Fail> {
+    check_case(&rt, LATE_RESET)
+}
+
+#[test]
+fn what_is_not_served(rt: HostRuntime) -> Result<(), Fail> {
+    check_case(&rt, NOT_SERVED)
+}
+
+#[test]
+fn bad_lines(rt: HostRuntime) -> Result<(), Fail> {
+    let table = [
+        ("\n", 1),
+        ("office 1\n", 1),
+        ("office 01 {}\n", 1),
+        ("office 1000000000000000000 {}\n", 1),
+        ("office  {}\n", 1),
+        ("Office 1 {}\n", 1),
+        ("get\n", 1),
+        ("get \n", 1),
+        ("get /batch/B1 x\n", 1),
+        ("import 3 B1\n.\n", 1),
+        ("import 3 B1 P1 x\n.\n", 1),
+        ("import 3 B.1 P1\n.\n", 1),
+        ("import 3 B1 P1\nrecord,aid,rank,enc,tol,dgi\n", 1),
+        ("power m1 1\n", 1),
+    ];
+    for (script, line) in table {
+        check(&rt, script, "", Err(DrillStop::BadLine(line)))?;
+    }
+    Ok(())
+}
+
+#[test]
+fn what_was_printed_before_a_bad_line_stays(rt: HostRuntime) -> Result<(), Fail> {
+    let script = format!(in rt.alloc(); "{SET_UP}send m1\n")?;
+    check(
+        &rt,
+        script.as_str(),
+        SET_UP_PRINTS,
+        Err(DrillStop::BadLine(7)),
+    )
+}
+
+#[test]
+fn a_last_line_needs_no_end(rt: HostRuntime) -> Result<(), Fail> {
+    check(&rt, "", "", Ok(()))?;
+    check(
+        &rt,
+        "office 1 {\"do\":\"reset\"}",
+        "200 {\"result\":\"reset\",\"session\":0}\n",
+        Ok(()),
+    )?;
+    check(
+        &rt,
+        "import 3 B1 P1\n.",
+        "409 {\"code\":52,\"refused\":\"product-unknown\"}\n",
+        Ok(()),
+    )
+}
