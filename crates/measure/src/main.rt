@@ -1,4 +1,5 @@
-//! The program `measure`: calls the record check or the check of a batch on standard input, so that each is timed and weighed alone.
+//! The program `measure`: calls the record check, the check of a batch or the server on standard input, so that each is timed and
+//! weighed alone.
 #![tactic(auto)]
 
 ghost use Rattle.std.specs.Prelude.{◌≡◌, ◌↔◌, Some, codes, filter, length};
@@ -7,6 +8,8 @@ ghost use Rattle.tlv_check.specs.RecordTest.{is_record_of};
 ghost use Rattle.measure.specs.Pieces.{pieces_of};
 
 use batch_import::{ImportFault, check_batch};
+use list_store::ListStore;
+use server::{MemoryConnections, serve_all};
 use std::env;
 use std::io::{self, ErrorKind, Read};
 use std::process::ExitCode;
@@ -16,10 +19,13 @@ use tlv_check::is_record;
 /// The room that is asked for at once, in bytes: one more than a batch may have, so that reading a batch moves nothing.
 const ROOM: usize = 1_048_577;
 
+/// How many bytes of a connection come at once, at most.
+const MOST_PIECE: usize = 65_536;
+
 /// How many bytes a record has that is to be checked.
 const PIECE: usize = 16_000;
 
-const USAGE: &str = "usage: measure raw|records|batch <input";
+const USAGE: &str = "usage: measure raw|records|batch|load <input";
 
 /// What is done with the bytes of standard input.
 #[derive(Clone, Copy)]
@@ -30,6 +36,8 @@ enum Work {
     Records,
     /// They are checked as a batch.
     Batch,
+    /// They are messages with a byte 0 between them, and are served.
+    Load,
 }
 
 fn main(rt: HostRuntime) -> ExitCode {
@@ -65,11 +73,13 @@ fn work_of(word: &str) -> Option<Work>
     ensures raw { (result ≡ Some Work.Raw) ↔ (word.now ≡ codes "raw") }
     ensures records { (result ≡ Some Work.Records) ↔ (word.now ≡ codes "records") }
     ensures batch { (result ≡ Some Work.Batch) ↔ (word.now ≡ codes "batch") }
+    ensures load { (result ≡ Some Work.Load) ↔ (word.now ≡ codes "load") }
 {
     match word {
         "raw" => Some(Work::Raw),
         "records" => Some(Work::Records),
         "batch" => Some(Work::Batch),
+        "load" => Some(Work::Load),
         _ => None,
     }
 }
@@ -80,6 +90,7 @@ fn run(rt: &HostRuntime, work: Work) -> io::Result<()> {
         Work::Raw => println!(rt; "{}", raw.len()),
         Work::Records => println!(rt; "{}", accepted(raw.as_slice())),
         Work::Batch => print_totals(rt, raw.as_slice()),
+        Work::Load => print_served(rt, raw.as_slice()),
     }
 }
 
@@ -104,6 +115,27 @@ fn print_totals(rt: &HostRuntime, raw: &[u8]) -> io::Result<()> {
         }
         Err(ImportFault::Memory) => Err(ErrorKind::OutOfMemory.into()),
     }
+}
+
+// Serves messages in turn, each on a connection of its own, over a store that begins empty.
+fn print_served(rt: &HostRuntime, raw: &[u8]) -> io::Result<()> {
+    let alloc = rt.alloc();
+    let mut inputs = Vec::new(alloc);
+    for message in raw.split(|byte| *byte == 0) {
+        inputs.push(message.to_vec(alloc)?)?;
+    }
+    let turns = inputs.len() as u64;
+    let mut store = ListStore::new(alloc);
+    let mut connections = MemoryConnections::new(alloc, inputs, MOST_PIECE);
+    if serve_all(alloc, &mut store, &mut connections, turns).is_err() {
+        return Err(ErrorKind::OutOfMemory.into());
+    }
+    let replies = connections.replies();
+    let accepted = replies
+        .iter()
+        .filter(|reply| reply.written.starts_with(b"HTTP/1.1 200"))
+        .count();
+    println!(rt; "served {} accepted {accepted}", replies.len())
 }
 
 // The product that a batch is checked for.
