@@ -86,12 +86,14 @@ fn message_of(alloc: Global, script: &mut Script<'_>) -> Result<Vec<u8>, DrillSt
 {
     let message = match script.step() {
         Ok(Step::Office { number, body }) => post(alloc, &[number], body)?,
-        Ok(Step::Import {
-            number,
-            batch,
-            product,
-            file,
-        }) => post(alloc, &[number, b"/batch/", batch, b"/", product], file)?,
+        Ok(
+            Step::Import {
+                number,
+                batch,
+                product,
+                file,
+            },
+        ) => post(alloc, &[number, b"/batch/", batch, b"/", product], file)?,
         Ok(Step::Get { target }) => joined(alloc, &[b"GET ", target, b" HTTP/1.1", HOST, b"\r\n"])?,
         Err(line) => return Err(DrillStop::BadLine(line)),
     };
@@ -158,7 +160,10 @@ fn status_of(reply: &[u8]) -> &[u8] {
 
 // What stands behind the head.
 fn body_of(reply: &[u8]) -> &[u8] {
-    match reply.windows(4).position(|bytes| bytes == b"\r\n\r\n".as_slice()) {
+    match reply
+        .windows(4)
+        .position(|bytes| bytes == b"\r\n\r\n".as_slice())
+    {
         Some(at) => reply.get(at + 4..).unwrap_or(b""),
         None => b"",
     }

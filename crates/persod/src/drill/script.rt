@@ -7,7 +7,10 @@ use store_data::Name;
 #[derive(Clone, Copy)]
 pub(crate) enum Step<'a> {
     /// A request in JSON, or what stands for one.
-    Office { number: &'a [u8], body: &'a [u8] },
+    Office {
+        number: &'a [u8],
+        body: &'a [u8],
+    },
     /// A batch file for a product.
     Import {
         number: &'a [u8],
@@ -16,7 +19,9 @@ pub(crate) enum Step<'a> {
         file: &'a [u8],
     },
     /// An account.
-    Get { target: &'a [u8] },
+    Get {
+        target: &'a [u8],
+    },
 }
 
 /// A script, from the line that is next.

@@ -1,7 +1,8 @@
 //! Scripts of the worked arrivals, each with what it prints.
 
 /// A product, a lot of three blanks and a batch of one record.
-pub(crate) const SET_UP: &str = r#"office 1 {"do":"product","product":"P1","max":255,"low":0,"check":false}
+pub(crate) const SET_UP: &str =
+    r#"office 1 {"do":"product","product":"P1","max":255,"low":0,"check":false}
 office 2 {"do":"lot","lot":"L1","product":"P1","first":1000,"count":3}
 import 3 B1 P1
 record,aid,rank,enc,tol,dgi
