@@ -18,6 +18,10 @@ pub use plain::serve_inputs;
 pub use served::{End, Served};
 
 #[cfg(test)]
+mod limited;
+#[cfg(test)]
 mod message_tests;
 #[cfg(test)]
 mod tests;
+#[cfg(test)]
+mod worked;

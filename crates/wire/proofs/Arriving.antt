@@ -1,9 +1,7 @@
 -- A request that is sent arrives as what it is.
-use Rattle.std.proofs.Common.{◌≡◌, ◌<◌, ◌≤◌, ◌+◌, ◌^◌, ℕ, Bool, true, false, List, [], ◌∷◌, ◌++◌, length, Option, Some, None, refl, sym, ap, subst, ◌∙◌, codes, decimal, arith, append_assoc, length-append}
-use Rattle.std.specs.Prelude.{◌&&◌, IfOk, OnOk, IsTrue, Result, Ok, Err}
-use Rattle.std.specs.List.{list_all}
-use Rattle.std.proofs.lemmas.Bool.Decides.{nat_tests}
-use Rattle.std.proofs.lemmas.Fmt.{decimal_nonempty, length-decimal-le}
+use Rattle.std.proofs.Common.{◌≡◌, ◌<◌, ◌≤◌, ◌^◌, ℕ, true, List, [], length, refl, sym, ap, subst, ◌∙◌, codes, decimal, arith, length-append}
+use Rattle.std.specs.Prelude.{IfOk, OnOk, IsTrue, Result, Ok, Err}
+use Rattle.std.proofs.lemmas.Fmt.{length-decimal-le}
 use Rattle.std.proofs.lemmas.List.Folds.{list_all-append}
 use Rattle.store_data.specs.Name.{is_name}
 use Rattle.job_core.specs.declared.request.Request.{Request}
@@ -11,10 +9,10 @@ use Rattle.job_core.specs.declared.request.Request.TheVariants as request
 use Rattle.wire.specs.declared.ask.Asked.TheVariants as asked
 use Rattle.wire.specs.Asks.{arrival_of, ask_with, asked_at, asked_of, import_of, or_malformed}
 use Rattle.wire.specs.Messages.{Brings, Came, IsHeard}
-use Rattle.wire.specs.Sending.{AreNames, Arrives, IsSendable, body_of, import_tail, sending_head, sending_of, sending_with, tail_of, target_with}
+use Rattle.wire.specs.Sending.{AreNames, Arrives, IsSendable, body_of, import_tail, sending_head, sending_of, sending_with, target_with}
 use Rattle.wire.proofs.SendLemmas.{IsNoImport, no_tail}
 use Rattle.wire.proofs.SentAsks.{import_route, job_route, name_is_read, number_is_read}
-use Rattle.wire.proofs.SentHeads.{are_seen, decimal_is_seen, is_heard, is_seen}
+use Rattle.wire.proofs.SentHeads.{are_seen, decimal_is_seen, is_heard}
 use Rattle.wire.proofs.SentRequests.{body_is_short, name_is_seen, name_is_short, request_is_read}
 
 -- a fact of what was made, by another and by a fact of its own

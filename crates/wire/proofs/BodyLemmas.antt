@@ -1,6 +1,6 @@
 -- A message's body.
 use Rattle.std.proofs.Common.{◌≡◌, ℕ, ◌+◌, ◌-◌, ◌<◌, ◌≤◌, List, [], ◌++◌, length, take, drop, Option, Some, None, refl, sym, ap, subst, ◌∙◌, arith, append-nil, length-take-le}
-use Rattle.std.specs.Prelude.{◌⊎◌, Bool, true, false, IfOk, IfSome, Result, Ok, Err, min, nat_lt}
+use Rattle.std.specs.Prelude.{Bool, true, false, IfOk, IfSome, Result, Ok, Err, min}
 use Rattle.std.proofs.Math.Logic.{⊎_elim}
 use Rattle.std.proofs.Math.Nat.{min-eq_left, min-eq_right, min-le_left, min-le_right}
 use Rattle.std.proofs.Math.Seq.{take-append-add}
@@ -14,7 +14,7 @@ use Rattle.wire.specs.declared.message.Reading.{Reading}
 use Rattle.wire.specs.declared.message.Reading.TheVariants as reading
 use Rattle.wire.specs.declared.refusal.Refusal.{Refusal}
 use Rattle.wire.specs.declared.refusal.Refusal.TheVariants.{HeadTooLarge}
-use Rattle.wire.specs.Heads.{HeadParts, IsJudged, ends_head, head_end, least}
+use Rattle.wire.specs.Heads.{HeadParts, IsJudged, ends_head, head_end}
 use Rattle.wire.specs.Messages.{Brings, Broken, Heard, IsBody, IsFilled, IsHeard, IsHeardBy, IsReading, IsReadingAfter, IsReadingBy, Refused, Tells, after_head, came, end_of_head}
 use Rattle.wire.proofs.EndLemmas.{least_alike, least_stays, size_kept}
 

@@ -1,6 +1,6 @@
 -- Replies, read back from their own texts.
 use Rattle.std.proofs.Common.{◌≡◌, ◌<◌, ◌≤◌, ◌+◌, ◌-◌, ◌^◌, ℕ, zero, suc, Bool, true, false, not, List, [], ◌∷◌, ◌++◌, length, drop, get_or, Some, inl, inr, refl, sym, ap, subst, ◌∙◌, arith, append-nil, length-append, lt-ltb, decimal}
-use Rattle.std.specs.Prelude.{◌&&◌, ◌==◌, ◌≢◌, slice_index, bytes_eq, nat_lt, option_map, option_and_then, Option, IsTrue, IsUtf8}
+use Rattle.std.specs.Prelude.{◌==◌, ◌≢◌, slice_index, bytes_eq, nat_lt, option_map, option_and_then, Option, IsTrue, IsUtf8}
 use Rattle.std.specs.List.{list_all}
 use Rattle.std.specs.Str.{IsAscii}
 use Rattle.std.specs.Str.Parse.{AllDigits}
@@ -15,7 +15,7 @@ use Rattle.std.proofs.lemmas.Str.{IsUtf8-from_ascii}
 use Rattle.std.proofs.lemmas.Str.Ascii.{IsAscii-cons, IsAscii-nil}
 use Rattle.std.proofs.lemmas.List.Folds.{list_all-append}
 use Rattle.std.proofs.lemmas.Slice.Eq.{bytes_eq-Decides}
-use Rattle.hex.specs.Hex.{decode_of, encode_upper}
+use Rattle.hex.specs.Hex.{encode_upper}
 use Rattle.hex.proofs.HexLemmas.{decode_of-encode_upper}
 use Rattle.json.specs.Token.{Token}
 use Rattle.json.specs.Json as json
@@ -46,7 +46,8 @@ use Rattle.reply_store.proofs.Escapes.{hex_plain, name_plain, plain_ascii}
 use Rattle.reply_store.proofs.Texts.{text_is_body}
 use Rattle.store_data.specs.Name.{is_name}
 use Rattle.wire.specs.declared.reply.Kind.TheVariants.{Json}
-use Rattle.wire.specs.Parsing.{HasNoBrace, IsReply, kind_by, refusal_by, reply_bytes, reply_in}
+use Rattle.wire.specs.Parsed.{HasNoBrace, kind_by, refusal_by, reply_in}
+use Rattle.wire.specs.Parsing.{IsReply, reply_bytes}
 use Rattle.wire.specs.Requests.{name_at, text_at}
 use Rattle.wire.specs.Texts.{head_text, status_text}
 

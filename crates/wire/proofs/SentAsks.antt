@@ -1,25 +1,19 @@
 -- What a request that is sent asks for.
-use Rattle.std.proofs.Common.{◌≡◌, ◌<◌, ◌≤◌, ◌+◌, ◌-◌, ◌^◌, ◌/◌, ◌%◌, ◌==◌, ℕ, zero, suc, Bool, true, false, cond, List, [], ◌∷◌, ◌++◌, length, get_or, Option, Some, None, inl, inr, refl, sym, ap, subst, ◌∙◌, codes, decimal, arith, append_assoc, append-nil}
-use Rattle.std.specs.Prelude.{◌&&◌, not, nat_lt, nat_le, slice_index, bytes_eq, option_map, option_and_then, IsUtf8, IsTrue, Result, Ok, Err}
+use Rattle.std.proofs.Common.{◌≡◌, ◌<◌, ◌≤◌, ◌^◌, ◌==◌, ℕ, Bool, true, false, cond, List, [], ◌∷◌, ◌++◌, length, Some, None, refl, ap, ◌∙◌, codes, decimal, arith, append_assoc, append-nil}
+use Rattle.std.specs.Prelude.{◌&&◌, not, nat_lt, nat_le, slice_index, IsTrue}
 use Rattle.std.specs.List.{list_all}
-use Rattle.std.specs.Char.{digit_value, is_ascii_digit, is_ascii_hexdigit}
+use Rattle.std.specs.Char.{digit_value}
 use Rattle.std.specs.Str.Parse.{AllDigits, digits_value}
 use Rattle.std.proofs.lemmas.Bool.{and_parts}
 use Rattle.std.proofs.lemmas.Bool.Decides.{nat_tests}
 use Rattle.std.proofs.lemmas.Fmt.{decimal_is_IsNumeral, decimal_nonempty, first_decimal, length-decimal-le}
-use Rattle.httparse.proofs.GrammarLemmas.{cons-append}
 use Rattle.store_data.specs.Name.{is_name, is_name_char}
-use Rattle.job_core.specs.declared.request.Request.{Request}
-use Rattle.job_core.specs.declared.request.Request.TheVariants as request
 use Rattle.reply_store.specs.Values.{IsPlain}
 use Rattle.reply_store.proofs.Escapes.{name_plain}
-use Rattle.wire.specs.declared.ask.Asked.{Asked}
-use Rattle.wire.specs.declared.ask.Asked.TheVariants as asked
 use Rattle.wire.specs.Asks.{is_number, name_in, number_in}
-use Rattle.wire.specs.Requests.{kept}
-use Rattle.wire.specs.Routes.{Route, Job, Import, has_no_empty, led, parts, route_by, route_in}
+use Rattle.wire.specs.Routes.{Job, Import, has_no_empty, led, parts, route_by, route_in}
 use Rattle.wire.specs.Sending.{import_tail, target_with}
-use Rattle.wire.proofs.SentHeads.{digits_are_digits, nil-append}
+use Rattle.wire.proofs.SentHeads.{digits_are_digits}
 
 -- ---- the target's parts
 

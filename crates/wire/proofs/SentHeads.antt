@@ -1,11 +1,11 @@
 -- The head of a request that is sent: where it ends, and what it is judged.
-use Rattle.std.proofs.Common.{◌≡◌, ◌<◌, ◌≤◌, ◌+◌, ◌-◌, ◌^◌, ◌==◌, ℕ, zero, suc, Bool, true, false, cond, List, [], ◌∷◌, ◌++◌, length, take, drop, reverse, get_or, map, Option, Some, None, inl, inr, refl, sym, ap, subst, ◌∙◌, codes, decimal, arith, append_assoc, append-nil, length-append, length-drop, length-take-le}
-use Rattle.std.specs.Prelude.{◌&&◌, not, nat_eq, nat_lt, nat_le, filter, slice_index, IsUtf8, Result, Ok, Err}
-use Rattle.std.specs.List.{ends_with, list_all, list_any}
+use Rattle.std.proofs.Common.{◌≡◌, ◌<◌, ◌≤◌, ◌+◌, ◌-◌, ◌^◌, ◌==◌, ℕ, zero, suc, Bool, true, false, cond, List, [], ◌∷◌, ◌++◌, length, take, drop, reverse, get_or, Option, Some, None, inl, inr, refl, sym, ap, subst, ◌∙◌, codes, decimal, arith, append_assoc, append-nil, length-append, length-drop, length-take-le}
+use Rattle.std.specs.Prelude.{◌&&◌, not, nat_eq, nat_lt, nat_le, slice_index, Ok}
+use Rattle.std.specs.List.{ends_with, list_all}
 use Rattle.std.specs.Char.{digit_value, is_ascii_digit}
 use Rattle.std.specs.Cmp.Lexicographic.{same_text}
 use Rattle.std.specs.Str.{IsAscii}
-use Rattle.std.specs.Str.Parse.{AllDigits, digits_value}
+use Rattle.std.specs.Str.Parse.{AllDigits}
 use Rattle.std.proofs.Math.ListN.{get_or-append}
 use Rattle.std.proofs.Math.Seq.{drop-append_seam, take-append_seam}
 use Rattle.std.proofs.lemmas.Bool.{and_parts, cases_Bool, cond-false}
@@ -19,13 +19,11 @@ use Rattle.std.proofs.lemmas.Str.{IsUtf8-from_ascii}
 use Rattle.std.proofs.lemmas.Str.Ascii.{IsAscii-cons, IsAscii-nil}
 use lib.Pointwise.{pointwise}
 use Rattle.httparse.specs.Grammar.{Field, IsField, RequestHead, ReadsRequest, crlf, is_ows, is_token_byte, is_uri_byte, is_value_byte, print_request, skip_ows, trim_ows}
-use Rattle.httparse.specs.Spans.{name_and_value}
 use Rattle.httparse.proofs.GrammarLemmas.{cons-append, request_unique}
 use Rattle.httparse.proofs.OnLiterals.{httparse_on_literals}
 use Rattle.httparse.proofs.TrimLemmas.{trim_ows_space}
-use Rattle.wire.specs.declared.refusal.Refusal.{Refusal}
-use Rattle.wire.specs.Heads.{HeadParts, IsJudged, bare_lf_after, body_size, ends_head, has_bare_lf, head_end, is_named, least, or_else, pairs, pairs_after, parts_of, size_text, sized}
-use Rattle.wire.specs.Messages.{Brings, Broken, Heard, IsHeard, IsHeardBy, after_head, end_of_head}
+use Rattle.wire.specs.Heads.{HeadParts, IsJudged, bare_lf_after, body_size, ends_head, has_bare_lf, head_end, least, or_else, pairs, pairs_after, parts_of, size_text, sized}
+use Rattle.wire.specs.Messages.{Brings, Broken, IsHeard, IsHeardBy, after_head, end_of_head}
 use Rattle.wire.specs.Sending.{sending_head}
 use Rattle.wire.proofs.BodyLemmas.{end_stays}
 use Rattle.wire.proofs.EndLemmas.{found_at}

@@ -1,6 +1,6 @@
 -- The body of a request that is sent is read as that request.
-use Rattle.std.proofs.Common.{◌≡◌, ◌<◌, ◌≤◌, ◌+◌, ◌-◌, ◌*◌, ◌^◌, ◌/◌, ◌%◌, ◌==◌, ℕ, zero, suc, Bool, true, false, cond, List, [], ◌∷◌, ◌++◌, length, Option, Some, None, inl, inr, refl, sym, ap, ◌∙◌, codes, decimal, arith, append_assoc, length-append}
-use Rattle.std.specs.Prelude.{◌&&◌, not, nat_lt, nat_le, slice_index, bytes_eq, option_map, option_and_then, IsUtf8, IsTrue}
+use Rattle.std.proofs.Common.{◌≡◌, ◌<◌, ◌≤◌, ◌+◌, ◌-◌, ◌*◌, ◌^◌, ◌/◌, ◌%◌, ◌==◌, ℕ, zero, suc, Bool, true, false, cond, List, [], ◌∷◌, length, Some, None, inl, inr, refl, sym, ap, ◌∙◌, decimal, arith, length-append}
+use Rattle.std.specs.Prelude.{◌&&◌, nat_le, slice_index, option_map, option_and_then, IsUtf8, IsTrue}
 use Rattle.std.specs.List.{list_all}
 use Rattle.std.specs.Char.{digit_value, is_ascii_hexdigit}
 use Rattle.std.specs.Str.Parse.{digits_value}
@@ -11,7 +11,6 @@ use Rattle.std.proofs.lemmas.List.Folds.{list_all-append}
 use Rattle.std.proofs.lemmas.Str.{IsUtf8-from_ascii}
 use Rattle.hex.specs.Hex.{encode_with, upper_digits}
 use Rattle.json.proofs.Printed.Decimals.{IsNumber-decimal}
-use Rattle.serde_json.specs.Data.{Data}
 use Rattle.serde_json.specs.Read.{read}
 use Rattle.serde_json.specs.Written.{compact_text}
 use Rattle.serde_json.proofs.Numbers.{number_of-decimal}

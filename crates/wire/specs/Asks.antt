@@ -1,18 +1,16 @@
 -- What messages ask (this project's profile).
-use Rattle.std.specs.Prelude.{◌≡◌, ℕ, ◌==◌, ◌&&◌, nat_le, not, Bool, if◌then◌else◌, List, [], ◌∷◌, ◌++◌, length, slice_index, bytes_eq, codes, Option, Some, None, Result, Ok, Err, IfOk, ⊤, option_map}
+use Rattle.std.specs.Prelude.{◌≡◌, ℕ, ◌==◌, ◌&&◌, nat_le, not, Bool, if◌then◌else◌, List, [], ◌∷◌, ◌++◌, length, slice_index, bytes_eq, codes, Option, Some, None, Result, Ok, Err, ⊤, option_map}
 use Rattle.std.specs.List.{list_all}
 use Rattle.std.specs.Char.{is_ascii_digit}
 use Rattle.std.specs.Str.Parse.{digits_value}
 use Rattle.store_data.specs.Name.{is_name}
 use Rattle.job_core.specs.declared.request.Request.{Request}
 use Rattle.job_core.specs.declared.request.Request.TheVariants as request
-use Rattle.reply_store.specs.declared.Arrival.{Arrival}
 use Rattle.reply_store.specs.Runs.{IsArrival}
 use Rattle.wire.specs.declared.ask.Asked.{Asked}
 use Rattle.wire.specs.declared.ask.Asked.TheVariants as asked
 use Rattle.wire.specs.declared.ask.AskFault.{AskFault}
 use Rattle.wire.specs.declared.ask.AskFault.TheVariants as fault
-use Rattle.wire.specs.declared.ask.Wanted.{Wanted}
 use Rattle.wire.specs.declared.ask.Wanted.TheVariants as wanted
 use Rattle.wire.specs.declared.refusal.Refusal.{Refusal}
 use Rattle.wire.specs.declared.refusal.Refusal.TheVariants.{Malformed, NoRoute, WrongMethod}

@@ -9,4 +9,5 @@ pub mod Routes
 pub mod Requests
 pub mod Asks
 pub mod Parsing
+pub mod Parsed
 pub mod Sending

@@ -4,7 +4,8 @@ ghost use Rattle.hex.specs.Hex.{IsBytes};
 ghost use Rattle.job_core.specs.declared.reply.Reply.{Reply as ReplyValue};
 ghost use Rattle.serde_json.specs.Read.{read};
 ghost use Rattle.serde_json.specs.View.{view};
-ghost use Rattle.wire.specs.Parsing.{HasNoBrace, IsName, IsReply, accepted_in, bytes_at, command_in, count_at, ended_in, import_in, kind_by, made_in, next_in, noted_in, number_at, opened_in, refusal_by, refused_in, reply_bytes, reply_in};
+ghost use Rattle.wire.specs.Parsed.{HasNoBrace, accepted_in, bytes_at, command_in, count_at, ended_in, import_in, kind_by, made_in, next_in, noted_in, number_at, opened_in, refusal_by, refused_in, reply_in};
+ghost use Rattle.wire.specs.Parsing.{IsName, IsReply, reply_bytes};
 ghost use Rattle.wire.specs.Requests.{name_at, text_at};
 
 use crate::reply::{Kind, reply_head};
@@ -277,7 +278,7 @@ fn bytes_at(alloc: Global, value: &Value, key: &str) -> Result<Option<Bytes>, Al
 
 // ---- numbers of refusals and faults
 
-#[tactic(auto, unfolding(crate::specs::Parsing::refusal_by))]
+#[tactic(auto, unfolding(crate::specs::Parsed::refusal_by))]
 fn refusal_by(code: u64) -> Option<Refusal>
     ensures { result ≡ refusal_by code }
 {
@@ -307,7 +308,7 @@ fn refusal_by(code: u64) -> Option<Refusal>
     }
 }
 
-#[tactic(auto, unfolding(crate::specs::Parsing::kind_by))]
+#[tactic(auto, unfolding(crate::specs::Parsed::kind_by))]
 fn kind_by(code: u64) -> Option<FaultKind>
     ensures { result ≡ kind_by code }
 {

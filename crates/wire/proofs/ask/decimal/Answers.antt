@@ -1,4 +1,4 @@
-use Rattle.std.proofs.Common.{◌≡◌, ◌+◌, ◌*◌, ◌∙◌, ◌<◌, ◌^◌, ap, arith, take}
+use Rattle.std.proofs.Common.{◌≡◌, ◌+◌, ◌*◌, ◌∙◌, arith, take}
 use Rattle.std.specs.Str.Parse.{digits_value}
 use Rattle.wire.proofs.AskLemmas.{is_number_is, number_more, so_far_small}
 use Rattle.wire.proofs.ask.decimal.Goals as goal

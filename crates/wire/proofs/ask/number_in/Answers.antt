@@ -1,4 +1,4 @@
-use Rattle.std.proofs.Common.{◌≡◌, ◌∙◌, ◌≤◌, ◌<◌, sym, subst, arith}
+use Rattle.std.proofs.Common.{◌∙◌, sym, arith}
 use Rattle.wire.proofs.AskLemmas.{is_number_is, number_is_small, number_is_some}
 use Rattle.wire.proofs.ask.number_in.Goals as goal
 

@@ -1,4 +1,3 @@
-use Rattle.std.proofs.Common.{rules}
 use Rattle.wire.proofs.BodyLemmas.{heard_broken, heard_head, heard_large}
 use Rattle.wire.proofs.message.read_message.Goals as goal
 

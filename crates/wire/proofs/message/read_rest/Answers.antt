@@ -1,4 +1,4 @@
-use Rattle.std.proofs.Common.{Ok, Err, sym, ap, subst}
+use Rattle.std.proofs.Common.{Ok, ap, subst}
 use Rattle.wire.specs.Heads.{IsJudged}
 use Rattle.wire.specs.Judged.{parts}
 use Rattle.wire.proofs.BodyLemmas.{rest_read, rest_refused}

@@ -1,4 +1,4 @@
-use Rattle.std.proofs.Common.{rules, arith, sym, subst, length, ◌≤◌, ◌-◌}
+use Rattle.std.proofs.Common.{rules, sym, subst, length}
 use Rattle.std.proofs.KnownBytes.{Consumes-trans}
 use Rattle.std.specs.Io.KnownBytes.{Consumes}
 use Rattle.wire.proofs.EndLemmas.{take_filled}

@@ -1,5 +1,5 @@
-use Rattle.std.proofs.Common.{◌≡◌, ◌∙◌, ◌+◌, ◌==◌, true, sym, ap, drop, length, arith}
-use Rattle.wire.proofs.RouteLemmas.{empty_after, empty_at, empty_none, empty_parts}
+use Rattle.std.proofs.Common.{◌∙◌, sym}
+use Rattle.wire.proofs.RouteLemmas.{empty_at, empty_none, empty_parts}
 use Rattle.wire.proofs.route.has_empty_part.Goals as goal
 
 pub returns-then-empty : goal.returns-then-empty

@@ -1,4 +1,3 @@
-use Rattle.std.proofs.Common.{append_assoc}
 use Rattle.wire.specs.Sending.{sending_head}
 use Rattle.wire.proofs.sending.text_with.Goals as goal
 

@@ -1,0 +1,156 @@
+-- What the parts of a reply's reading find.
+use Rattle.std.specs.Prelude.{◌≢◌, ◌^◌, ◌==◌, ℕ, List, codes, bytes_eq, nat_lt, slice_index, if◌then◌else◌, Option, Some, None, option_map, option_and_then, Result, Ok, Err}
+use Rattle.hex.specs.Hex.{decode_of}
+use Rattle.hex.specs.declared.error.FromHexError.{FromHexError}
+use Rattle.serde_json.specs.Data.{Data}
+use Rattle.serde_json.specs.Find.{get, as_number, as_u64}
+use Rattle.batch_import.specs.declared.fault.Kind.{Kind as FaultKind}
+use Rattle.batch_import.specs.declared.fault.Kind.TheVariants as kind
+use Rattle.job_core.specs.declared.refusal.Refusal.{Refusal}
+use Rattle.job_core.specs.declared.refusal.Refusal.TheVariants as refusal
+use Rattle.job_core.specs.declared.reply.Made.{Made}
+use Rattle.job_core.specs.declared.reply.Made.TheVariants.{Created, Known}
+use Rattle.job_core.specs.declared.reply.Reply.{Reply}
+use Rattle.job_core.specs.declared.reply.Reply.TheVariants.{Product, Lot, Import, Opened, Next, Good, Spoiled, Reset, Discarded, Waiting, Withdrawn, Closed, Refused, Busy, Faulty}
+use Rattle.wire.specs.Requests.{kept, name_at, text_at}
+
+-- ---- where a body begins
+
+abbrev pub HasNoBrace : List ℕ → Type 0
+HasNoBrace xs = (k : ℕ) → slice_index xs k ≢ 123
+
+-- ---- members of a body
+
+abbrev pub number_at : List ℕ → Data → Option ℕ
+number_at key d = option_and_then as_u64 (option_and_then as_number (get key d))
+
+abbrev pub count_at : List ℕ → Data → Option ℕ
+count_at key d = option_and_then (kept (λ (n : ℕ). nat_lt n (2 ^ 32))) (number_at key d)
+
+abbrev pub decoded : Result (List ℕ) FromHexError → Option (List ℕ)
+decoded (Ok bytes) = Some bytes
+decoded (Err why) = None
+
+-- a text in hexadecimal, as bytes
+abbrev pub bytes_at : List ℕ → Data → Option (List ℕ)
+bytes_at key d = option_and_then (λ (text : List ℕ). decoded (decode_of text)) (text_at key d)
+
+-- ---- the reply that a body may be of, by its members; its text decides
+
+abbrev pub either : {T : Type 0} → Option T → Option T → Option T
+either None other = other
+either (Some x) other = Some x
+
+abbrev pub import_in : Made → Data → Option Reply
+import_in made d =
+    option_and_then (λ (b : List ℕ). option_and_then (λ (records : ℕ). option_map (λ (rows : ℕ). Import b records made rows)
+    (count_at (codes "rows") d)) (count_at (codes "records") d)) (name_at (codes "batch") d)
+
+abbrev pub made_in : Made → Data → Option Reply
+made_in made d =
+    either (option_map (λ (p : List ℕ). Product p made) (name_at (codes "product") d))
+    (either (option_map (λ (l : List ℕ). Lot l made) (name_at (codes "lot") d)) (import_in made d))
+
+abbrev pub opened_in : List ℕ → List ℕ → Data → Option Reply
+opened_in b command d =
+    option_and_then (λ (blank : ℕ). option_and_then (λ (r : List ℕ). option_map (λ (s : ℕ). Opened b blank command r s)
+    (number_at (codes "session") d)) (name_at (codes "record") d)) (number_at (codes "blank") d)
+
+abbrev pub next_in : List ℕ → Data → Option Reply
+next_in command d = option_and_then (λ (k : ℕ). option_map (λ (s : ℕ). Next command k s) (number_at (codes "session") d)) (number_at (codes "index") d)
+
+-- with the card's batch, where it is opened
+abbrev pub command_by : Option (List ℕ) → List ℕ → Data → Option Reply
+command_by (Some b) command d = opened_in b command d
+command_by None command d = next_in command d
+
+abbrev pub command_in : Data → Option Reply
+command_in d = option_and_then (λ (command : List ℕ). command_by (name_at (codes "batch") d) command d) (bytes_at (codes "command") d)
+
+abbrev pub noted_by : List ℕ → List ℕ → Data → Option Reply
+noted_by b word d =
+    if bytes_eq word (codes "waiting") then option_map (λ (r : List ℕ). Waiting b r) (name_at (codes "record") d)
+    else if bytes_eq word (codes "withdrawn") then option_map (λ (r : List ℕ). Withdrawn b r) (name_at (codes "record") d)
+    else if bytes_eq word (codes "closed") then Some (Closed b)
+    else None
+
+abbrev pub noted_in : Data → List ℕ → Option Reply
+noted_in d word = option_and_then (λ (b : List ℕ). noted_by b word d) (name_at (codes "batch") d)
+
+abbrev pub ended_in : Data → List ℕ → Option Reply
+ended_in d word =
+    if bytes_eq word (codes "good") then option_map (λ (s : ℕ). Good s) (number_at (codes "session") d)
+    else if bytes_eq word (codes "spoiled") then option_map (λ (s : ℕ). Spoiled s) (number_at (codes "session") d)
+    else if bytes_eq word (codes "reset") then option_map (λ (s : ℕ). Reset s) (number_at (codes "session") d)
+    else if bytes_eq word (codes "discarded") then option_map (λ (blank : ℕ). Discarded blank) (number_at (codes "blank") d)
+    else noted_in d word
+
+abbrev pub accepted_in : Data → List ℕ → Option Reply
+accepted_in d word =
+    if bytes_eq word (codes "created") then made_in Created d
+    else if bytes_eq word (codes "known") then made_in Known d
+    else if bytes_eq word (codes "command") then command_in d
+    else ended_in d word
+
+-- by its number
+unfoldable pub refusal_by : ℕ → Option Refusal
+refusal_by n =
+    if n == 51 then Some refusal.ProductDiffers
+    else if n == 52 then Some refusal.ProductUnknown
+    else if n == 53 then Some refusal.LotDiffers
+    else if n == 54 then Some refusal.SerialsOverlap
+    else if n == 55 then Some refusal.BatchDiffers
+    else if n == 56 then Some refusal.BatchUnknown
+    else if n == 57 then Some refusal.BatchClosed
+    else if n == 58 then Some refusal.BlankUnknown
+    else if n == 59 then Some refusal.BlankOfOtherProduct
+    else if n == 60 then Some refusal.BlankUsed
+    else if n == 62 then Some refusal.NothingWaiting
+    else if n == 63 then Some refusal.SessionUnknown
+    else if n == 64 then Some refusal.NotYours
+    else if n == 65 then Some refusal.SessionEnded
+    else if n == 66 then Some refusal.OutOfTurn
+    else if n == 67 then Some refusal.RecordUnknown
+    else if n == 68 then Some refusal.NotFailed
+    else if n == 69 then Some refusal.NotWithdrawable
+    else if n == 70 then Some refusal.NotFinished
+    else if n == 71 then Some refusal.Limit
+    else if n == 72 then Some refusal.NumberReused
+    else None
+
+-- by its number
+unfoldable pub kind_by : ℕ → Option FaultKind
+kind_by n =
+    if n == 21 then Some kind.MarksDiffer
+    else if n == 22 then Some kind.IdentifierTwice
+    else if n == 23 then Some kind.TooManyBlocks
+    else if n == 30 then Some kind.NotSixFields
+    else if n == 31 then Some kind.Header
+    else if n == 32 then Some kind.RecordName
+    else if n == 33 then Some kind.Aid
+    else if n == 34 then Some kind.Rank
+    else if n == 35 then Some kind.Mark
+    else if n == 36 then Some kind.Grouping
+    else if n == 37 then Some kind.NotARecord
+    else if n == 38 then Some kind.TooManyRows
+    else if n == 39 then Some kind.TooManyRecords
+    else if n == 40 then Some kind.NoRows
+    else None
+
+abbrev pub faulty_in : Option FaultKind → ℕ → Option Reply
+faulty_in k row = option_map (λ (kind : FaultKind). Faulty (record { row = row; kind = kind })) k
+
+abbrev pub refused_by : ℕ → Option ℕ → Option ℕ → Option Reply
+refused_by code (Some s) row = Some (Busy s)
+refused_by code None (Some row) = faulty_in (kind_by code) row
+refused_by code None None = option_map (λ (why : Refusal). Refused why) (refusal_by code)
+
+abbrev pub refused_in : Data → Option Reply
+refused_in d = option_and_then (λ (code : ℕ). refused_by code (number_at (codes "session") d) (count_at (codes "row") d)) (number_at (codes "code") d)
+
+abbrev pub reply_by : Option (List ℕ) → Data → Option Reply
+reply_by (Some word) d = accepted_in d word
+reply_by None d = refused_in d
+
+abbrev pub reply_in : Data → Option Reply
+reply_in d = reply_by (text_at (codes "result") d) d
