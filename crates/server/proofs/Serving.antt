@@ -1,6 +1,6 @@
 -- One more connection.
-use Rattle.std.proofs.Common.{◌≡◌, ◌⊎◌, ℕ, zero, suc, ◌+◌, ◌<◌, ◌≤◌, Bool, true, false, List, [], ◌∷◌, ◌++◌, length, map, take, Option, Some, None, Result, Ok, Err, refl, sym, ap, ◌∙◌, subst, inl, inr, ⊎_elim, arith, append_assoc, append-nil}
-use Rattle.std.specs.Prelude.{All, drop, option_map, slice_get, unwrap_or}
+use Rattle.std.proofs.Common.{◌≡◌, ◌⊎◌, ℕ, zero, suc, ◌<◌, ◌≤◌, Bool, List, [], ◌∷◌, ◌++◌, length, map, take, Option, Some, None, refl, sym, ap, ◌∙◌, subst, inl, inr, ⊎_elim, arith, append_assoc, append-nil}
+use Rattle.std.specs.Prelude.{drop, option_map, slice_get, unwrap_or}
 use Rattle.std.specs.Io.KnownBytes.{Appends}
 use Rattle.std.proofs.lemmas.List.{take_at, take-append-le, map_push}
 use Rattle.std.proofs.lemmas.List.Elements.{All-push, All-nil}
@@ -10,12 +10,10 @@ use Rattle.reply_store.specs.Meaning.{contents_after}
 use Rattle.reply_store.specs.Runs.{Tried, arrived, decided, Leaves}
 use Rattle.reply_store.proofs.Commands.{hands_out_next}
 use Rattle.reply_store.proofs.Running.{leaves_none, leaves_more, leaves_stays}
-use Rattle.wire.specs.declared.ask.Asked.{Asked}
 use Rattle.wire.specs.declared.ask.Asked.TheVariants as asked
-use Rattle.wire.specs.Messages.{HasHead, Tells}
+use Rattle.wire.specs.Messages.{Tells}
 use Rattle.server.specs.declared.served.Served.{Served}
 use Rattle.server.specs.Meant.{Meant, Broken, Refused, Asks, Means}
-use Rattle.server.specs.Replies.{IsAnswer, IsUnavailable}
 use Rattle.server.specs.Exchanges.{Exchange, Does, Entry, IsAnswered, IsNext, Moves, Opens, Queue, Serves, ServesAll, moved, shown, tries, tries_at, tries_of}
 
 abbrev brought : Exchange → List ℕ

@@ -1,5 +1,5 @@
 -- A connection that changes nothing.
-use Rattle.std.proofs.Common.{◌≡◌, ℕ, Bool, true, false, List, Err, refl, sym, subst, inl, inr, ⊎_elim, arith}
+use Rattle.std.proofs.Common.{◌≡◌, ℕ, Bool, false, List, Err, refl, sym, subst, inl, inr, ⊎_elim, arith}
 use Rattle.job_core.specs.declared.store.StoreFault.{StoreFault}
 use Rattle.job_core.specs.declared.store.StoreFault.TheVariants.{Memory}
 use Rattle.job_core.specs.Store.{AreSound, Contents, State, Stays}

@@ -1,4 +1,3 @@
-use Rattle.std.proofs.Common.{Ok}
 use Rattle.list_store.specs.Lists.{contents}
 use Rattle.server.specs.Memory.{queue, texts}
 use Rattle.server.proofs.Lists.{served_is}

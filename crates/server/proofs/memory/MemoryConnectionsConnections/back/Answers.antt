@@ -1,4 +1,4 @@
-use Rattle.std.proofs.Common.{◌≡◌, ◌++◌, ◌∷◌, [], List, Some, Ok, ap, ◌∙◌, arith}
+use Rattle.std.proofs.Common.{◌≡◌, ◌++◌, ◌∷◌, [], Some, Ok, ap, ◌∙◌, arith}
 use Rattle.server.specs.declared.memory.Replied.{Replied}
 use Rattle.server.specs.Memory.{queue_with}
 use Rattle.server.proofs.Taken.{queue_moves}
