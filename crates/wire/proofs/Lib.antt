@@ -4,7 +4,11 @@ pub mod LineLemmas
 pub mod EndLemmas
 pub mod BodyLemmas
 pub mod RequestLemmas
+pub mod RowLemmas
+pub mod NameLemmas
 pub mod RouteLemmas
+pub mod ClientLemmas
+pub mod FormLemmas
 pub mod AskLemmas
 pub mod ParseLemmas
 pub mod SendLemmas

@@ -1,83 +1,71 @@
--- The parts of a target.
-use Rattle.std.proofs.Common.{◌≡◌, ℕ, zero, suc, ◌+◌, ◌<◌, ◌==◌, Bool, true, false, cond, List, [], ◌∷◌, length, take, drop, drop-cons, get_or, ◌≤◌, codes, Option, None, refl, sym, ap, ◌∙◌, arith}
-use Rattle.std.specs.Prelude.{◌&&◌, not, nat_lt}
+-- The parts of a target, and what a router's answer has to be.
+use Rattle.std.proofs.Common.{◌≡◌, ℕ, zero, suc, ◌==◌, Bool, true, false, cond, List, [], ◌∷◌, ◌++◌, length, Option, Some, None, refl, sym, ap, subst, ◌∙◌, arith, IsAscii}
+use Rattle.std.specs.Prelude.{◌&&◌, nat_lt}
+use Rattle.std.specs.Str.{IsNotAscii, IsUtf8}
+use Rattle.std.specs.Char.{is_ascii}
+use Rattle.std.specs.List.{list_all}
+use Rattle.std.proofs.lemmas.Bool.{and_parts}
 use Rattle.std.proofs.lemmas.Bool.Decides.{nat_tests}
-use Rattle.std.proofs.lemmas.List.{drop_all}
-use Rattle.wire.specs.Routes.{Route, has_no_empty, led, parts, route_by}
+use Rattle.std.proofs.lemmas.List.Folds.{list_all-append}
+use Rattle.std.proofs.lemmas.Str.{IsUtf8-from_ascii}
+use Rattle.matchit.specs.Params.{AllText, walk}
+use Rattle.matchit.specs.Router.{RouteOf}
+use Rattle.matchit.specs.Seek.{has_slash}
+use Rattle.wire.specs.declared.route.Form.{Form}
+use Rattle.wire.specs.Routes.{Route, built, has_no_empty, led, parts, route_among, route_by, route_in}
+use Rattle.wire.proofs.RowLemmas.{no_slash}
 
--- a part is empty, from here on, the one so far being empty or not
-abbrev pub empty_after : Bool → List ℕ → Bool
-empty_after empty [] = empty
-empty_after empty (b ∷ text) = cond (b == 47 && empty) true (empty_after (b == 47) text)
+-- ---- ASCII
 
-slash_is : (b : ℕ) → b ≡ 47 → (b == 47) ≡ true
-slash_is b h = grind arith
+abbrev pub all_ascii : List ℕ → Bool
+all_ascii text = list_all is_ascii text
 
-no_slash_is : (b : ℕ) → (b ≡ 47 → ⊥) → (b == 47) ≡ false
-no_slash_is b h = grind arith
+pub ascii_is : (bs : List ℕ) → IsAscii bs → all_ascii bs ≡ true
+ascii_is [] h = refl
+ascii_is (b ∷ bs) h =
+    let first : is_ascii b ≡ true = let f = h 0 in grind (arith, nat_tests, f) in
+    rw first (ascii_is bs (λ i. h (suc i)))
 
-abbrev behind : List (List ℕ) → List (List ℕ)
-behind [] = []
-behind (part ∷ parts) = parts
+is_all_ascii : (bs : List ℕ) → all_ascii bs ≡ true → IsAscii bs
+is_all_ascii [] h i = omega arith
+is_all_ascii (b ∷ bs) h zero = let f = (and_parts (is_ascii b) (all_ascii bs) h).0 in grind (arith, nat_tests, f)
+is_all_ascii (b ∷ bs) h (suc i) = is_all_ascii bs (and_parts (is_ascii b) (all_ascii bs) h).1 i
 
-led_sound : (b : ℕ) (ps : List (List ℕ)) → has_no_empty (led b ps) ≡ has_no_empty (behind ps)
-led_sound b [] = refl
-led_sound b (p ∷ ps) = let some : nat_lt 0 (suc (length p)) ≡ true = grind (arith, nat_tests) in ap (λ t. t && has_no_empty ps) some
+not_all_ascii : (bs : List ℕ) → IsNotAscii bs → all_ascii bs ≡ false
+not_all_ascii [] (i, h) = absurd (omega (arith, h))
+not_all_ascii (b ∷ bs) (zero, h) = let first : is_ascii b ≡ false = grind (arith, nat_tests, h) in rw first refl
+not_all_ascii (b ∷ bs) (suc i, h) = rw (not_all_ascii bs (i, h)) (elim (is_ascii b) as (λ t. (t && false) ≡ false) [ true ↦ refl | false ↦ refl ])
 
-led_behind : (b : ℕ) (ps : List (List ℕ)) → behind (led b ps) ≡ behind ps
-led_behind b [] = refl
-led_behind b (p ∷ ps) = refl
+pub no_route : (target : List ℕ) → IsNotAscii target → None ≡ route_in target
+unfolding route_in
+no_route [] h = refl
+no_route (b ∷ rest) (zero, h) = let first : (b == 47) ≡ false = grind (arith, nat_tests, h) in rw first refl
+no_route (b ∷ rest) (suc i, h) =
+    rw (not_all_ascii rest (i, h)) (elim (b == 47) as (λ t. None ≡ cond (t && false) (route_among (parts rest)) None) [ true ↦ refl | false ↦ refl ])
 
-empty_either : (text : List ℕ) → (not (has_no_empty (parts text)) ≡ empty_after true text) × (not (has_no_empty (behind (parts text))) ≡ empty_after false text)
-empty_either [] = (refl, refl)
-empty_either (b ∷ text) =
-    let h = empty_either text in (
-      elim (b == 47) as (λ t. not (has_no_empty (cond t ([] ∷ parts text) (led b (parts text)))) ≡ cond (t && true) true (empty_after t text)) [
-        | true ↦ refl
-        | false ↦ ap not (led_sound b (parts text)) ∙ h.1
-      ],
-      elim (b == 47) as (λ t. not (has_no_empty (behind (cond t ([] ∷ parts text) (led b (parts text))))) ≡ cond (t && false) true (empty_after t text)) [
-        | true ↦ h.0
-        | false ↦ ap (λ ps. not (has_no_empty ps)) (led_behind b (parts text)) ∙ h.1
-      ],
-    )
+pub utf8 : (x : List ℕ) → all_ascii x ≡ true → IsUtf8 x
+utf8 x h = IsUtf8-from_ascii x (is_all_ascii x h)
 
-pub empty_parts : (text : List ℕ) → not (has_no_empty (parts text)) ≡ empty_after true text
-empty_parts text = (empty_either text).0
+pub ascii_cut : (x u : List ℕ) → all_ascii (x ++ 47 ∷ u) ≡ true → (all_ascii x ≡ true) × (all_ascii u ≡ true)
+ascii_cut x u h = and_parts (all_ascii x) (all_ascii u) (sym (list_all-append is_ascii x (47 ∷ u)) ∙ h)
 
--- where it is known at a slash
-pub empty_at : (text : List ℕ) (i : ℕ) (empty : Bool) → i < length text → get_or text i 0 ≡ 47 → empty ≡ true → empty_after empty (drop i text) ≡ true
-empty_at text i empty within here is =
-    ap (empty_after empty) (drop-cons text i 0 within) ∙ (λ j. cond (slash_is (get_or text i 0) here j && is j) true (empty_after (get_or text i 0 == 47) (drop (suc i) text)))
+pub ascii_join : (x u : List ℕ) → all_ascii x ≡ true → all_ascii u ≡ true → all_ascii (x ++ 47 ∷ u) ≡ true
+ascii_join x u h g = list_all-append is_ascii x (47 ∷ u) ∙ (λ i. h i && g i)
 
--- and at the end
-pub empty_none : (text : List ℕ) (i : ℕ) (empty : Bool) → length text ≤ i → empty_after empty (drop i text) ≡ empty
-empty_none text i empty over = ap (empty_after empty) (drop_all i text over)
+pub no_token : (b : ℕ) (x : List ℕ) → all_ascii (b ∷ x) ≡ true → (256 == b) ≡ false
+no_token b x h = let f = (and_parts (is_ascii b) (all_ascii x) h).0 in grind (arith, nat_tests, f)
 
--- ---- the first slash
+-- ---- parts
 
-pub parts_alone : (text : List ℕ) → ((k : ℕ) → k < length text → get_or text k 0 ≡ 47 → ⊥) → parts text ≡ text ∷ []
-parts_alone [] none = refl
-parts_alone (b ∷ text) none =
-    (λ i. cond (no_slash_is b (none 0 (omega arith)) i) ([] ∷ parts text) (led b (parts text)))
-    ∙ ap (led b) (parts_alone text (λ k h. none (suc k) (omega (arith, h))))
+pub parts_last : (x : List ℕ) → has_slash x ≡ false → parts x ≡ x ∷ []
+parts_last [] h = refl
+parts_last (b ∷ x) h = let f = no_slash b x h in (λ i. cond (f.0 i) ([] ∷ parts x) (led b (parts x))) ∙ ap (led b) (parts_last x f.1)
 
-pub parts_cut : (text : List ℕ) (at : ℕ) → at < length text → get_or text at 0 ≡ 47 → ((k : ℕ) → k < at → get_or text k 0 ≡ 47 → ⊥)
-    → parts text ≡ take at text ∷ parts (drop (at + 1) text)
-parts_cut [] at within here none = absurd (omega (arith, within))
-parts_cut (b ∷ text) zero within here none = λ i. cond (slash_is b here i) ([] ∷ parts text) (led b (parts text))
-parts_cut (b ∷ text) (suc at) within here none =
-    (λ i. cond (no_slash_is b (none 0 (omega arith)) i) ([] ∷ parts text) (led b (parts text)))
-    ∙ ap (led b) (parts_cut text at (omega (arith, within)) here (λ k h. none (suc k) (omega (arith, h))))
-    ∙ (let one : suc (at + 1) ≡ suc at + 1 = omega arith in ap (λ n. (b ∷ take at text) ∷ parts (drop n (b ∷ text))) one)
+pub parts_more : (x u : List ℕ) → has_slash x ≡ false → parts (x ++ 47 ∷ u) ≡ x ∷ parts u
+parts_more [] u h = refl
+parts_more (b ∷ x) u h = let f = no_slash b x h in (λ i. cond (f.0 i) ([] ∷ parts (x ++ 47 ∷ u)) (led b (parts (x ++ 47 ∷ u)))) ∙ ap (led b) (parts_more x u f.1)
 
--- ---- by the parts
-
-abbrev nowhere : Option Route
-nowhere = None
-
--- a slash is followed by a part
-parts_some : (text : List ℕ) → (part : List ℕ) × (ps : List (List ℕ)) × (parts text ≡ part ∷ ps)
+pub parts_some : (text : List ℕ) → (part : List ℕ) × (ps : List (List ℕ)) × (parts text ≡ part ∷ ps)
 parts_some [] = ([], [], refl)
 parts_some (b ∷ text) =
     let h = parts_some text in
@@ -86,35 +74,25 @@ parts_some (b ∷ text) =
       | false ↦ (b ∷ h.0, h.1, ap (led b) h.2)
     ]
 
-blanks_alone : (a b : List ℕ) (ps : List (List ℕ)) → route_by (codes "blanks" ∷ a ∷ b ∷ ps) ≡ nowhere
-blanks_alone a b [] = refl
-blanks_alone a b (c ∷ []) = refl
-blanks_alone a b (c ∷ d ∷ []) = refl
-blanks_alone a b (c ∷ d ∷ e ∷ []) = refl
-blanks_alone a b (c ∷ d ∷ e ∷ f ∷ ps) = refl
+pub some : (b : ℕ) (x : List ℕ) → nat_lt 0 (length (b ∷ x)) ≡ true
+some b x = grind (arith, nat_tests)
 
-batch_alone : (a b c : List ℕ) (ps : List (List ℕ)) → route_by (codes "batch" ∷ a ∷ b ∷ c ∷ ps) ≡ nowhere
-batch_alone a b c [] = refl
-batch_alone a b c (d ∷ []) = refl
-batch_alone a b c (d ∷ e ∷ []) = refl
-batch_alone a b c (d ∷ e ∷ f ∷ ps) = refl
+-- where the parts name nothing
+pub among_none : (ps : List (List ℕ)) → route_by ps ≡ None → None ≡ route_among ps
+among_none ps h = rw h (elim (has_no_empty ps) as (λ t. None ≡ cond {A = Option Route} t None None) [ true ↦ refl | false ↦ refl ])
 
--- blanks are named by a product alone
-pub no_more_blanks : (text a rest : List ℕ) → a ∷ parts rest ≡ parts text → nowhere ≡ route_by (codes "blanks" ∷ parts text)
-no_more_blanks text a rest is =
-    let h = parts_some rest in
-    sym (ap (λ ps. route_by (codes "blanks" ∷ ps)) (sym is) ∙ ap (λ ps. route_by (codes "blanks" ∷ a ∷ ps)) h.2 ∙ blanks_alone a h.0 h.1)
+pub route_is : (text : List ℕ) → all_ascii text ≡ true → route_in (47 ∷ text) ≡ route_among (parts text)
+unfolding route_in
+route_is text h = ap (λ (t : Bool). cond t (route_among (parts text)) None) h
 
--- nothing stands behind a part of a batch
-pub no_more_batch : (batch text a rest : List ℕ) → a ∷ parts rest ≡ parts text → nowhere ≡ route_by (codes "batch" ∷ batch ∷ parts text)
-no_more_batch batch text a rest is =
-    let h = parts_some rest in
-    sym (ap (λ ps. route_by (codes "batch" ∷ batch ∷ ps)) (sym is) ∙ ap (λ ps. route_by (codes "batch" ∷ batch ∷ a ∷ ps)) h.2 ∙ batch_alone batch a h.0 h.1)
+-- ---- what is found
 
--- nothing stands behind the product of an import
-pub no_more_import : (client number text batch rest product more : List ℕ) → batch ∷ parts rest ≡ parts text → product ∷ parts more ≡ parts rest
-    → nowhere ≡ route_by (codes "c" ∷ client ∷ number ∷ codes "batch" ∷ parts text)
-no_more_import client number text batch rest product more is then =
-    let h = parts_some more in
-    let behind_word = λ (ps : List (List ℕ)). route_by (codes "c" ∷ client ∷ number ∷ codes "batch" ∷ ps) in
-    sym (ap behind_word (sym is) ∙ ap (λ ps. behind_word (batch ∷ ps)) (sym then) ∙ ap (λ ps. behind_word (batch ∷ product ∷ ps)) h.2)
+abbrev pub Agrees : Option (RouteOf Form) → List ℕ → Type 0
+Agrees None path = None ≡ route_in path
+Agrees (Some r) path = AllText (walk r.pattern r.text path r.names 0 0) × (built r.value (walk r.pattern r.text path r.names 0 0) ≡ route_in path)
+
+pub found : (r : RouteOf Form) (path : List ℕ) (ps : List (List ℕ × List ℕ)) → walk r.pattern r.text path r.names 0 0 ≡ ps → AllText ps → built r.value ps ≡ route_in path → Agrees (Some r) path
+found r path ps w text is = (subst AllText (sym w) text, ap (built r.value) w ∙ is)
+
+pub agree : (path : List ℕ) (a b : Option (RouteOf Form)) → a ≡ b → Agrees b path → Agrees a path
+agree path a b e h = subst (λ r. Agrees r path) (sym e) h

@@ -87,7 +87,7 @@ pub fn to_ask(alloc: Global, message: Message) -> Result<Asked, AskFault>
         target,
         body,
     } = message;
-    let route = route_of(target.as_slice()).ok_or(Refusal::NoRoute)?;
+    let route = route_of(alloc, target.as_slice())?.ok_or(Refusal::NoRoute)?;
     if method.as_slice() != method_text(route.method()) {
         return Err(AskFault::Refused(Refusal::WrongMethod(route.method())));
     }

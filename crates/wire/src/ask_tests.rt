@@ -85,6 +85,30 @@ fn targets_without_a_route_are_refused(rt: HostRuntime) -> Result<(), Fail> {
 }
 
 #[test]
+fn a_target_that_is_not_ascii_has_no_route(rt: HostRuntime) -> Result<(), Fail> {
+    for target in [
+        b"/batch/\xff".as_slice(),
+        b"/batch/\xc3\xa9".as_slice(),
+        b"/batch/B\x801/report".as_slice(),
+        b"\xff".as_slice(),
+    ] {
+        let asked = to_ask(
+            rt.alloc(),
+            Message {
+                method: Bytes::from_vec(b"GET".to_vec(rt.alloc())?),
+                target: Bytes::from_vec(target.to_vec(rt.alloc())?),
+                body: Bytes::from_vec(Vec::new(rt.alloc())),
+            },
+        );
+        match asked {
+            Ok(_) => return Err(Fail::new("taken")),
+            Err(fault) => assert_eq!(rt; fault, AskFault::Refused(NO_ROUTE)),
+        }
+    }
+    Ok(())
+}
+
+#[test]
 fn another_method_is_refused(rt: HostRuntime) -> Result<(), Fail> {
     let table = [
         ("POST", "/batch/B1", ONLY_GET),

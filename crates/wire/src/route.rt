@@ -1,8 +1,12 @@
-//! The targets that are served. No test takes memory.
-ghost use Rattle.std.specs.Prelude.{◌≡◌, ◌<◌, ◌+◌, [], ◌∷◌, MatchOption, codes, drop, length, not, option_map, take};
-ghost use Rattle.wire.specs.Routes.{cut_parts, has_no_empty, method_of, parts, route_among, route_by, route_in, shown};
+//! The targets that are served.
+ghost use Rattle.std.specs.Prelude.{◌≡◌, IfOk, IsAscii, option_map};
+ghost use Rattle.matchit.specs.Params.{AllText, named};
+ghost use Rattle.wire.specs.Routes.{built, method_of, route_in, served, shown, taken};
 
 use crate::reply::Method;
+use matchit::{InsertError, Params, Router};
+use std::alloc::{AllocError, Global};
+use std::str::from_utf8;
 
 /// What a target names, by its parts.
 #[derive(Clone, Copy)]
@@ -27,11 +31,14 @@ pub(crate) enum Route<'a> {
     Blanks(&'a [u8]),
 }
 
-// A text at its first slash: its first part, and what follows the slash, if it has one.
-#[derive(Clone, Copy)]
-enum Cut<'a> {
-    Last(&'a [u8]),
-    More { part: &'a [u8], rest: &'a [u8] },
+// The forms of targets that are served.
+#[derive(Clone, Copy, Drop)]
+enum Form {
+    Job,
+    Import,
+    Batch,
+    Report,
+    Blanks,
 }
 
 impl Route<'_> {
@@ -46,165 +53,70 @@ impl Route<'_> {
     }
 }
 
-/// What a target names, if it is served.
-#[tactic(auto, unfolding(crate::specs::Routes::route_in))]
-pub(crate) fn route_of(target: &[u8]) -> Option<Route<'_>>
-    ensures { option_map shown result ≡ route_in target.now }
+/// What a target names, if it is served. Errors: memory was refused.
+pub(crate) fn route_of<'a>(alloc: Global, target: &'a [u8]) -> Result<Option<Route<'a>>, AllocError>
+    ensures { IfOk result (λ route. option_map shown route ≡ route_in target.now) }
 {
-    match target {
-        [b'/', rest @ ..] => route_behind(rest),
-        _ => None,
+    if !target.is_ascii() {
+        return Ok(None);
+    }
+    match from_utf8(target) {
+        Ok(path) => route_of_path(alloc, path),
+        Err(_) => Ok(None),
     }
 }
 
-// By what follows the first slash.
-fn route_behind(text: &[u8]) -> Option<Route<'_>>
-    ensures { option_map shown result ≡ route_among (parts text.now) }
+// By a router, which is built for each message.
+fn route_of_path<'a>(alloc: Global, path: &'a str) -> Result<Option<Route<'a>>, AllocError>
+    requires { IsAscii path.now }
+    ensures { IfOk result (λ route. option_map shown route ≡ route_in path.now) }
 {
-    if has_empty_part(text) {
-        None
-    } else {
-        route_by(text)
-    }
-}
-
-// By the parts, none of which is empty.
-fn route_by(text: &[u8]) -> Option<Route<'_>>
-    ensures { option_map shown result ≡ route_by (parts text.now) }
-{
-    match cut_at_slash(text) {
-        Cut::Last(_) => None,
-        Cut::More { part, rest } => route_by_word(part, rest),
-    }
-}
-
-// By the first part and those behind it.
-fn route_by_word<'a>(word: &'a [u8], text: &'a [u8]) -> Option<Route<'a>>
-    ensures { option_map shown result ≡ route_by (word.now ∷ parts text.now) }
-{
-    if word == b"batch".as_slice() {
-        of_batch(text)
-    } else if word == b"blanks".as_slice() {
-        of_blanks(text)
-    } else if word == b"c".as_slice() {
-        of_client(text)
-    } else {
-        None
-    }
-}
-
-// By the parts behind `batch`.
-fn of_batch(text: &[u8]) -> Option<Route<'_>>
-    ensures { option_map shown result ≡ route_by (codes "batch" ∷ parts text.now) }
-{
-    match cut_at_slash(text) {
-        Cut::Last(batch) => Some(Route::Batch(batch)),
-        Cut::More { part, rest } => of_report(part, rest),
-    }
-}
-
-// By the parts behind a batch.
-fn of_report<'a>(batch: &'a [u8], text: &'a [u8]) -> Option<Route<'a>>
-    ensures { option_map shown result ≡ route_by (codes "batch" ∷ batch.now ∷ parts text.now) }
-{
-    match cut_at_slash(text) {
-        Cut::Last(word) if word == b"report".as_slice() => Some(Route::Report(batch)),
-        _ => None,
-    }
-}
-
-// By the parts behind `blanks`.
-fn of_blanks(text: &[u8]) -> Option<Route<'_>>
-    ensures { option_map shown result ≡ route_by (codes "blanks" ∷ parts text.now) }
-{
-    match cut_at_slash(text) {
-        Cut::Last(product) => Some(Route::Blanks(product)),
-        Cut::More { .. } => None,
-    }
-}
-
-// By the parts behind `c`.
-fn of_client(text: &[u8]) -> Option<Route<'_>>
-    ensures { option_map shown result ≡ route_by (codes "c" ∷ parts text.now) }
-{
-    match cut_at_slash(text) {
-        Cut::Last(_) => None,
-        Cut::More { part, rest } => of_number(part, rest),
-    }
-}
-
-// By the parts behind a client.
-fn of_number<'a>(client: &'a [u8], text: &'a [u8]) -> Option<Route<'a>>
-    ensures { option_map shown result ≡ route_by (codes "c" ∷ client.now ∷ parts text.now) }
-{
-    match cut_at_slash(text) {
-        Cut::Last(number) => Some(Route::Job { client, number }),
-        Cut::More { part, rest } => of_import(client, part, rest),
-    }
-}
-
-// By the parts behind a client's number.
-fn of_import<'a>(client: &'a [u8], number: &'a [u8], text: &'a [u8]) -> Option<Route<'a>>
-    ensures { option_map shown result ≡ route_by (codes "c" ∷ client.now ∷ number.now ∷ parts text.now) }
-{
-    match cut_at_slash(text) {
-        Cut::More { part, rest } if part == b"batch".as_slice() => of_product(client, number, rest),
-        _ => None,
-    }
-}
-
-// By the parts behind a client's number and `batch`.
-fn of_product<'a>(client: &'a [u8], number: &'a [u8], text: &'a [u8]) -> Option<Route<'a>>
-    ensures { option_map shown result ≡ route_by (codes "c" ∷ client.now ∷ number.now ∷ codes "batch" ∷ parts text.now) }
-{
-    let Cut::More { part, rest } = cut_at_slash(text) else {
-        return None;
+    let Ok(router) = router(alloc) else {
+        return Err(AllocError);
     };
-    match cut_at_slash(rest) {
-        Cut::Last(product) => Some(Route::Import {
-            client,
-            number,
-            batch: part,
-            product,
+    match router.at(path) {
+        Ok(found) => Ok(route_by(*found.value, &found.params)),
+        Err(_) => Ok(None),
+    }
+}
+
+// The forms of targets, each with its pattern.
+fn router(alloc: Global) -> Result<Router<Form>, InsertError>
+    ensures { IfOk result (λ router. router ≡ served) }
+{
+    let mut router = Router::new(alloc);
+    router.insert("/c/{client}/{number}", Form::Job)?;
+    router.insert("/c/{client}/{number}/batch/{batch}/{product}", Form::Import)?;
+    router.insert("/batch/{batch}", Form::Batch)?;
+    router.insert("/batch/{batch}/report", Form::Report)?;
+    router.insert("/blanks/{product}", Form::Blanks)?;
+    Ok(router)
+}
+
+// A target of a form, by what its parameters took.
+fn route_by<'a>(form: Form, params: &Params<'_, 'a>) -> Option<Route<'a>>
+    ensures { AllText (taken params.now) → option_map shown result ≡ built form (taken params.now) }
+{
+    match form {
+        Form::Job => Some(Route::Job {
+            client: part(params, "client")?,
+            number: part(params, "number")?,
         }),
-        Cut::More { .. } => None,
+        Form::Import => Some(Route::Import {
+            client: part(params, "client")?,
+            number: part(params, "number")?,
+            batch: part(params, "batch")?,
+            product: part(params, "product")?,
+        }),
+        Form::Batch => Some(Route::Batch(part(params, "batch")?)),
+        Form::Report => Some(Route::Report(part(params, "batch")?)),
+        Form::Blanks => Some(Route::Blanks(part(params, "product")?)),
     }
 }
 
-fn cut_at_slash(text: &[u8]) -> Cut<'_>
-    ensures { cut_parts result ≡ parts text.now }
+// What the parameter of this name took.
+fn part<'a>(params: &Params<'_, 'a>, name: &str) -> Option<&'a [u8]>
+    ensures { AllText (taken params.now) → option_map (λ part. part.now) result ≡ named name.now (taken params.now) }
 {
-    match first_slash(text) {
-        Some(at) => Cut::More {
-            part: &text[..at],
-            rest: &text[at + 1..],
-        },
-        None => Cut::Last(text),
-    }
-}
-
-fn first_slash(text: &[u8]) -> Option<usize>
-    ensures { MatchOption result (parts text.now ≡ text.now ∷ []) (λ at. (at < length text.now) × (parts text.now ≡ take at text.now ∷ parts (drop (at + 1) text.now))) }
-{
-    for (at, byte) in text.iter().enumerate() {
-        if *byte == b'/' {
-            return Some(at);
-        }
-    }
-    None
-}
-
-// Whether a part between slashes is empty.
-fn has_empty_part(text: &[u8]) -> bool
-    ensures { result ≡ not (has_no_empty (parts text.now)) }
-{
-    let mut empty = true;
-    for byte in text {
-        let slash = *byte == b'/';
-        if slash && empty {
-            return true;
-        }
-        empty = slash;
-    }
-    empty
+    Some(params.get(name)?.as_bytes())
 }
