@@ -1,5 +1,5 @@
 //! What a message asks for.
-ghost use Rattle.std.specs.Prelude.{◌≡◌, ◌<◌, ◌≤◌, ◌^◌, ◌++◌, [], ◌∷◌, Err, IfOk, IfSome, Ok, OnOk, codes, if◌then◌else◌, true};
+ghost use Rattle.std.specs.Prelude.{◌≡◌, ◌<◌, ◌≤◌, ◌^◌, ◌++◌, [], ◌∷◌, Err, IfOk, IfSome, Ok, OnOk, bytes_eq, codes, if◌then◌else◌, true};
 ghost use Rattle.std.specs.Str.Parse.{digits_value};
 ghost use Rattle.store_data.specs.Name.{is_name};
 ghost use Rattle.wire.specs.Asks.{IsAsked, IsInRange, ask_in, ask_with, asked_of, is_number, method_text, number_in, or_malformed};
@@ -88,19 +88,21 @@ pub fn to_ask(alloc: Global, message: Message) -> Result<Asked, AskFault>
         body,
     } = message;
     let route = route_of(alloc, target.as_slice())?.ok_or(Refusal::NoRoute)?;
-    if method.as_slice() != method_text(route.method()) {
+    if !has_method(method.as_slice(), route.method()) {
         return Err(AskFault::Refused(Refusal::WrongMethod(route.method())));
     }
     ask_in(alloc, route, body)
 }
 
-fn method_text(method: Method) -> &'static [u8]
-    ensures { result.now ≡ method_text method }
+// Whether a message's method is that of its target.
+fn has_method(text: &[u8], method: Method) -> bool
+    ensures { result ≡ bytes_eq text.now (method_text method) }
 {
-    match method {
-        Method::Get => b"GET",
-        Method::Post => b"POST",
-    }
+    let wanted = match method {
+        Method::Get => http::Method::GET,
+        Method::Post => http::Method::POST,
+    };
+    text == wanted.as_str().as_bytes()
 }
 
 // By the route of the target, whose method the message has.

@@ -3,6 +3,7 @@ ghost use Rattle.std.specs.Prelude.{◌≡◌};
 ghost use Rattle.wire.specs.Refusals.{body_of, kind_of, status_of};
 
 use crate::reply::{Kind, Method};
+use http::StatusCode;
 
 /// Why a message is answered by a fixed reply (this project's profile).
 #[derive(Clone, Copy, Debug, PartialEq, Eq)]
@@ -26,14 +27,15 @@ impl Refusal {
     pub fn status(self) -> u16
         ensures { result ≡ status_of self }
     {
-        match self {
-            Refusal::Malformed => 400,
-            Refusal::NoRoute => 404,
-            Refusal::WrongMethod(_) => 405,
-            Refusal::TooLarge => 413,
-            Refusal::HeadTooLarge => 431,
-            Refusal::Storage => 503,
-        }
+        let status = match self {
+            Refusal::Malformed => StatusCode::BAD_REQUEST,
+            Refusal::NoRoute => StatusCode::NOT_FOUND,
+            Refusal::WrongMethod(_) => StatusCode::METHOD_NOT_ALLOWED,
+            Refusal::TooLarge => StatusCode::PAYLOAD_TOO_LARGE,
+            Refusal::HeadTooLarge => StatusCode::REQUEST_HEADER_FIELDS_TOO_LARGE,
+            Refusal::Storage => StatusCode::SERVICE_UNAVAILABLE,
+        };
+        status.as_u16()
     }
 
     /// What the reply carries.
