@@ -1,5 +1,6 @@
 -- The texts of replies: HTTP/1.1 (RFC 9112), with the lines of this project's profile. There is no clock, so no date.
-use Rattle.std.specs.Prelude.{ℕ, ◌==◌, List, [], ◌++◌, length, codes, decimal, if◌then◌else◌}
+use Rattle.std.specs.Prelude.{ℕ, ◌==◌, List, [], ◌++◌, length, codes, decimal, if◌then◌else◌, unwrap_or}
+use Rattle.http.specs.StatusCode.{reason_phrase}
 use Rattle.wire.specs.declared.reply.Kind.{Kind}
 use Rattle.wire.specs.declared.reply.Kind.TheVariants.{Json, Report, WrongMethod}
 use Rattle.wire.specs.declared.reply.Method.TheVariants.{Get, Post}
@@ -15,6 +16,10 @@ status_text s =
     else if s == 413 then codes "413 Payload Too Large"
     else if s == 431 then codes "431 Request Header Fields Too Large"
     else codes "503 Service Unavailable"
+
+-- the words that the crate http has for a status
+unfoldable pub phrase : ℕ → List ℕ
+phrase s = unwrap_or (reason_phrase s) []
 
 abbrev pub type_text : Kind → List ℕ
 type_text Json = codes "application/json"

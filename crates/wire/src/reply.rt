@@ -1,7 +1,9 @@
 //! Heads of replies.
 ghost use Rattle.std.specs.Prelude.{◌≡◌, ◌+◌, ◌≤◌, ◌++◌, length, take, codes};
-ghost use Rattle.wire.specs.Texts.{allow_text, head_text, status_text, type_text};
+ghost use Rattle.http.specs.StatusCode.{code_digits};
+ghost use Rattle.wire.specs.Texts.{allow_text, head_text, phrase, status_text, type_text};
 
+use http::StatusCode;
 use itoa::Buffer;
 
 /// What a reply carries.
@@ -30,7 +32,7 @@ pub fn reply_head(status: u16, kind: Kind, size: usize, out: &mut [u8; 256]) -> 
 {
     let mut digits = Buffer::new();
     let at = put(out, 0, b"HTTP/1.1 ");
-    let at = put(out, at, status_text(status).as_bytes());
+    let at = put_status(out, at, known(status));
     let at = put(out, at, b"\r\nContent-Type: ");
     let at = put(out, at, type_text(kind).as_bytes());
     let at = put(out, at, b"\r\nContent-Length: ");
@@ -51,19 +53,40 @@ fn put(out: &mut [u8; 256], at: usize, text: &[u8]) -> usize
     end
 }
 
-fn status_text(status: u16) -> &'static str
-    ensures text { result.now ≡ status_text status }
-    ensures few { length result.now ≤ 35 }
+// Puts a status and its words after what stands at the front, and answers where they end.
+fn put_status(out: &mut [u8; 256], at: usize, status: StatusCode) -> usize
+    requires room { at + 35 ≤ 256 }
+    requires few { length (phrase status) ≤ 31 }
+    ensures text { take result out.new ≡ take at out.old ++ (code_digits status ++ codes " " ++ phrase status) }
+    ensures end { result ≡ at + 4 + length (phrase status) }
+{
+    let at = put(out, at, status.as_str().as_bytes());
+    let at = put(out, at, b" ");
+    put(out, at, words(status).as_bytes())
+}
+
+#[tactic(auto, unfolding(crate::specs::Texts::phrase))]
+fn words(status: StatusCode) -> &'static str
+    ensures { result.now ≡ phrase status }
+{
+    status.canonical_reason().unwrap_or("")
+}
+
+// The status that a reply is sent with.
+#[tactic(auto, unfolding(crate::specs::Texts::phrase))]
+fn known(status: u16) -> StatusCode
+    ensures text { code_digits result ++ codes " " ++ phrase result ≡ status_text status }
+    ensures few { length (phrase result) ≤ 31 }
 {
     match status {
-        200 => "200 OK",
-        400 => "400 Bad Request",
-        404 => "404 Not Found",
-        405 => "405 Method Not Allowed",
-        409 => "409 Conflict",
-        413 => "413 Payload Too Large",
-        431 => "431 Request Header Fields Too Large",
-        _ => "503 Service Unavailable",
+        200 => StatusCode::OK,
+        400 => StatusCode::BAD_REQUEST,
+        404 => StatusCode::NOT_FOUND,
+        405 => StatusCode::METHOD_NOT_ALLOWED,
+        409 => StatusCode::CONFLICT,
+        413 => StatusCode::PAYLOAD_TOO_LARGE,
+        431 => StatusCode::REQUEST_HEADER_FIELDS_TOO_LARGE,
+        _ => StatusCode::SERVICE_UNAVAILABLE,
     }
 }
 
