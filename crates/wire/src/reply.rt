@@ -65,6 +65,7 @@ fn put_status(out: &mut [u8; 256], at: usize, status: StatusCode) -> usize
     put(out, at, words(status).as_bytes())
 }
 
+// The words of a status.
 #[tactic(auto, unfolding(crate::specs::Texts::phrase))]
 fn words(status: StatusCode) -> &'static str
     ensures { result.now ≡ phrase status }

@@ -32,7 +32,7 @@ pub(crate) enum Route<'a> {
 }
 
 // The forms of targets that are served.
-#[derive(Clone, Copy, Drop)]
+#[derive(Clone, Copy)]
 enum Form {
     Job,
     Import,
