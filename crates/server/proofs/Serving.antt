@@ -14,7 +14,7 @@ use Rattle.wire.specs.declared.ask.Asked.TheVariants as asked
 use Rattle.wire.specs.Messages.{Tells}
 use Rattle.server.specs.declared.served.Served.{Served}
 use Rattle.server.specs.Meant.{Meant, Broken, Refused, Asks, Means}
-use Rattle.server.specs.Exchanges.{Exchange, Does, Entry, IsAnswered, IsNext, Moves, Opens, Queue, Serves, ServesAll, moved, shown, tries, tries_at, tries_of}
+use Rattle.server.specs.Exchanges.{Exchange, Does, Entry, IsAnswered, IsFixed, IsNext, Moves, Opens, Queue, Serves, ServesAll, moved, shown, tries, tries_at, tries_of}
 
 abbrev brought : Exchange → List ℕ
 brought e = e.input
@@ -73,7 +73,7 @@ abbrev AnsweredAt : Contents → List Exchange → Exchange → Type 0
 AnsweredAt c before e = IsAnswered (contents_after c (decided (tries before))) e
 
 pub serves_none : (s : State) → ServesAll s s []
-serves_none s = record { means = All-nil (λ (e : Exchange). Means e.input e.meant); leaves = leaves_none s; answered = λ h c held i e is. absurd (none-some e is); next = λ h c held i e is. absurd (none-some e is) }
+serves_none s = record { means = All-nil (λ (e : Exchange). Means e.input e.meant); leaves = leaves_none s; answered = λ h c held i e is. absurd (none-some e is); fixed = All-nil IsFixed; next = λ h c held i e is. absurd (none-some e is) }
 
 pub serves_more : (s0 s1 s2 : State) (es : List Exchange) (e : Exchange) → ServesAll s0 s1 es → Serves s1 s2 e → ServesAll s0 s2 (es ++ e ∷ [])
 serves_more s0 s1 s2 es e all one =
@@ -83,6 +83,7 @@ serves_more s0 s1 s2 es e all one =
       leaves = subst (Leaves s0 s2) (sym (tries_push es e)) (leaves_at e.meant s0 s1 s2 (tries es) b all.leaves one.does);
       answered = λ h c held. let early : IsHonest s1 = omega (arith, doubts_at e.meant s1 s2 b one.does) in
           each_more (AnsweredAt c) es e (all.answered early c held) (one.answered h (contents_after c (decided (tries es))) (all.leaves.contents early c held));
+      fixed = All-push IsFixed es e all.fixed one.fixed;
       next = λ h c held. let early : IsHonest s1 = omega (arith, doubts_at e.meant s1 s2 b one.does) in
           each_more (NextAt c) es e (all.next early c held) (one.next (contents_after c (decided (tries es))) (all.leaves.contents early c held));
     }

@@ -42,6 +42,7 @@ pub unavailable : (m : Meant) (s : State) (served : Served) (written : List ℕ)
 unavailable m s served written undecided is = record {
   does = subst (λ (b : Bool). Does m s s b) (sym undecided) (does_nothing m s);
   answered = λ h c held. inr (undecided, is);
+  fixed = λ none c. inr (undecided, is);
 }
 
 -- behind a head the store may be unavailable
@@ -50,5 +51,6 @@ serves_behind old new e head means may sound = record {
   means = means;
   does = may.does;
   answered = λ h c held. ⊎_elim (λ answer. inl answer) (λ other. inr (head, other)) (may.answered h c held);
+  fixed = λ none c. ⊎_elim (λ answer. inl answer) (λ other. inr (head, other)) (may.fixed none c);
   next = λ c held. is_next c e.meant (sound c held);
 }

@@ -13,7 +13,7 @@ use Rattle.wire.specs.declared.ask.Asked.{Asked}
 use Rattle.wire.specs.declared.ask.Asked.TheVariants as asked
 use Rattle.wire.specs.Messages.{HasHead}
 use Rattle.server.specs.declared.served.Served.{Served}
-use Rattle.server.specs.Meant.{Meant, Broken, Refused, Asks, Means}
+use Rattle.server.specs.Meant.{Meant, Broken, Refused, Asks, AsksNothing, Means}
 use Rattle.server.specs.Replies.{IsAnswer, IsUnavailable}
 
 -- ---- one connection
@@ -28,6 +28,10 @@ pub record Exchange : Type 0 where
 -- the answer, or, only where a head came that passes its tests, that the store is unavailable
 abbrev pub IsAnswered : Contents → Exchange → Type 0
 IsAnswered c e = IsAnswer c e.meant e.served e.written ⊎ (HasHead e.input × IsUnavailable e.served e.written)
+
+-- what asks for nothing has one answer, whatever the store holds or its device does
+abbrev pub IsFixed : Exchange → Type 0
+IsFixed e = AsksNothing e.meant → (c : Contents) → IsAnswered c e
 
 -- an arrival is handled, and all else changes nothing
 abbrev pub AskedDoes : Asked → State → State → Bool → Type 0
@@ -50,6 +54,7 @@ pub record Serves (old new : State) (e : Exchange) : Type 0 where
   pub means : Means e.input e.meant
   pub does : Does e.meant old new e.served.decided
   pub answered : IsHonest new → (c : Contents) → old.holds c → IsAnswered c e
+  pub fixed : IsFixed e
   pub next : (c : Contents) → old.holds c → IsNext c e.meant
 
 -- ---- a list of connections
@@ -82,6 +87,7 @@ pub record ServesAll (old new : State) (es : List Exchange) : Type 0 where
   pub means : All (λ (e : Exchange). Means e.input e.meant) es
   pub leaves : Leaves old new (tries es)
   pub answered : IsHonest new → (c : Contents) → old.holds c → AreAnswered c es
+  pub fixed : All IsFixed es
   pub next : IsHonest new → (c : Contents) → old.holds c → AreNext c es
 
 -- ---- where connections come from, and go

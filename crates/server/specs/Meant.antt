@@ -1,5 +1,5 @@
 -- What the bytes of a connection mean.
-use Rattle.std.specs.Prelude.{◌≡◌, ℕ, List, Result, Ok, Err}
+use Rattle.std.specs.Prelude.{◌≡◌, ℕ, List, Result, Ok, Err, ⊤}
 use Rattle.wire.specs.declared.ask.Asked.{Asked}
 use Rattle.wire.specs.declared.refusal.Refusal.{Refusal}
 use Rattle.wire.specs.Asks.{asked_of}
@@ -11,6 +11,11 @@ pub data Meant : Type 0 where
   Broken : Meant
   Refused : (why : Refusal) → Meant
   Asks : (a : Asked) → Meant
+
+abbrev pub AsksNothing : Meant → Type 0
+AsksNothing Broken = ⊤
+AsksNothing (Refused why) = ⊤
+AsksNothing (Asks a) = ⊥
 
 abbrev pub meant_by : Result Asked Refusal → Meant
 meant_by (Ok a) = Asks a

@@ -31,6 +31,8 @@ const SPOILED: &str = r#"{"result":"spoiled","session":1}"#;
 
 const CLOSED_BATCH: &str = r#"{"code":57,"refused":"batch-closed"}"#;
 
+const BLANK_USED: &str = r#"{"code":60,"refused":"blank-used"}"#;
+
 const MALFORMED: &str = r#"{"code":400,"refused":"malformed"}"#;
 
 /// The blanks of the product where one card runs.
@@ -316,8 +318,10 @@ pub(crate) const BLANKS: &[Exchange] = &[
         "POST /c/m1/1",
         r#"{"do":"open","batch":"B1","blank":1002}"#,
         CONFLICT,
-        r#"{"code":60,"refused":"blank-used"}"#,
+        BLANK_USED,
     ),
+    ("POST /c/m2/1", OPEN, OK, OPENED),
+    ("POST /c/m1/4", OPEN, CONFLICT, BLANK_USED),
     (
         "POST /c/m1/2",
         r#"{"do":"open","batch":"B1","blank":1003}"#,

@@ -25,14 +25,14 @@ returns-in-Broken g c =
     let m = c.in-Broken.ensures in
     let served : Served = record { end = ended.Broken; decided = false } in
     let e : Exchange = record { input = m.0; meant = Broken; written = []; served = served } in
-    (e, m.1, Appends-nil _, refl, record { means = (heard.Broken, m.2, refl); does = stays_same (g.S.JobStore.state c.args.store.now); answered = λ h d held. inl (refl, refl); next = λ d held. tt })
+    (e, m.1, Appends-nil _, refl, record { means = (heard.Broken, m.2, refl); does = stays_same (g.S.JobStore.state c.args.store.now); answered = λ h d held. inl (refl, refl); fixed = λ none d. inl (refl, refl); next = λ d held. tt })
 
 pub returns-in-Refused : goal.returns-in-Refused
 returns-in-Refused g c =
     let m = c.in-Refused.ensures in
     let t = c.refuse.ensures.written in
     let e : Exchange = record { input = m.0; meant = Refused c.in-Refused.why; written = t.0; served = c.refuse.result } in
-    (e, m.1, t.1, refl, record { means = (heard.Refused c.in-Refused.why, m.2, refl); does = stays_same (g.S.JobStore.state c.args.store.now); answered = λ h d held. inl (c.refuse.ensures.decided, t.2); next = λ d held. tt })
+    (e, m.1, t.1, refl, record { means = (heard.Refused c.in-Refused.why, m.2, refl); does = stays_same (g.S.JobStore.state c.args.store.now); answered = λ h d held. inl (c.refuse.ensures.decided, t.2); fixed = λ none d. inl (c.refuse.ensures.decided, t.2); next = λ d held. tt })
 
 pub returns-in-Memory : goal.returns-in-Memory
 returns-in-Memory g c =
