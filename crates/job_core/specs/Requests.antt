@@ -1,7 +1,8 @@
--- What callers owe of a request: its numbers are in their ranges (this project's profile).
-use Rattle.std.specs.Prelude.{◌≤◌, ◌+◌, ◌^◌, ⊤}
+-- What callers owe of a request and of its arrival: their numbers are in their ranges (this project's profile).
+use Rattle.std.specs.Prelude.{◌≤◌, ◌<◌, ◌+◌, ◌^◌, ⊤}
 use Rattle.store_data.specs.Sequence.{IsProduct}
 use Rattle.job_core.specs.declared.facts.Lot.{Lot}
+use Rattle.job_core.specs.declared.request.Arrival.{Arrival}
 use Rattle.job_core.specs.declared.request.Request.{Request}
 use Rattle.job_core.specs.declared.request.Request.TheVariants as request
 
@@ -23,3 +24,9 @@ IsRequest (request.Discard blank) = ⊤
 IsRequest (request.Remake b r) = ⊤
 IsRequest (request.Withdraw b r) = ⊤
 IsRequest (request.Close b) = ⊤
+
+-- number and request in range
+pub record IsArrival (a : Arrival) : Type 0 where
+  pub least : 1 ≤ a.number
+  pub most : a.number < 10 ^ 18
+  pub request : IsRequest a.request

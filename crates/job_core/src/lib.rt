@@ -15,7 +15,7 @@ pub use decision::decide;
 pub use facts::{Lot, RecordState, SessionState};
 pub use refusal::Refusal;
 pub use reply::{Made, Reply};
-pub use request::Request;
+pub use request::{Arrival, Request};
 pub use rows::{
     BatchRow, BatchTotals, BlankTotals, Counts, KeptReply, RecordLine, SegmentRow, SessionRow,
 };

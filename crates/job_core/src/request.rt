@@ -55,3 +55,13 @@ pub enum Request {
         batch: Name,
     },
 }
+
+/// A request under its client's number, with the bytes that asked for it.
+#[derive(Drop)]
+pub struct Arrival {
+    pub client: Name,
+    /// 1 to 999,999,999,999,999,999.
+    pub number: u64,
+    pub ask: Bytes,
+    pub request: Request,
+}

@@ -10,7 +10,7 @@ use Rattle.job_core.specs.declared.store.StoreFault.TheVariants.{Memory, Device,
 use Rattle.job_core.specs.Steps.{step}
 use Rattle.job_core.specs.Store.{AreSame, AreSound, Entry, Contents, State, HasCause, IsHonest, Stays, entry_of}
 use Rattle.reply_store.specs.declared.Kept.{Kept}
-use Rattle.reply_store.specs.declared.Arrival.{Arrival}
+use Rattle.job_core.specs.declared.request.Arrival.{Arrival}
 use Rattle.reply_store.specs.Told.{told}
 use Rattle.reply_store.specs.Meaning.{Arrived, contents_after, answer}
 use Rattle.reply_store.specs.Commands.{HandsOutNext}

@@ -1,24 +1,17 @@
 -- What a list of arrivals does to a store.
-use Rattle.std.specs.Prelude.{◌≡◌, ◌⊎◌, ◌≤◌, ◌<◌, ◌^◌, ℕ, List, [], ◌∷◌, map, filter, take, slice_get, Some, Result, IfOk, All, is_ok, Bool, false}
+use Rattle.std.specs.Prelude.{◌≡◌, ◌⊎◌, ◌≤◌, ℕ, List, [], ◌∷◌, map, filter, take, slice_get, Some, Result, IfOk, All, is_ok, Bool, false}
 use Rattle.job_core.specs.declared.store.StoreFault.{StoreFault}
 use Rattle.job_core.specs.Steps.{step}
 use Rattle.job_core.specs.Store.{AreSame, Contents, State, IsHonest, HasCause}
 use Rattle.reply_store.specs.declared.Kept.{Kept}
-use Rattle.reply_store.specs.declared.Arrival.{Arrival}
+use Rattle.job_core.specs.declared.request.Arrival.{Arrival}
 use Rattle.reply_store.specs.Told.{told}
-use Rattle.job_core.specs.Requests.{IsRequest}
 use Rattle.reply_store.specs.Meaning.{Arrived, contents_after, answer}
 use Rattle.reply_store.specs.Commands.{HandsOutNext}
 use Rattle.reply_store.specs.Handled.{IsFirst}
 
 abbrev pub arrived : Arrival → Arrived
 arrived a = record { client = a.client; number = a.number; ask = a.ask; request = a.request }
-
--- number and request in range
-pub record IsArrival (a : Arrival) : Type 0 where
-  pub least : 1 ≤ a.number
-  pub most : a.number < 10 ^ 18
-  pub request : IsRequest a.request
 
 -- an arrival, and whether the store did not fail it
 abbrev pub Tried : Type 0

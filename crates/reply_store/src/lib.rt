@@ -3,13 +3,13 @@
 
 ghost use Rattle.std.specs.Prelude.{◌≡◌, ◌≤◌, ◌<◌, ◌^◌, All, IfOk, OnErr, length, map};
 ghost use Rattle.std.specs.List.{zip};
-ghost use Rattle.job_core.specs.Requests.{IsRequest};
+ghost use Rattle.job_core.specs.Requests.{IsArrival, IsRequest};
 ghost use Rattle.job_core.specs.Steps.{step};
 ghost use Rattle.job_core.specs.Store.{Commits, Contents, HasCause, IsHonest};
 ghost use Rattle.reply_store.specs.Commands.{HandsOutNext};
 ghost use Rattle.reply_store.specs.Handled.{Handles, done};
 ghost use Rattle.reply_store.specs.Meaning.{told_again};
-ghost use Rattle.reply_store.specs.Runs.{AreNext, IsArrival, Runs, arrived};
+ghost use Rattle.reply_store.specs.Runs.{AreNext, Runs, arrived};
 ghost use Rattle.reply_store.specs.Told.{body_of, status_of, told, told_of};
 
 mod body;
@@ -18,7 +18,7 @@ mod names;
 mod tests;
 
 pub use body::{body_of, name_text, status_of};
-use job_core::{Change, JobStore, KeptReply, Refusal, Reply, Request, StoreFault, decide};
+use job_core::{Arrival, Change, JobStore, KeptReply, Refusal, Reply, Request, StoreFault, decide};
 use std::alloc::{AllocError, Global};
 use store_data::{Bytes, Name};
 
@@ -28,16 +28,6 @@ pub struct Kept {
     /// 200, or 409 for every refusal.
     pub status: u16,
     pub body: Bytes,
-}
-
-/// A request under its client's number, with the bytes that asked for it.
-#[derive(Drop)]
-pub struct Arrival {
-    pub client: Name,
-    /// 1 to 999,999,999,999,999,999.
-    pub number: u64,
-    pub ask: Bytes,
-    pub request: Request,
 }
 
 /// What became of an arrival.

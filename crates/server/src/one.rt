@@ -1,8 +1,9 @@
 //! One connection.
 ghost use Rattle.std.specs.Prelude.{◌≡◌, ℕ, List};
 ghost use Rattle.std.specs.Io.KnownBytes.{Appends};
+ghost use Rattle.job_core.specs.Requests.{IsArrival};
 ghost use Rattle.reply_store.specs.Handled.{Handles};
-ghost use Rattle.reply_store.specs.Runs.{IsArrival, arrived};
+ghost use Rattle.reply_store.specs.Runs.{arrived};
 ghost use Rattle.reply_store.specs.Told.{told};
 ghost use Rattle.wire.specs.Asks.{IsInRange, asked_of};
 ghost use Rattle.wire.specs.Messages.{Tells, came};
@@ -15,8 +16,8 @@ ghost use Rattle.server.specs.Serving.{MayServe};
 use crate::account::account_answer;
 use crate::reply::{refuse, tell};
 use crate::served::{End, Served};
-use job_core::{JobStore, StoreFault};
-use reply_store::{Arrival, Kept, handle};
+use job_core::{Arrival, JobStore, StoreFault};
+use reply_store::{Kept, handle};
 use std::alloc::Global;
 use std::io::Write;
 use wire::{
