@@ -1,59 +1,92 @@
 -- The parts of a target, and what a router's answer has to be.
-use Rattle.std.proofs.Common.{◌≡◌, ℕ, zero, suc, ◌==◌, Bool, true, false, cond, List, [], ◌∷◌, ◌++◌, length, Option, Some, None, refl, sym, ap, subst, ◌∙◌, arith, IsAscii}
-use Rattle.std.specs.Prelude.{◌&&◌, nat_lt}
-use Rattle.std.specs.Str.{IsNotAscii, IsUtf8}
+use Rattle.std.proofs.Common.{◌≡◌, ℕ, ◌==◌, Bool, true, false, cond, List, [], ◌∷◌, ◌++◌, length, get_or, Option, Some, None, refl, sym, ap, subst, ◌∙◌, arith, inl, inr, ltb}
+use Rattle.std.specs.Prelude.{◌&&◌, ◌<◌, ◌+◌, ◌/◌, ◌≤◌, ◌⊎◌, slice_index, if◌then◌else◌, nat_lt}
+use Rattle.std.specs.Str.{IsCharBoundary, IsUtf8, is_utf8}
 use Rattle.std.specs.Char.{is_ascii}
-use Rattle.std.specs.List.{list_all}
 use Rattle.std.proofs.lemmas.Bool.{and_parts}
 use Rattle.std.proofs.lemmas.Bool.Decides.{nat_tests}
-use Rattle.std.proofs.lemmas.List.Folds.{list_all-append}
-use Rattle.std.proofs.lemmas.Str.{IsUtf8-from_ascii}
+use Rattle.std.proofs.Math.Seq.{drop-append_seam, get_or-drop, take-append_seam}
+use Rattle.std.proofs.Math.Utf8.{encode, encodes, scalar, scalar_cases, scalars}
+use Rattle.std.proofs.lemmas.List.{length-append}
+use Rattle.std.proofs.lemmas.Str.Ascii.{IsAscii-cons, IsAscii-nil}
+use Rattle.std.proofs.lemmas.Str.{IsUtf8-append, IsUtf8-drop, IsUtf8-from_ascii, IsUtf8-from_is_utf8, IsUtf8-nil, IsUtf8-past_char, IsUtf8-take, encode_ascii, is_utf8-from_IsUtf8}
 use Rattle.matchit.specs.Params.{AllText, walk}
 use Rattle.matchit.specs.Router.{RouteOf}
 use Rattle.matchit.specs.Seek.{has_slash}
 use Rattle.wire.specs.declared.route.Form.{Form}
-use Rattle.wire.specs.Routes.{Route, built, has_no_empty, led, parts, route_among, route_by, route_in}
+use Rattle.wire.specs.Matched.{built}
+use Rattle.wire.specs.Routes.{Route, has_no_empty, led, parts, route_among, route_by, route_in}
 use Rattle.wire.proofs.RowLemmas.{no_slash}
 
--- ---- ASCII
+-- ---- UTF-8
 
-abbrev pub all_ascii : List ℕ → Bool
-all_ascii text = list_all is_ascii text
+-- a text by its bytes, from the front as far as they are ASCII
+abbrev pub all_text : List ℕ → Bool
+all_text [] = true
+all_text (b ∷ bs) = if is_ascii b then all_text bs else is_utf8 (b ∷ bs)
 
-pub ascii_is : (bs : List ℕ) → IsAscii bs → all_ascii bs ≡ true
-ascii_is [] h = refl
-ascii_is (b ∷ bs) h =
-    let first : is_ascii b ≡ true = let f = h 0 in grind (arith, nat_tests, f) in
-    rw first (ascii_is bs (λ i. h (suc i)))
+one_ascii : (b : ℕ) → b < 128 → IsUtf8 (b ∷ [])
+one_ascii b low = IsUtf8-from_ascii (b ∷ []) (IsAscii-cons b [] low IsAscii-nil)
 
-is_all_ascii : (bs : List ℕ) → all_ascii bs ≡ true → IsAscii bs
-is_all_ascii [] h i = omega arith
-is_all_ascii (b ∷ bs) h zero = let f = (and_parts (is_ascii b) (all_ascii bs) h).0 in grind (arith, nat_tests, f)
-is_all_ascii (b ∷ bs) h (suc i) = is_all_ascii bs (and_parts (is_ascii b) (all_ascii bs) h).1 i
+pub utf8 : (x : List ℕ) → all_text x ≡ true → IsUtf8 x
+utf8 [] h = IsUtf8-nil
+utf8 (b ∷ x) h = by (is_ascii b) refl h (utf8 x)
+  where
+    by : (v : Bool) → is_ascii b ≡ v → cond v (all_text x) (is_utf8 (b ∷ x)) ≡ true → (all_text x ≡ true → IsUtf8 x) → IsUtf8 (b ∷ x)
+    by true e t behind = let low : b < 128 = grind (arith, nat_tests, e) in IsUtf8-append (b ∷ []) x (one_ascii b low) (behind t)
+    by false e t behind = IsUtf8-from_is_utf8 (b ∷ x) t
 
-not_all_ascii : (bs : List ℕ) → IsNotAscii bs → all_ascii bs ≡ false
-not_all_ascii [] (i, h) = absurd (omega (arith, h))
-not_all_ascii (b ∷ bs) (zero, h) = let first : is_ascii b ≡ false = grind (arith, nat_tests, h) in rw first refl
-not_all_ascii (b ∷ bs) (suc i, h) = rw (not_all_ascii bs (i, h)) (elim (is_ascii b) as (λ t. (t && false) ≡ false) [ true ↦ refl | false ↦ refl ])
+pub text_is : (x : List ℕ) → IsUtf8 x → all_text x ≡ true
+text_is [] u = refl
+text_is (b ∷ x) u = by (is_ascii b) refl (text_is x)
+  where
+    by : (v : Bool) → is_ascii b ≡ v → (IsUtf8 x → all_text x ≡ true) → cond v (all_text x) (is_utf8 (b ∷ x)) ≡ true
+    by true e behind = let low : b < 128 = grind (arith, nat_tests, e) in behind (IsUtf8-past_char (b ∷ x) x b u (ap (λ l. l ++ x) (sym (encode_ascii b low))))
+    by false e behind = is_utf8-from_IsUtf8 (b ∷ x) u
 
-pub no_route : (target : List ℕ) → IsNotAscii target → None ≡ route_in target
-unfolding route_in
-no_route [] h = refl
-no_route (b ∷ rest) (zero, h) = let first : (b == 47) ≡ false = grind (arith, nat_tests, h) in rw first refl
-no_route (b ∷ rest) (suc i, h) =
-    rw (not_all_ascii rest (i, h)) (elim (b == 47) as (λ t. None ≡ cond (t && false) (route_among (parts rest)) None) [ true ↦ refl | false ↦ refl ])
+slash : IsUtf8 (47 ∷ [])
+slash = one_ascii 47 (omega arith)
 
-pub utf8 : (x : List ℕ) → all_ascii x ≡ true → IsUtf8 x
-utf8 x h = IsUtf8-from_ascii x (is_all_ascii x h)
+pub text_cut : (x u : List ℕ) → all_text (x ++ 47 ∷ u) ≡ true → (all_text x ≡ true) × (all_text u ≡ true)
+text_cut x u h =
+    let whole = utf8 (x ++ 47 ∷ u) h in
+    let after = drop-append_seam x (47 ∷ u) in
+    let place : length x ≡ length x + 0 = omega arith in
+    let byte : slice_index (x ++ 47 ∷ u) (length x) ≡ 47 =
+    ap (λ (n : ℕ). get_or (x ++ 47 ∷ u) n 0) place ∙ sym (get_or-drop (length x) (x ++ 47 ∷ u) 0 0) ∙ ap (λ (l : List ℕ). get_or l 0 0) after in
+    let at : IsCharBoundary (x ++ 47 ∷ u) (length x) = (omega (arith, length-append x (47 ∷ u)), λ i low. absurd (omega (arith, low, byte))) in
+    let behind : IsUtf8 (47 ∷ u) = subst IsUtf8 after (IsUtf8-drop (x ++ 47 ∷ u) (length x) whole at) in
+    let front : IsUtf8 x = subst IsUtf8 (take-append_seam x (47 ∷ u)) (IsUtf8-take (x ++ 47 ∷ u) (length x) whole at) in
+    (text_is x front, text_is (47 ∷ u) behind)
 
-pub ascii_cut : (x u : List ℕ) → all_ascii (x ++ 47 ∷ u) ≡ true → (all_ascii x ≡ true) × (all_ascii u ≡ true)
-ascii_cut x u h = and_parts (all_ascii x) (all_ascii u) (sym (list_all-append is_ascii x (47 ∷ u)) ∙ h)
+pub text_join : (x u : List ℕ) → all_text x ≡ true → all_text u ≡ true → all_text (x ++ 47 ∷ u) ≡ true
+text_join x u h g = text_is (x ++ 47 ∷ u) (IsUtf8-append x (47 ∷ u) (utf8 x h) (IsUtf8-append (47 ∷ []) u slash (utf8 u g)))
 
-pub ascii_join : (x u : List ℕ) → all_ascii x ≡ true → all_ascii u ≡ true → all_ascii (x ++ 47 ∷ u) ≡ true
-ascii_join x u h g = list_all-append is_ascii x (47 ∷ u) ∙ (λ i. h i && g i)
+-- the first byte of a character is a byte
+first_byte : (c : ℕ) (r : List ℕ) → c < 1114112 → get_or (encode c ++ r) 0 0 < 256
+unfolding encode
+first_byte c r h = by (ltb c 128) refl (ltb c 2048) refl (ltb c 65536) refl _ _ _
+  where
+    by : (p : Bool) → ltb c 128 ≡ p → (q : Bool) → ltb c 2048 ≡ q → (s : Bool) → ltb c 65536 ≡ s → (two three four : List ℕ)
+        → get_or (cond p (c ∷ []) (cond q ((192 + c / 64) ∷ two) (cond s ((224 + c / 4096) ∷ three) ((240 + c / 262144) ∷ four))) ++ r) 0 0 < 256
+    by true e q f s g two three four = let low : c < 128 = grind (arith, nat_tests, e) in omega (arith, low)
+    by false e true f s g two three four = let low : c < 2048 = grind (arith, nat_tests, f) in omega (arith, low)
+    by false e false f true g two three four = let low : c < 65536 = grind (arith, nat_tests, g) in omega (arith, low)
+    by false e false f false g two three four = omega (arith, h)
 
-pub no_token : (b : ℕ) (x : List ℕ) → all_ascii (b ∷ x) ≡ true → (256 == b) ≡ false
-no_token b x h = let f = (and_parts (is_ascii b) (all_ascii x) h).0 in grind (arith, nat_tests, f)
+below : (c : ℕ) → (c < 55296) ⊎ ((57344 ≤ c) × (c < 1114112)) → c < 1114112
+below c (inl h) = omega (arith, h)
+below c (inr h) = h.1
+
+byte_of : (b : ℕ) (x : List ℕ) → IsUtf8 (b ∷ x) → b < 256
+byte_of b x u = by u.0 u.1.0 u.1.1
+  where
+    by : (cs : List ℕ) → scalars cs ≡ true → encodes cs ≡ b ∷ x → b < 256
+    by [] s e = absurd (omega (arith, ap length e))
+    by (c ∷ cs) s e = subst (λ (n : ℕ). n < 256) (ap (λ (t : List ℕ). get_or t 0 0) e) (first_byte c (encodes cs) (below c (scalar_cases c (and_parts (scalar c) (scalars cs) s).0)))
+
+pub no_token : (b : ℕ) (x : List ℕ) → all_text (b ∷ x) ≡ true → (256 == b) ≡ false
+no_token b x h = let f = byte_of b x (utf8 (b ∷ x) h) in grind (arith, nat_tests, f)
 
 -- ---- parts
 
@@ -81,9 +114,21 @@ some b x = grind (arith, nat_tests)
 pub among_none : (ps : List (List ℕ)) → route_by ps ≡ None → None ≡ route_among ps
 among_none ps h = rw h (elim (has_no_empty ps) as (λ t. None ≡ cond {A = Option Route} t None None) [ true ↦ refl | false ↦ refl ])
 
-pub route_is : (text : List ℕ) → all_ascii text ≡ true → route_in (47 ∷ text) ≡ route_among (parts text)
+pub route_is : (text : List ℕ) → all_text text ≡ true → route_in (47 ∷ text) ≡ route_among (parts text)
 unfolding route_in
-route_is text h = ap (λ (t : Bool). cond t (route_among (parts text)) None) h
+route_is text h = ap (λ (t : Bool). cond t (route_among (parts text)) None) (is_utf8-from_IsUtf8 text (utf8 text h))
+
+pub no_route : (target : List ℕ) → ¬ (IsUtf8 target) → None ≡ route_in target
+unfolding route_in
+no_route [] h = refl
+no_route (b ∷ rest) h = by (b == 47) refl (is_utf8 rest) refl
+  where
+    by : (v : Bool) → (b == 47) ≡ v → (w : Bool) → is_utf8 rest ≡ w → None ≡ cond (v && w) (route_among (parts rest)) None
+    by false e w f = refl
+    by true e false f = refl
+    by true e true f =
+        let is : b ≡ 47 = grind (arith, nat_tests, e) in
+        absurd (h (subst (λ c. IsUtf8 (c ∷ rest)) (sym is) (IsUtf8-append (47 ∷ []) rest slash (IsUtf8-from_is_utf8 rest f))))
 
 -- ---- what is found
 

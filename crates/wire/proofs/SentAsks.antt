@@ -13,7 +13,7 @@ use Rattle.reply_store.proofs.Escapes.{name_plain}
 use Rattle.wire.specs.Asks.{is_number, name_in, number_in}
 use Rattle.wire.specs.Routes.{Job, Import, has_no_empty, led, parts, route_by, route_in}
 use Rattle.wire.specs.Sending.{import_tail, target_with}
-use Rattle.wire.proofs.RouteLemmas.{all_ascii, ascii_join, route_is}
+use Rattle.wire.proofs.RouteLemmas.{all_text, text_join, route_is}
 use Rattle.wire.proofs.SentHeads.{digits_are_digits}
 
 -- ---- the target's parts
@@ -47,12 +47,12 @@ digits_are_plain (d ∷ ds) h = ap (λ (t : Bool). t && list_all is_name_char ds
 pub decimal_is_plain : (n : ℕ) → n < 2 ^ 64 → IsPlain (decimal n)
 decimal_is_plain n h = digits_are_plain (decimal n) (decimal_is_IsNumeral n h).0.1
 
-plain_is_ascii : (xs : List ℕ) → IsPlain xs → all_ascii xs ≡ true
-plain_is_ascii [] h = refl
-plain_is_ascii (b ∷ xs) h =
+plain_is_text : (xs : List ℕ) → IsPlain xs → all_text xs ≡ true
+plain_is_text [] h = refl
+plain_is_text (b ∷ xs) h =
     let both = and_parts (is_name_char b) (list_all is_name_char xs) h in
     let first : is_ascii b ≡ true = let f = both.0 in grind (arith, nat_tests, f) in
-    rw first (plain_is_ascii xs both.1)
+    rw first (plain_is_text xs both.1)
 
 name_is_some : (n : List ℕ) → IsTrue (is_name n) → nat_lt 0 (length n) ≡ true
 name_is_some n h = grind (arith, nat_tests)
@@ -66,8 +66,8 @@ job_route client number name few =
     ap (λ (ps : List (List ℕ)). led 99 ([] ∷ ps)) (parts_more client (decimal number) (name_plain client name) ∙ ap (λ (ps : List (List ℕ)). client ∷ ps) (parts_end (decimal number) (decimal_is_plain number few))) in
     let text : target_with client number [] ≡ 47 ∷ (codes "c/" ++ (client ++ 47 ∷ decimal number)) =
     append-nil (codes "/c/" ++ client ++ codes "/" ++ decimal number) ∙ ap (λ (l : List ℕ). 47 ∷ 99 ∷ 47 ∷ l) (append_assoc client (codes "/") (decimal number)) in
-    let ascii = ascii_join client (decimal number) (plain_is_ascii client (name_plain client name)) (plain_is_ascii (decimal number) (decimal_is_plain number few)) in
-    ap route_in text ∙ route_is (codes "c/" ++ (client ++ 47 ∷ decimal number)) ascii ∙ (λ i. cond (has_no_empty (cut i)) (route_by (cut i)) None)
+    let valid = text_join client (decimal number) (plain_is_text client (name_plain client name)) (plain_is_text (decimal number) (decimal_is_plain number few)) in
+    ap route_in text ∙ route_is (codes "c/" ++ (client ++ 47 ∷ decimal number)) valid ∙ (λ i. cond (has_no_empty (cut i)) (route_by (cut i)) None)
     ∙ (rw (name_is_some client name, decimal_is_some number few) refl)
 
 pub import_route : (client batch product : List ℕ) (number : ℕ) → IsTrue (is_name client) → IsTrue (is_name batch) → IsTrue (is_name product) → number < 2 ^ 64
@@ -83,10 +83,10 @@ import_route client batch product number name b p few =
     let text : target_with client number (import_tail batch product) ≡ 47 ∷ (codes "c/" ++ (client ++ 47 ∷ (decimal number ++ 47 ∷ (codes "batch/" ++ rest)))) =
     ap (λ (l : List ℕ). 47 ∷ 99 ∷ 47 ∷ l) (append_assoc (client ++ codes "/") (decimal number) (import_tail batch product) ∙ append_assoc client (codes "/") (decimal number ++ import_tail batch product)
     ∙ ap (λ (l : List ℕ). client ++ 47 ∷ (decimal number ++ 47 ∷ (codes "batch/" ++ l))) (append_assoc batch (codes "/") product)) in
-    let ascii = ascii_join client (decimal number ++ 47 ∷ (codes "batch/" ++ rest)) (plain_is_ascii client (name_plain client name))
-    (ascii_join (decimal number) (codes "batch/" ++ rest) (plain_is_ascii (decimal number) (decimal_is_plain number few))
-    (ascii_join batch product (plain_is_ascii batch (name_plain batch b)) (plain_is_ascii product (name_plain product p)))) in
-    ap route_in text ∙ route_is (codes "c/" ++ (client ++ 47 ∷ (decimal number ++ 47 ∷ (codes "batch/" ++ rest)))) ascii ∙ (λ i. cond (has_no_empty (cut i)) (route_by (cut i)) None)
+    let valid = text_join client (decimal number ++ 47 ∷ (codes "batch/" ++ rest)) (plain_is_text client (name_plain client name))
+    (text_join (decimal number) (codes "batch/" ++ rest) (plain_is_text (decimal number) (decimal_is_plain number few))
+    (text_join batch product (plain_is_text batch (name_plain batch b)) (plain_is_text product (name_plain product p)))) in
+    ap route_in text ∙ route_is (codes "c/" ++ (client ++ 47 ∷ (decimal number ++ 47 ∷ (codes "batch/" ++ rest)))) valid ∙ (λ i. cond (has_no_empty (cut i)) (route_by (cut i)) None)
     ∙ (rw (name_is_some client name, decimal_is_some number few, name_is_some batch b, name_is_some product p) refl)
 
 -- ---- names and numbers

@@ -6,7 +6,7 @@ use Rattle.std.specs.Str.Parse.{digits_value}
 use Rattle.store_data.specs.Name.{is_name}
 use Rattle.job_core.specs.declared.request.Request.{Request}
 use Rattle.job_core.specs.declared.request.Request.TheVariants as request
-use Rattle.reply_store.specs.Runs.{IsArrival}
+use Rattle.job_core.specs.Requests.{IsArrival}
 use Rattle.wire.specs.declared.ask.Asked.{Asked}
 use Rattle.wire.specs.declared.ask.Asked.TheVariants as asked
 use Rattle.wire.specs.declared.ask.AskFault.{AskFault}

@@ -4,6 +4,7 @@ pub mod Heads
 pub mod Judged
 pub mod Brought
 pub mod Reaching
+pub mod Matched
 pub mod Messages
 pub mod Routes
 pub mod Requests

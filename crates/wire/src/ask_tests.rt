@@ -1,7 +1,6 @@
 //! What messages ask for.
 use super::{AskFault, Asked, Message, Method, Refusal, Wanted, to_ask};
-use job_core::Request;
-use reply_store::Arrival;
+use job_core::{Arrival, Request};
 use std::alloc::{AllocError, Global};
 use std::process::Abort;
 use std::test::Fail;
@@ -26,14 +25,17 @@ fn message(alloc: Global, method: &str, target: &str, body: &str) -> Result<Mess
     })
 }
 
-// A message with no body is refused so.
+// A message is refused so, though its body is a request.
 fn check_refused<R: Abort + AllocGlobal>(
     rt: &R,
     method: &str,
     target: &str,
     why: Refusal,
 ) -> Result<(), Fail> {
-    let asked = to_ask(rt.alloc(), message(rt.alloc(), method, target, "")?);
+    let asked = to_ask(
+        rt.alloc(),
+        message(rt.alloc(), method, target, r#"{"do":"reset"}"#)?,
+    );
     let told = match asked {
         Ok(_) => None,
         Err(fault) => Some(fault),
@@ -76,6 +78,9 @@ fn targets_without_a_route_are_refused(rt: HostRuntime) -> Result<(), Fail> {
         "batch/B1",
         "http://x",
         "http://x/batch/B1",
+        "é",
+        "/é",
+        "/bätch/B1",
     ];
     for target in targets {
         check_refused(&rt, "GET", target, NO_ROUTE)?;
@@ -85,10 +90,9 @@ fn targets_without_a_route_are_refused(rt: HostRuntime) -> Result<(), Fail> {
 }
 
 #[test]
-fn a_target_that_is_not_ascii_has_no_route(rt: HostRuntime) -> Result<(), Fail> {
+fn a_target_that_is_not_text_has_no_route(rt: HostRuntime) -> Result<(), Fail> {
     for target in [
         b"/batch/\xff".as_slice(),
-        b"/batch/\xc3\xa9".as_slice(),
         b"/batch/B\x801/report".as_slice(),
         b"\xff".as_slice(),
     ] {
@@ -116,6 +120,7 @@ fn another_method_is_refused(rt: HostRuntime) -> Result<(), Fail> {
         ("HEAD", "/batch/B1", ONLY_GET),
         ("get", "/batch/B1", ONLY_GET),
         ("POST", "/batch/a.b", ONLY_GET),
+        ("POST", "/batch/é", ONLY_GET),
         ("POST", "/batch/B1/report", ONLY_GET),
         ("POST", "/blanks/P1", ONLY_GET),
         ("GET", "/c/office/1", ONLY_POST),
@@ -136,6 +141,9 @@ fn names_and_numbers_have_their_forms(rt: HostRuntime) -> Result<(), Fail> {
         ("GET", "/batch/B1?x=1"),
         ("GET", "/batch/B%31"),
         ("GET", "/batch/a.b/report"),
+        ("GET", "/batch/é"),
+        ("GET", "/batch/é/report"),
+        ("POST", "/c/é/1"),
         ("GET", "/blanks/ABCDEFGHIJKLMNOPQRSTUVWXYZ0123456"),
         ("POST", "/c/office/01"),
         ("POST", "/c/office/0"),

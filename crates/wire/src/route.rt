@@ -1,7 +1,8 @@
 //! The targets that are served.
-ghost use Rattle.std.specs.Prelude.{◌≡◌, IfOk, IsAscii, option_map};
+ghost use Rattle.std.specs.Prelude.{◌≡◌, IfOk, IsUtf8, option_map};
 ghost use Rattle.matchit.specs.Params.{AllText, named};
-ghost use Rattle.wire.specs.Routes.{built, method_of, route_in, served, shown, taken};
+ghost use Rattle.wire.specs.Matched.{built, forms, shown, taken};
+ghost use Rattle.wire.specs.Routes.{method_of, route_in};
 
 use crate::reply::Method;
 use matchit::{InsertError, Params, Router};
@@ -57,9 +58,6 @@ impl Route<'_> {
 pub(crate) fn route_of<'a>(alloc: Global, target: &'a [u8]) -> Result<Option<Route<'a>>, AllocError>
     ensures { IfOk result (λ route. option_map shown route ≡ route_in target.now) }
 {
-    if !target.is_ascii() {
-        return Ok(None);
-    }
     match from_utf8(target) {
         Ok(path) => route_of_path(alloc, path),
         Err(_) => Ok(None),
@@ -68,7 +66,7 @@ pub(crate) fn route_of<'a>(alloc: Global, target: &'a [u8]) -> Result<Option<Rou
 
 // By a router, which is built for each message.
 fn route_of_path<'a>(alloc: Global, path: &'a str) -> Result<Option<Route<'a>>, AllocError>
-    requires { IsAscii path.now }
+    requires { IsUtf8 path.now }
     ensures { IfOk result (λ route. option_map shown route ≡ route_in path.now) }
 {
     let Ok(router) = router(alloc) else {
@@ -82,7 +80,7 @@ fn route_of_path<'a>(alloc: Global, path: &'a str) -> Result<Option<Route<'a>>, 
 
 // The forms of targets, each with its pattern.
 fn router(alloc: Global) -> Result<Router<Form>, InsertError>
-    ensures { IfOk result (λ router. router ≡ served) }
+    ensures { IfOk result (λ router. router ≡ forms) }
 {
     let mut router = Router::new(alloc);
     router.insert("/c/{client}/{number}", Form::Job)?;
