@@ -1,6 +1,6 @@
 //! Exchanges with a store of lists, as docs/PROTOCOL.md has them: a client asks under a number, and is told a status and a body.
-ghost use Rattle.std.specs.Prelude.{IfSome};
-ghost use Rattle.job_core.specs.Requests.{IsRequest};
+ghost use Rattle.std.specs.Prelude.{All, IfOk, IfSome};
+ghost use Rattle.job_core.specs.Requests.{IsArrival, IsRequest};
 
 mod bodies;
 mod faults;
@@ -147,16 +147,46 @@ fn request_of(alloc: Global, asked: Asked<'_>) -> Option<Request>
     }
 }
 
-// What a line is told, its ask being what it asks in print. `Memory` where the line isn't made.
-fn told(alloc: Global, store: &mut ListStore, line: &Line<'_>) -> Outcome {
+// The arrival of a line, its ask being what it asks in print.
+fn arrival_of(alloc: Global, line: &Line<'_>) -> Option<Arrival>
+    ensures { IfSome result IsArrival }
+{
     let Line(client, number, asked, ..) = *line;
-    let client = name(client).ok_or(StoreFault::Memory)?;
     if number == 0 || number >= 1_000_000_000_000_000_000 {
-        return Err(StoreFault::Memory);
+        return None;
     }
-    let request = request_of(alloc, asked).ok_or(StoreFault::Memory)?;
-    let ask = format!(in alloc; "{asked:?}")?;
-    handle(alloc, store, &client, number, ask.as_bytes(), &request)
+    let ask = format!(in alloc; "{asked:?}").ok()?;
+    Some(Arrival {
+        client: name(client)?,
+        number,
+        ask: Bytes::from_vec(ask.into_bytes()),
+        request: request_of(alloc, asked)?,
+    })
+}
+
+fn arrivals_of(alloc: Global, lines: &[Line<'_>]) -> Result<Vec<Arrival>, StoreFault>
+    ensures { IfOk result (λ arrivals. All IsArrival arrivals.items) }
+{
+    let mut arrivals = Vec::with_capacity(alloc, lines.len())?;
+    for line in lines {
+        let Some(arrival) = arrival_of(alloc, line) else {
+            return Err(StoreFault::Memory);
+        };
+        arrivals.push(arrival)?;
+    }
+    Ok(arrivals)
+}
+
+// What a line is told. `Memory` where its arrival isn't made.
+fn told(alloc: Global, store: &mut ListStore, line: &Line<'_>) -> Outcome {
+    let arrival = arrival_of(alloc, line).ok_or(StoreFault::Memory)?;
+    let Arrival {
+        client,
+        number,
+        ask,
+        request,
+    } = arrival;
+    handle(alloc, store, &client, number, ask.as_slice(), &request)
 }
 
 fn check_told(rt: &impl Abort, line: &Line<'_>, kept: &Kept) -> Result<(), Fail> {
@@ -170,16 +200,18 @@ fn check_told(rt: &impl Abort, line: &Line<'_>, kept: &Kept) -> Result<(), Fail>
     Ok(())
 }
 
-// Each line in turn is told what it says.
+// In one run each line is told what it says.
 fn tell(
     rt: &impl Abort,
     alloc: Global,
     store: &mut ListStore,
     lines: &[Line<'_>],
 ) -> Result<(), Fail> {
-    for line in lines {
-        let kept = told(alloc, store, line)?;
-        check_told(rt, line, &kept)?;
+    let arrivals = arrivals_of(alloc, lines)?;
+    let outcomes = run(alloc, store, &arrivals)?;
+    assert_eq!(rt; outcomes.len(), lines.len());
+    for (line, outcome) in lines.iter().zip(outcomes) {
+        check_told(rt, line, &outcome?)?;
     }
     Ok(())
 }

@@ -1,8 +1,9 @@
 //! Refused memory, by `rt try --test --fail-alloc N`: each line is told what it says, or `Memory` and then what it says.
-ghost use Rattle.reply_store.specs.Runs.{IsArrival};
+ghost use Rattle.job_core.specs.Requests.{IsArrival};
 
 use super::worked::{
-    CLOSING, Exchange, LATE_RESET, MADE_AGAIN, REFUSED, REPEATS, STOCKING, TOLERANT, WITHDRAWALS,
+    CLOSING, Exchange, GOOD_WORDS, LATE_RESET, MADE_AGAIN, REFUSED, REPEATS, SPOILING_WORDS,
+    STOCKING, TOLERANT, WITHDRAWALS,
 };
 use super::*;
 
@@ -93,6 +94,22 @@ fn a_record_is_withdrawn_after_refused_memory(rt: HostRuntime) -> Result<(), Fai
 #[test]
 fn two_pieces_are_sent_after_refused_memory(rt: HostRuntime) -> Result<(), Fail> {
     check_exchange(&rt, rt.alloc(), &TOLERANT)
+}
+
+#[test]
+fn words_go_on_after_refused_memory(rt: HostRuntime) -> Result<(), Fail> {
+    for exchange in &GOOD_WORDS {
+        check_exchange(&rt, rt.alloc(), exchange)?;
+    }
+    Ok(())
+}
+
+#[test]
+fn words_spoil_after_refused_memory(rt: HostRuntime) -> Result<(), Fail> {
+    for exchange in &SPOILING_WORDS {
+        check_exchange(&rt, rt.alloc(), exchange)?;
+    }
+    Ok(())
 }
 
 #[test]

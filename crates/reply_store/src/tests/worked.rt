@@ -148,6 +148,92 @@ pub(super) const TOLERANT: Exchange = Exchange {
     blanks: [1, 3, 1, 0, 0, 0],
 };
 
+// The words of a session of two pieces with which its card is good.
+pub(super) const GOOD_WORDS: [Exchange; 2] = [
+    Exchange {
+        max: 16,
+        raw: TWO_PIECES,
+        lines: &[
+            Line("m1", 1, Asked::Open("B1", 1000), 200, OPENED),
+            Line("m1", 2, Asked::Answer(1, 0, 0x9000), 200, FIRST_PIECE),
+            Line("m1", 3, Asked::Answer(1, 1, 0x9000), 200, LAST_PIECE),
+            Line("m1", 4, Asked::Answer(1, 2, 0x6A88), 200, GOOD),
+        ],
+        batch: [1, 0, 0, 0, 0, 1, 1, 0],
+        blanks: [1, 3, 1, 0, 0, 0],
+    },
+    Exchange {
+        max: 16,
+        raw: TWO_PIECES,
+        lines: &[
+            Line("m1", 1, Asked::Open("B1", 1000), 200, OPENED),
+            Line("m1", 2, Asked::Answer(1, 0, 0x6110), 200, FIRST_PIECE),
+            Line("m1", 3, Asked::Answer(1, 1, 0x9000), 200, LAST_PIECE),
+            Line("m1", 4, Asked::Answer(1, 2, 0x9000), 200, GOOD),
+        ],
+        batch: [1, 0, 0, 0, 0, 1, 1, 0],
+        blanks: [1, 3, 1, 0, 0, 0],
+    },
+];
+
+// Those of which the last spoils its card.
+pub(super) const SPOILING_WORDS: [Exchange; 5] = [
+    Exchange {
+        max: 16,
+        raw: TWO_PIECES,
+        lines: &[
+            Line("m1", 1, Asked::Open("B1", 1000), 200, OPENED),
+            Line("m1", 2, Asked::Answer(1, 0, 0x6A88), 200, SPOILED),
+        ],
+        batch: [1, 0, 0, 1, 0, 0, 1, 1],
+        blanks: [1, 3, 0, 0, 1, 0],
+    },
+    Exchange {
+        max: 16,
+        raw: TWO_PIECES,
+        lines: &[
+            Line("m1", 1, Asked::Open("B1", 1000), 200, OPENED),
+            Line("m1", 2, Asked::Answer(1, 0, 0x6283), 200, SPOILED),
+        ],
+        batch: [1, 0, 0, 1, 0, 0, 1, 1],
+        blanks: [1, 3, 0, 0, 1, 0],
+    },
+    Exchange {
+        max: 16,
+        raw: TWO_PIECES,
+        lines: &[
+            Line("m1", 1, Asked::Open("B1", 1000), 200, OPENED),
+            Line("m1", 2, Asked::Answer(1, 0, 0x9000), 200, FIRST_PIECE),
+            Line("m1", 3, Asked::Answer(1, 1, 0x6A88), 200, SPOILED),
+        ],
+        batch: [1, 0, 0, 1, 0, 0, 1, 1],
+        blanks: [1, 3, 0, 0, 1, 0],
+    },
+    Exchange {
+        max: 16,
+        raw: TWO_PIECES,
+        lines: &[
+            Line("m1", 1, Asked::Open("B1", 1000), 200, OPENED),
+            Line("m1", 2, Asked::Answer(1, 0, 0x9000), 200, FIRST_PIECE),
+            Line("m1", 3, Asked::Answer(1, 1, 0x6283), 200, SPOILED),
+        ],
+        batch: [1, 0, 0, 1, 0, 0, 1, 1],
+        blanks: [1, 3, 0, 0, 1, 0],
+    },
+    Exchange {
+        max: 16,
+        raw: TWO_PIECES,
+        lines: &[
+            Line("m1", 1, Asked::Open("B1", 1000), 200, OPENED),
+            Line("m1", 2, Asked::Answer(1, 0, 0x9000), 200, FIRST_PIECE),
+            Line("m1", 3, Asked::Answer(1, 1, 0x9000), 200, LAST_PIECE),
+            Line("m1", 4, Asked::Answer(1, 2, 0x6283), 200, SPOILED),
+        ],
+        batch: [1, 0, 0, 1, 0, 0, 1, 1],
+        blanks: [1, 3, 0, 0, 1, 0],
+    },
+];
+
 pub(super) const STOCKING: Exchange = Exchange {
     max: 255,
     raw: SMALL,
@@ -187,9 +273,14 @@ pub(super) const STOCKING: Exchange = Exchange {
         Line("m1", 3, Asked::Open("B1", 2000), 409, OTHER_PRODUCT),
         Line("office", 10, Asked::Lot("L2", "P1", 1002, 5), 409, OVERLAP),
         Line("office", 11, Asked::Lot("L2", "P1", 1003, 5), 200, MADE_L2),
+        Line("m1", 4, Asked::Open("B1", 1000), 200, OPENED),
+        Line("m2", 1, Asked::Open("B1", 1000), 409, USED),
+        Line("m1", 5, Asked::Abort(1), 200, SPOILED),
+        Line("m1", 6, Asked::Open("B1", 1000), 409, USED),
+        Line("office", 12, Asked::Discard(1000), 409, USED),
     ],
-    batch: [1, 1, 0, 0, 0, 0, 0, 0],
-    blanks: [2, 8, 0, 0, 0, 1],
+    batch: [1, 0, 0, 1, 0, 0, 1, 1],
+    blanks: [2, 8, 0, 0, 1, 1],
 };
 
 // The refusals that the other exchanges lack.
@@ -279,33 +370,18 @@ fn what_is_unknown_or_differs_is_refused(rt: HostRuntime) -> Result<(), Fail> {
     check_exchange(&rt, rt.alloc(), &REFUSED)
 }
 
-// A session of two pieces is opened, and its words are answered so.
-fn check_words(rt: &impl Abort, alloc: Global, words: &[(u16, &str)]) -> Result<(), Fail> {
-    let opened = [Line("m1", 1, Asked::Open("B1", 1000), 200, OPENED)];
-    let mut store = store_after(rt, alloc, 16, TWO_PIECES, &opened)?;
-    for (i, (sw, body)) in (0u32..3).zip(words) {
-        let asked = Asked::Answer(1, i, *sw);
-        tell(
-            rt,
-            alloc,
-            &mut store,
-            &[Line("m1", 2 + u64::from(i), asked, 200, body)],
-        )?;
+#[test]
+fn a_tolerant_last_piece_may_be_answered_6a88(rt: HostRuntime) -> Result<(), Fail> {
+    for exchange in &GOOD_WORDS {
+        check_exchange(&rt, rt.alloc(), exchange)?;
     }
     Ok(())
 }
 
 #[test]
-fn a_tolerant_last_piece_may_be_answered_6a88(rt: HostRuntime) -> Result<(), Fail> {
-    let table: [&[(u16, &str)]; 5] = [
-        &[(0x9000, FIRST_PIECE), (0x9000, LAST_PIECE), (0x6A88, GOOD)],
-        &[(0x6110, FIRST_PIECE), (0x9000, LAST_PIECE), (0x9000, GOOD)],
-        &[(0x9000, FIRST_PIECE), (0x6A88, SPOILED)],
-        &[(0x6A88, SPOILED)],
-        &[(0x6283, SPOILED)],
-    ];
-    for words in table {
-        check_words(&rt, rt.alloc(), words)?;
+fn a_word_that_does_not_go_on_spoils(rt: HostRuntime) -> Result<(), Fail> {
+    for exchange in &SPOILING_WORDS {
+        check_exchange(&rt, rt.alloc(), exchange)?;
     }
     Ok(())
 }
