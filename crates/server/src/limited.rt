@@ -1,4 +1,5 @@
-//! A writer that fails.
+//! A writer that fails, and connections whose writers fail.
+use super::{Connections, MemoryReader, NextFault, Replied, Served};
 use std::alloc::Global;
 use std::io::{self, ErrorKind, Write};
 
@@ -34,5 +35,46 @@ impl Write for Limited {
 
     fn flush(&mut self) -> io::Result<()> {
         Ok(())
+    }
+}
+
+/// Connections that bring these bytes in pieces of at most so many, each to a writer with so much room that takes one byte at a call.
+#[derive(Drop)]
+pub(crate) struct LimitedConnections {
+    pub(crate) alloc: Global,
+    pub(crate) most: usize,
+    pub(crate) inputs: Vec<(Vec<u8>, usize)>,
+    pub(crate) replies: Vec<Replied>,
+}
+
+impl Connections for LimitedConnections {
+    ghost use Rattle.std.specs.Prelude.{None, ⊤};
+
+    type In = MemoryReader;
+
+    type Out = Limited;
+
+    // The tests look at what was written; the prover is told nothing.
+    ghost queue = { λ _. None };
+
+    ghost awaits = { λ _. ⊤ };
+
+    ghost refuses = { λ _ _. ⊤ };
+
+    fn next(&mut self) -> Result<(MemoryReader, Limited), NextFault> {
+        let Some((bytes, room)) = self.inputs.get(self.replies.len()) else {
+            return Err(NextFault::Device);
+        };
+        let reader = MemoryReader::new(bytes.to_vec(self.alloc)?, self.most);
+        Ok((reader, Limited::new(self.alloc, *room, 1)))
+    }
+
+    fn back(&mut self, _incoming: MemoryReader, writer: Limited, served: Served) {
+        let reply = Replied {
+            written: writer.taken,
+            served,
+        };
+        // Where memory is refused the reply is missing, which the test sees.
+        let _ = self.replies.push(reply);
     }
 }

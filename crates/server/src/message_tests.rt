@@ -31,11 +31,35 @@ const NO_ROUTE: &str =
 const HEAD_TOO_LARGE: &str =
     "HTTP/1.1 431 Request Header Fields Too Large\r\nContent-Type: application/json\r\nContent-Length: 39\r\nConnection: close\r\n\r\n{\"code\":431,\"refused\":\"head-too-large\"}";
 
+const DELETE: &str = "DELETE /batch/B9 HTTP/1.1\r\n\r\n";
+
+const NO_NAME: &str = "GET /batch/ HTTP/1.1\r\n\r\n";
+
+const LONG: &str = "GET /batch/B9 HTTP/1.1\r\nContent-Length: 1048577\r\n\r\n";
+
+const TOO_LARGE: &str =
+    "HTTP/1.1 413 Payload Too Large\r\nContent-Type: application/json\r\nContent-Length: 34\r\nConnection: close\r\n\r\n{\"code\":413,\"refused\":\"too-large\"}";
+
+const RESET: &str =
+    "HTTP/1.1 200 OK\r\nContent-Type: application/json\r\nContent-Length: 30\r\nConnection: close\r\n\r\n{\"result\":\"reset\",\"session\":0}";
+
+// Nothing of a message is kept whose last byte is missing: its number is free for another one.
+const CUT: [(&str, &str); 2] = [
+    (
+        "POST /c/office/1 HTTP/1.1\r\nHost: localhost\r\nContent-Length: 63\r\n\r\n{\"do\":\"product\",\"product\":\"P1\",\"max\":255,\"low\":0,\"check\":false",
+        "",
+    ),
+    (
+        "POST /c/office/1 HTTP/1.1\r\nContent-Length: 14\r\n\r\n{\"do\":\"reset\"}",
+        RESET,
+    ),
+];
+
 const OPEN: &str =
     "POST /c/m1/1 HTTP/1.1\r\nContent-Length: 40\r\n\r\n{\"do\":\"open\",\"batch\":\"B1\",\"blank\":1000}\n";
 
 // Messages in turn, and what each is answered.
-const MESSAGES: [(&str, &str); 23] = [
+const MESSAGES: [(&str, &str); 25] = [
     (UNKNOWN, BATCH_UNKNOWN),
     (
         "GET /blanks/P1 HTTP/1.1\r\n\r\n",
@@ -51,19 +75,18 @@ const MESSAGES: [(&str, &str); 23] = [
     ),
     (PRODUCT, CREATED),
     (PRODUCT, CREATED),
-    ("DELETE /batch/B9 HTTP/1.1\r\n\r\n", GET_ALONE),
+    (DELETE, GET_ALONE),
     (
         "GET /c/office/1 HTTP/1.1\r\n\r\n",
         "HTTP/1.1 405 Method Not Allowed\r\nContent-Type: application/json\r\nContent-Length: 31\r\nConnection: close\r\nAllow: POST\r\n\r\n{\"code\":405,\"refused\":\"method\"}",
     ),
     ("POST /batch/B1 HTTP/1.1\r\n\r\n", GET_ALONE),
-    ("GET /batch/ HTTP/1.1\r\n\r\n", NO_ROUTE),
+    (NO_NAME, NO_ROUTE),
+    ("GET /batch/é HTTP/1.1\r\n\r\n", MALFORMED),
+    ("POST /batch/é HTTP/1.1\r\n\r\n", GET_ALONE),
     ("POST /c/office/1/ HTTP/1.1\r\n\r\n", NO_ROUTE),
     ("POST /c//1 HTTP/1.1\r\n\r\n", NO_ROUTE),
-    (
-        "GET /batch/B9 HTTP/1.1\r\nContent-Length: 1048577\r\n\r\n",
-        "HTTP/1.1 413 Payload Too Large\r\nContent-Type: application/json\r\nContent-Length: 34\r\nConnection: close\r\n\r\n{\"code\":413,\"refused\":\"too-large\"}",
-    ),
+    (LONG, TOO_LARGE),
     (
         "POST /c/m1/1 HTTP/1.1\r\nContent-Length: 26\r\n\r\n{\"do\":\"open\",\"batch\":\"B1\"}",
         MALFORMED,
@@ -97,34 +120,68 @@ const MESSAGES: [(&str, &str); 23] = [
     ),
 ];
 
-// The messages in turn, in pieces of at most so many bytes.
-fn check_messages<R: Abort + AllocGlobal>(rt: &R, most: usize) -> Result<(), Fail> {
+// The messages in turn, in pieces of at most so many bytes; one that is answered nothing is broken.
+fn check_in_pieces<R: Abort + AllocGlobal>(
+    rt: &R,
+    messages: &[(&str, &str)],
+    most: usize,
+) -> Result<(), Fail> {
     let alloc = rt.alloc();
     let mut inputs = Vec::new(alloc);
-    for (message, _) in MESSAGES {
+    for (message, _) in messages {
         inputs.push(message.as_bytes().to_vec(alloc)?)?;
     }
     let mut store = ListStore::new(alloc);
     let mut connections = MemoryConnections::new(alloc, inputs, most);
     let ended = serve_all(alloc, &mut store, &mut connections, 100);
     assert_eq!(rt; ended, Err(NextFault::Device));
-    assert_eq!(rt; connections.replies().len(), MESSAGES.len());
-    for ((_, reply), replied) in MESSAGES.iter().zip(connections.replies()) {
+    assert_eq!(rt; connections.replies().len(), messages.len());
+    for ((_, reply), replied) in messages.iter().zip(connections.replies()) {
         let written = std::str::from_utf8(replied.written.as_slice()).unwrap_or("no text");
         assert_eq!(rt; written, *reply);
-        assert_eq!(rt; replied.served.end, End::Answered);
+        let end = if reply.is_empty() {
+            End::Broken
+        } else {
+            End::Answered
+        };
+        assert_eq!(rt; replied.served.end, end);
     }
     Ok(())
 }
 
-#[test]
-fn messages_are_answered_in_turn(rt: HostRuntime) -> Result<(), Fail> {
-    check_messages(&rt, 8192)
+fn check<R: Abort + AllocGlobal>(rt: &R, messages: &[(&str, &str)]) -> Result<(), Fail> {
+    check_in_pieces(rt, messages, 8192)?;
+    check_in_pieces(rt, messages, 1)
 }
 
 #[test]
-fn messages_come_one_byte_at_a_time(rt: HostRuntime) -> Result<(), Fail> {
-    check_messages(&rt, 1)
+fn messages_are_answered_in_turn(rt: HostRuntime) -> Result<(), Fail> {
+    check(&rt, &MESSAGES)
+}
+
+#[test]
+fn nothing_is_kept_of_a_cut_message(rt: HostRuntime) -> Result<(), Fail> {
+    check(&rt, &CUT)
+}
+
+#[test]
+fn a_number_is_decimal_from_1_without_leading_zeros(rt: HostRuntime) -> Result<(), Fail> {
+    let table = [
+        ("01", MALFORMED),
+        ("0", MALFORMED),
+        ("+1", MALFORMED),
+        ("1x", MALFORMED),
+        ("1000000000000000000", MALFORMED),
+        ("999999999999999999", RESET),
+    ];
+    let body = "{\"do\":\"reset\"}";
+    for (number, reply) in table {
+        let message = format!(in rt.alloc();
+            "POST /c/office/{number} HTTP/1.1\r\nContent-Length: 14\r\n\r\n{body}"
+        )?;
+        check(&rt, &[(message.as_str(), reply)])?;
+    }
+    Ok(())
 }
 
 // What a connection that brings these bytes is answered.
@@ -154,34 +211,38 @@ fn a_head_has_32_lines_and_8192_bytes_at_most(rt: HostRuntime) -> Result<(), Fai
     for (Lines(front, middle, count, end), reply) in table {
         let middle = middle.repeat(alloc, count)?;
         let message = format!(in alloc; "GET /batch/B9 HTTP/1.1\r\n{front}{middle}{end}")?;
-        let mut store = ListStore::new(alloc);
-        let mut writer = Vec::new(alloc);
-        let _ = served(alloc, &mut store, message.as_bytes(), &mut writer);
-        assert_eq!(rt; writer.as_slice(), reply.as_bytes());
+        check(&rt, &[(message.as_str(), reply)])?;
     }
     Ok(())
 }
 
+// A reader that fails is told by 0 bytes, as the end is, so each cut is also a reader that fails there. What is refused for its head
+// is refused as soon as the cause was read, and bytes after a message are ignored.
 #[test]
-fn a_cut_message_changes_nothing(rt: HostRuntime) -> Result<(), Fail> {
+fn a_message_cut_or_failing_to_come_changes_nothing(rt: HostRuntime) -> Result<(), Fail> {
     let alloc = rt.alloc();
-    for message in [PRODUCT, UNKNOWN] {
-        let bytes = message.as_bytes();
-        let mut store = ListStore::new(alloc);
-        for cut in 0..bytes.len() {
-            let front = bytes.get(..cut).ok_or("no front")?;
+    let line = "x".repeat(alloc, 8168)?;
+    let endless = format!(in alloc; "GET /batch/B9 HTTP/1.1\r\n{line}")?;
+    let table = [
+        (PRODUCT, CREATED),
+        (UNKNOWN, BATCH_UNKNOWN),
+        (DELETE, GET_ALONE),
+        (NO_NAME, NO_ROUTE),
+        (LONG, TOO_LARGE),
+        (endless.as_str(), HEAD_TOO_LARGE),
+    ];
+    let mut store = ListStore::new(alloc);
+    for (message, reply) in table {
+        let longer = format!(in alloc; "{message}more")?;
+        for cut in 0..=longer.len() {
+            let front = longer.as_bytes().get(..cut).ok_or("no front")?;
             let mut writer = Vec::new(alloc);
-            assert_eq!(rt; served(alloc, &mut store, front, &mut writer), BROKEN);
-            assert_eq!(rt; writer.len(), 0);
+            let ended = served(alloc, &mut store, front, &mut writer);
+            let is_cut = cut < message.len();
+            assert_eq!(rt; ended == BROKEN, is_cut);
+            let told = if is_cut { "" } else { reply };
+            assert_eq!(rt; writer.as_slice(), told.as_bytes());
         }
-        let mut writer = Vec::new(alloc);
-        let _ = served(alloc, &mut store, bytes, &mut writer);
-        let reply = if message == PRODUCT {
-            CREATED
-        } else {
-            BATCH_UNKNOWN
-        };
-        assert_eq!(rt; writer.as_slice(), reply.as_bytes());
     }
     Ok(())
 }

@@ -1,15 +1,14 @@
 //! The worked exchanges as bytes, over a store of lists: whole, and one byte at a time.
-use super::limited::Limited;
+use super::limited::LimitedConnections;
 use super::worked::{
     BLANKS, CLOSE, Exchange, IMPORTS, LATE_RESET, ONE_RUNS, OPEN, OPENED, PIECES, REFUSED, REMAKE,
     REPEATS, REPORT, SET_UP,
 };
-use super::{End, NextFault, Served, serve_inputs, serve_one};
+use super::{End, NextFault, Served, serve_all, serve_inputs};
 use list_store::ListStore;
 use std::alloc::Global;
 use std::process::Abort;
 use std::test::Fail;
-use wire::Pieces;
 
 fn message(alloc: Global, (request, body, ..): Exchange) -> Result<Vec<u8>, Fail> {
     let size = body.len();
@@ -112,6 +111,11 @@ fn used_up_connections_are_told_as_device(rt: HostRuntime) -> Result<(), Fail> {
     Ok(())
 }
 
+const LOOKED_UP: Served = Served {
+    end: End::Answered,
+    decided: false,
+};
+
 const DECIDED_AND_FAILED: Served = Served {
     end: End::WriteFailed,
     decided: true,
@@ -122,37 +126,42 @@ const DECIDED_AND_ANSWERED: Served = Served {
     decided: true,
 };
 
-// Serves a message to a writer with so much room, in a store that stays.
-fn served(
-    alloc: Global,
-    store: &mut ListStore,
-    exchange: Exchange,
-    most: usize,
-) -> Result<(Vec<u8>, Served), Fail> {
-    let input = message(alloc, exchange)?;
-    let mut writer = Limited::new(alloc, most, 1);
-    let answer = serve_one(alloc, store, &mut Pieces::new(&input, 100), &mut writer);
-    Ok((writer.taken, answer))
+// An opening whose writer fails after 10 bytes, its repeat, and the blanks; all come in pieces of at most so many bytes, and each
+// write takes one byte.
+fn check_failed_write(rt: &impl Abort, alloc: Global, most: usize) -> Result<(), Fail> {
+    let open = ("POST /c/m1/1", OPEN, "200 OK", OPENED);
+    let blanks = ("GET /blanks/P1", "", "200 OK", ONE_RUNS);
+    let mut table: Vec<(Exchange, usize, Served)> = Vec::new(alloc);
+    for exchange in SET_UP {
+        table.push((*exchange, 10_000, DECIDED_AND_ANSWERED))?;
+    }
+    table.push((open, 10, DECIDED_AND_FAILED))?;
+    table.push((open, 10_000, DECIDED_AND_ANSWERED))?;
+    table.push((blanks, 10_000, LOOKED_UP))?;
+    let mut inputs = Vec::new(alloc);
+    for (exchange, room, _) in table.iter() {
+        inputs.push((message(alloc, *exchange)?, *room))?;
+    }
+    let mut connections = LimitedConnections {
+        alloc,
+        most,
+        inputs,
+        replies: Vec::new(alloc),
+    };
+    let ended = serve_all(alloc, &mut ListStore::new(alloc), &mut connections, 100);
+    assert_eq!(rt; ended, Err(NextFault::Device));
+    assert_eq!(rt; connections.replies.len(), table.len());
+    for ((exchange, room, served), replied) in table.iter().zip(connections.replies.iter()) {
+        let whole = reply(alloc, *exchange)?;
+        let room = whole.len().min(*room);
+        assert_eq!(rt; Some(replied.written.as_slice()), whole.get(..room));
+        assert_eq!(rt; replied.served, *served);
+    }
+    Ok(())
 }
 
 #[test]
 fn a_failed_write_leaves_what_was_decided(rt: HostRuntime) -> Result<(), Fail> {
-    let alloc = rt.alloc();
-    let mut store = ListStore::new(alloc);
-    for exchange in SET_UP {
-        let _ = served(alloc, &mut store, *exchange, 10_000)?;
-    }
-    let open = ("POST /c/m1/1", OPEN, "200 OK", OPENED);
-    let whole = reply(alloc, open)?;
-    let (taken, answer) = served(alloc, &mut store, open, 10)?;
-    assert_eq!(rt; Some(taken.as_slice()), whole.get(..10));
-    assert_eq!(rt; answer, DECIDED_AND_FAILED);
-    let (taken, answer) = served(alloc, &mut store, open, 10_000)?;
-    assert_eq!(rt; taken.as_slice(), whole.as_slice());
-    assert_eq!(rt; answer, DECIDED_AND_ANSWERED);
-    let blanks = ("GET /blanks/P1", "", "200 OK", ONE_RUNS);
-    let (taken, _) = served(alloc, &mut store, blanks, 10_000)?;
-    let text = reply(alloc, blanks)?;
-    assert_eq!(rt; taken.as_slice(), text.as_slice());
-    Ok(())
+    check_failed_write(&rt, rt.alloc(), 10_000)?;
+    check_failed_write(&rt, rt.alloc(), 1)
 }
