@@ -29,6 +29,7 @@ office 12 {"do":"answer","session":1,"index":0,"sw":"9000"}
 office 13 {"do":"answer","session":1,"index":1,"sw":"9000"}
 office 11 {"do":"open","batch":"B1","blank":1001}
 office 14 {"do":"open","batch":"B1","blank":1001}
+get /blanks/P1
 "#,
     r#"200 {"batch":"B1","blank":1000,"command":"00A4040006F00000000101","index":0,"record":"R1","result":"command","session":1}
 200 {"batch":"B1","blank":1000,"command":"00A4040006F00000000101","index":0,"record":"R1","result":"command","session":1}
@@ -39,6 +40,7 @@ office 14 {"do":"open","batch":"B1","blank":1001}
 409 {"code":66,"refused":"out-of-turn"}
 409 {"code":72,"refused":"number-reused"}
 409 {"code":61,"refused":"machine-busy","session":1}
+200 {"charged":1,"discarded":0,"free":2,"good":0,"lots":1,"product":"P1","running":1,"spoiled":0,"total":3}
 "#,
 );
 
@@ -171,6 +173,10 @@ office 6 {"do":"lot","lot":"L9","product":"P2","first":2000,"count":1}
 office 13 {"do":"open","batch":"B1","blank":2000}
 office 7 {"do":"lot","lot":"L2","product":"P1","first":1002,"count":5}
 office 8 {"do":"lot","lot":"L2","product":"P1","first":1003,"count":5}
+office 14 {"do":"open","batch":"B1","blank":1000}
+office 15 {"do":"abort","session":1}
+office 16 {"do":"open","batch":"B1","blank":1000}
+office 9 {"do":"discard","blank":1000}
 "#,
     r#"200 {"blank":1002,"result":"discarded"}
 409 {"code":60,"refused":"blank-used"}
@@ -180,6 +186,10 @@ office 8 {"do":"lot","lot":"L2","product":"P1","first":1003,"count":5}
 409 {"code":59,"refused":"blank-of-other-product"}
 409 {"code":54,"refused":"serials-overlap"}
 200 {"lot":"L2","result":"created"}
+200 {"batch":"B1","blank":1000,"command":"00A4040006F00000000101","index":0,"record":"R1","result":"command","session":1}
+200 {"result":"spoiled","session":1}
+409 {"code":60,"refused":"blank-used"}
+409 {"code":60,"refused":"blank-used"}
 "#,
 );
 
