@@ -1,7 +1,6 @@
 -- What connections over memory show.
 use Rattle.std.specs.Prelude.{◌≡◌, ℕ, ◌<◌, List, [], length, map, drop, vec_len, vec_capacity}
 use Rattle.std.specs.Prelude.{Vec}
-use Rattle.std.specs.List.{zip}
 use Rattle.std.specs.declared.alloc.Global.{Global}
 use Rattle.server.specs.declared.connections.NextFault.{NextFault}
 use Rattle.server.specs.declared.connections.NextFault.TheVariants as fault
@@ -17,12 +16,12 @@ bytes_left r = drop r.at r.bytes.items
 abbrev pub texts : List (Vec ℕ Global) → List (List ℕ)
 texts inputs = map (λ (v : Vec ℕ Global). v.items) inputs
 
-abbrev pub entry : Vec ℕ Global × Replied → Entry
-entry p = record { input = p.0.items; written = p.1.written.items; served = p.1.served }
+abbrev pub entry : Replied → Entry
+entry r = record { input = r.input.items; written = r.written.items; served = r.served }
 
 -- what has a reply was taken back, and the rest comes
 abbrev pub queue_with : List (Vec ℕ Global) → List Replied → Queue
-queue_with inputs replies = record { done = map entry (zip inputs replies); coming = drop (length replies) (texts inputs) }
+queue_with inputs replies = record { done = map entry replies; coming = drop (length replies) (texts inputs) }
 
 abbrev pub queue : MemoryConnections → Queue
 queue c = queue_with c.inputs.items c.replies.items

@@ -2,6 +2,7 @@
 use super::{Connections, MemoryReader, NextFault, Replied, Served};
 use std::alloc::Global;
 use std::io::{self, ErrorKind, Write};
+use std::mem;
 
 /// Takes so many bytes in all, and at most so many at a call; then a write fails.
 #[derive(Drop)]
@@ -70,7 +71,13 @@ impl Connections for LimitedConnections {
     }
 
     fn back(&mut self, _incoming: MemoryReader, writer: Limited, served: Served) {
+        let empty = Vec::new(self.alloc);
+        let input = match self.inputs.get_mut(self.replies.len()) {
+            Some((bytes, _)) => mem::replace(bytes, empty),
+            None => empty,
+        };
         let reply = Replied {
+            input,
             written: writer.taken,
             served,
         };

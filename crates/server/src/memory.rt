@@ -5,6 +5,7 @@ ghost use Rattle.server.specs.Memory.{bytes_left, queue, replies_of, texts};
 use crate::connections::{Connections, NextFault};
 use crate::served::Served;
 use std::alloc::Global;
+use std::mem;
 use wire::Incoming;
 
 /// Bytes that come in pieces.
@@ -41,9 +42,10 @@ impl Incoming for MemoryReader {
     }
 }
 
-/// What a connection got, and what became of it.
+/// What a connection brought and got, and what became of it.
 #[derive(Drop)]
 pub struct Replied {
+    pub input: Vec<u8>,
     pub written: Vec<u8>,
     pub served: Served,
 }
@@ -71,7 +73,7 @@ impl MemoryConnections {
         }
     }
 
-    /// What those that were taken back got, in order.
+    /// What those that were taken back brought and got, in order.
     pub fn replies(&self) -> &[Replied]
         ensures { result.now ≡ replies_of self.now }
     {
@@ -105,7 +107,10 @@ impl Connections for MemoryConnections {
     }
 
     fn back(&mut self, _incoming: MemoryReader, writer: Vec<u8>, served: Served) {
+        let place = self.replies.len();
+        let input = mem::replace(&mut self.inputs[place], Vec::new(self.alloc));
         let reply = Replied {
+            input,
             written: writer,
             served,
         };

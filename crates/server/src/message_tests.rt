@@ -136,7 +136,8 @@ fn check_in_pieces<R: Abort + AllocGlobal>(
     let ended = serve_all(alloc, &mut store, &mut connections, 100);
     assert_eq!(rt; ended, Err(NextFault::Device));
     assert_eq!(rt; connections.replies().len(), messages.len());
-    for ((_, reply), replied) in messages.iter().zip(connections.replies()) {
+    for ((message, reply), replied) in messages.iter().zip(connections.replies()) {
+        assert_eq!(rt; replied.input.as_slice(), message.as_bytes());
         let written = std::str::from_utf8(replied.written.as_slice()).unwrap_or("no text");
         assert_eq!(rt; written, *reply);
         let end = if reply.is_empty() {

@@ -1,13 +1,17 @@
-use Rattle.std.proofs.Common.{◌≡◌, ◌++◌, ◌∷◌, [], Some, Ok, ap, ◌∙◌, arith}
+use Rattle.std.proofs.Common.{◌≡◌, ◌<◌, ◌++◌, ◌∷◌, [], length, Some, Ok, ap, arith}
+use Rattle.std.specs.Prelude.{get_or}
 use Rattle.server.specs.declared.memory.Replied.{Replied}
-use Rattle.server.specs.Memory.{queue_with}
 use Rattle.server.proofs.Taken.{queue_moves}
 use Rattle.server.proofs.memory.MemoryConnectionsConnections.back.Goals as goal
 
 pub returns : goal.returns
 returns c =
     let s = c.args.self.now in
-    let reply : Replied = record { written = c.args.writer; served = c.args.served } in
+    let n = length s.replies.items in
+    let reply : Replied = record { input = c.replace-input.result; written = c.args.writer; served = c.args.served } in
+    let place : c.len-place.result ≡ n = omega arith in
+    let within : n < length s.inputs.items = omega arith in
+    let brought : reply.input ≡ get_or s.inputs.items n reply.input = cc in
     let worked : c.push.result ≡ Ok c.unwrap.result = c.unwrap.ensures in
     let pushed : c.push.new.self.items ≡ s.replies.items ++ reply ∷ [] = rw worked at c.push.ensures.items in
-    ap Some (ap (queue_with s.inputs.items) pushed ∙ queue_moves s.inputs.items s.replies.items reply (omega (arith, c.requires.0, s.inputs.ok.0, s.replies.ok.0)))
+    rw (place, pushed) (ap Some (queue_moves s.inputs.items s.replies.items reply c.replace-input.new.dest within brought))
