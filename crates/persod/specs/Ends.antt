@@ -1,8 +1,8 @@
 -- How the program ends: its exit status, and its words on standard error.
 use Rattle.std.specs.Prelude.{ℕ, None, Some}
 use Rattle.batch_import.specs.Kinds.{code_of}
-use Rattle.persod.specs.declared.drill.DrillStop.{DrillStop}
-use Rattle.persod.specs.declared.drill.DrillStop.TheVariants as drill
+use Rattle.drill.specs.declared.DrillStop.{DrillStop}
+use Rattle.drill.specs.declared.DrillStop.TheVariants as drill
 use Rattle.persod.specs.declared.end.End.{End}
 use Rattle.persod.specs.declared.end.End.TheVariants.{Done, Usage, Stopped}
 use Rattle.persod.specs.declared.end.Exit.{Exit}

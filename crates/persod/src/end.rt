@@ -2,8 +2,8 @@
 ghost use Rattle.std.specs.Prelude.{◌≡◌};
 ghost use Rattle.persod.specs.Ends.{drill_told, exit_of, status_of, told_of};
 
-use crate::drill::DrillStop;
 use crate::plan::PlanStop;
+use drill::DrillStop;
 use thiserror::Error;
 
 /// What a run came to.
@@ -28,7 +28,7 @@ pub enum Told {
     RefusedRow { number: u16, row: u32 },
     /// The first line of a script that has none of its forms.
     #[error("bad line {line}")]
-    BadLine { line: u32 },
+    BadLine { line: u64 },
     /// A read or a write failed.
     #[error("device")]
     Device,

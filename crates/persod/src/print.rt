@@ -1,8 +1,8 @@
 //! Printing a plan: a record's name line, and each command by the cursor, a line each.
 ghost use Rattle.std.specs.Prelude.{◌≡◌, ◌+◌, ◌*◌, ◌++◌, ◌<◌, ◌≤◌, length, slice_index, take, codes};
 ghost use Rattle.hex.specs.Hex.{encode_upper, upper_digits};
-ghost use Rattle.text_writer.specs.Written.{Writes};
-ghost use Rattle.persod.specs.Printed.{command_lines, line, text_of};
+ghost use Rattle.text_writer.specs.Written.{Writes, line};
+ghost use Rattle.persod.specs.Printed.{command_lines, text_of};
 
 use std::io::Write;
 use store_data::{Cursor, Name, RecordPlan, count};

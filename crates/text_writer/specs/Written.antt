@@ -1,5 +1,5 @@
 -- What a writer has taken of a text.
-use Rattle.std.specs.Prelude.{◌≡◌, ℕ, List, ◌++◌, Option, Result, Ok, Err}
+use Rattle.std.specs.Prelude.{◌≡◌, ℕ, List, [], ◌∷◌, ◌++◌, Option, Result, Ok, Err}
 use Rattle.std.specs.Io.KnownBytes.{Appends}
 use Rattle.text_writer.specs.declared.WriteFailed.{WriteFailed}
 
@@ -11,3 +11,7 @@ AppendsBeginning before after text = (front : List ℕ) × (back : List ℕ) × 
 abbrev pub Writes : Option (List ℕ) → Option (List ℕ) → List ℕ → Result (Unit {0}) WriteFailed → Type 0
 Writes before after text (Ok u) = Appends before after text
 Writes before after text (Err e) = AppendsBeginning before after text
+
+-- a line, which ends in LF
+abbrev pub line : List ℕ → List ℕ
+line text = text ++ 10 ∷ []

@@ -12,3 +12,4 @@ pub mod Asks
 pub mod Parsing
 pub mod Parsed
 pub mod Sending
+pub mod Parts

@@ -38,8 +38,8 @@ pub(crate) fn read_head<I: Incoming>(incoming: &mut I, buf: &mut [u8; 8192]) -> 
     Reach::HeadTooLarge
 }
 
-// How far the first CR LF CR LF reaches. None ends in the first bytes, which were looked at before.
-fn find_end(bytes: &[u8], from: usize) -> Option<usize>
+/// How far the first CR LF CR LF reaches. None ends in the first bytes, which were looked at before.
+pub(crate) fn find_end(bytes: &[u8], from: usize) -> Option<usize>
     requires within { from ≤ length bytes.now }
     requires before { least (ends_head bytes.now) from ≡ None }
     ensures first { result ≡ head_end bytes.now }

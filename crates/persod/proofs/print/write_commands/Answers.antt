@@ -5,7 +5,8 @@ use Rattle.hex.specs.Hex.{encode_upper}
 use Rattle.store_data.specs.Sequence.{sequence}
 use Rattle.text_writer.specs.Written.{AppendsBeginning}
 use Rattle.text_writer.proofs.Pieces.{next_begun, next_written, stopped}
-use Rattle.persod.specs.Printed.{command_lines, line}
+use Rattle.text_writer.specs.Written.{line}
+use Rattle.persod.specs.Printed.{command_lines}
 use Rattle.persod.proofs.print.write_commands.Goals as goal
 
 pub returns-in_err-write_text : goal.returns-in_err-write_text

@@ -3,7 +3,7 @@ use Rattle.std.proofs.KnownBytes.{Appends-nil, Appends-trans}
 use Rattle.std.specs.Io.KnownBytes.{Appends}
 use Rattle.text_writer.specs.Written.{AppendsBeginning}
 use Rattle.text_writer.proofs.Pieces.{begun, stopped, writes_then}
-use Rattle.persod.specs.Printed.{line}
+use Rattle.text_writer.specs.Written.{line}
 use Rattle.persod.proofs.print.write_name.Goals as goal
 
 pub returns-in_err-write_text : goal.returns-in_err-write_text

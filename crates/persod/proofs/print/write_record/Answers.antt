@@ -1,7 +1,8 @@
 use Rattle.std.proofs.Common.{[], ◌++◌, codes}
 use Rattle.std.proofs.KnownBytes.{Appends-nil}
 use Rattle.text_writer.proofs.Pieces.{begun, stopped, writes_then}
-use Rattle.persod.specs.Printed.{command_lines, line, text_of}
+use Rattle.text_writer.specs.Written.{line}
+use Rattle.persod.specs.Printed.{command_lines, text_of}
 use Rattle.persod.proofs.print.write_record.Goals as goal
 
 pub returns-in_err-write_name : goal.returns-in_err-write_name

@@ -4,7 +4,7 @@ use super::scripts::{
     SET_UP_PRINTS,
 };
 use super::{DrillStop, drill_engine};
-use std::io::Cursor;
+use std::io::{self, Cursor, ErrorKind, Read};
 use std::process::Abort;
 use std::test::Fail;
 
@@ -122,4 +122,80 @@ fn a_last_line_needs_no_end(rt: HostRuntime) -> Result<(), Fail> {
         "409 {\"code\":52,\"refused\":\"product-unknown\"}\n",
         Ok(()),
     )
+}
+
+#[test]
+fn a_writer_that_fails_has_the_beginning(rt: HostRuntime) -> Result<(), Fail> {
+    // What the set-up prints has 135 bytes.
+    let mut taken = [0; 135];
+    for room in 0..taken.len() {
+        let mut reader = Cursor::new(SET_UP.as_bytes());
+        let mut writer = &mut taken[..room];
+        let ended = drill_engine(rt.alloc(), &mut reader, &mut writer);
+        assert_eq!(rt; ended, Err(DrillStop::WriteFailed), "at {room}");
+        assert_eq!(rt; Some(&taken[..room]), SET_UP_PRINTS.as_bytes().get(..room));
+    }
+    Ok(())
+}
+
+// A failed write is told before a bad line.
+#[test]
+fn a_failed_write_is_told_first(rt: HostRuntime) -> Result<(), Fail> {
+    let script = format!(in rt.alloc(); "{SET_UP}send m1\n")?;
+    let mut taken = [0; 10];
+    let mut writer = taken.as_mut_slice();
+    let mut reader = Cursor::new(script.as_bytes());
+    let ended = drill_engine(rt.alloc(), &mut reader, &mut writer);
+    assert_eq!(rt; ended, Err(DrillStop::WriteFailed));
+    Ok(())
+}
+
+// The set-up, into a writer with room for it.
+fn set_up<R: AllocGlobal>(rt: &R, taken: &mut [u8; 135]) -> Result<(), DrillStop> {
+    let mut reader = Cursor::new(SET_UP.as_bytes());
+    let mut writer = taken.as_mut_slice();
+    drill_engine(rt.alloc(), &mut reader, &mut writer)
+}
+
+// Where memory is refused, by `--fail-alloc`, nothing is printed, or a message is told 503; a second drill prints it all.
+#[test]
+fn refused_memory_is_no_half_drill(rt: HostRuntime) -> Result<(), Fail> {
+    let mut taken = [0; 135];
+    if let Err(stop) = set_up(&rt, &mut taken) {
+        assert_eq!(rt; stop, DrillStop::Memory);
+        assert_eq!(rt; taken, [0; 135]);
+    }
+    assert_eq!(rt; set_up(&rt, &mut taken), Ok(()));
+    assert_eq!(rt; taken.as_slice(), SET_UP_PRINTS.as_bytes());
+    Ok(())
+}
+
+// Gives one byte at a call, and fails where these end.
+#[derive(Drop)]
+struct Broken<'a>(&'a [u8]);
+
+impl Read for Broken<'_> {
+    fn read(&mut self, buf: &mut [u8]) -> io::Result<usize> {
+        let Some(byte) = self.0.first() else {
+            return Err(io::Error::from(ErrorKind::ConnectionReset));
+        };
+        if buf.is_empty() {
+            return Ok(0);
+        }
+        buf[0] = *byte;
+        self.0 = &self.0[1..];
+        Ok(1)
+    }
+}
+
+#[test]
+fn a_reader_that_fails_prints_nothing(rt: HostRuntime) -> Result<(), Fail> {
+    for size in 0..SET_UP.len() {
+        let mut reader = Broken(&SET_UP.as_bytes()[..size]);
+        let mut writer = Vec::new(rt.alloc());
+        let ended = drill_engine(rt.alloc(), &mut reader, &mut writer);
+        assert_eq!(rt; ended, Err(DrillStop::ReadFailed), "at {size}");
+        assert_eq!(rt; writer.len(), 0);
+    }
+    Ok(())
 }

@@ -1,0 +1,87 @@
+-- The steps of a script.
+use Rattle.std.proofs.Common.{◌≡◌, ℕ, ◌+◌, ◌-◌, ◌<◌, ◌≤◌, Bool, List, [], ◌∷◌, ◌++◌, codes, cond, drop, length, map, not, get_or, position, take, Bor, Option, Some, None, refl, sym, subst, ap, arith, ◌∙◌}
+use Rattle.std.specs.Prelude.{bytes_eq, nat_lt, option_and_then, option_map}
+use Rattle.std.specs.List.{flat_map, prefix_len, position_or_len}
+use Rattle.std.proofs.lemmas.List.{drop-drop, drop-map, drop_all, drop_more, length-drop, length-map, take_all, take-map}
+use Rattle.std.proofs.lemmas.List.Folds.{flat_map-map}
+use Rattle.drill.specs.Scripts.{Asks, Import, asked, IsScript, asked_by, lines, post, step_of}
+use Rattle.text_writer.specs.Written.{line}
+
+abbrev text_of : Bor (List ℕ) → List ℕ
+text_of l = l.now
+
+prefix-map : {A B : Type 0} (p : B → Bool) (f : A → B) (xs : List A) → prefix_len p (map f xs) ≡ prefix_len (λ x. p (f x)) xs
+prefix-map p f [] = refl
+prefix-map p f (x ∷ xs) = ap (λ n. cond (p (f x)) (1 + n) 0) (prefix-map p f xs)
+
+position-map : {A B : Type 0} (p : B → Bool) (f : A → B) (xs : List A) → position p (map f xs) ≡ position (λ x. p (f x)) xs
+position-map p f xs =
+    ap (λ n. cond (nat_lt n (length (map f xs))) (Some n) None) (prefix-map (λ y. not (p y)) f xs)
+    ∙ ap (λ m. cond (nat_lt (position_or_len (λ x. p (f x)) xs) m) (Some (position_or_len (λ x. p (f x)) xs)) None) (length-map xs f)
+
+file_by : List (List ℕ) → Option ℕ → Option (List (List ℕ) × List (List ℕ))
+file_by ls o = option_map (λ i. (take i ls, drop (i + 1) ls)) o
+
+abbrev is_dot : Bor (List ℕ) → Bool
+is_dot l = bytes_eq l.now (codes ".")
+
+abbrev import_by : List ℕ → List ℕ → List ℕ → Option (List (List ℕ) × List (List ℕ)) → Option (List ℕ × List (List ℕ))
+import_by number batch product file = option_map (λ f. (post (number ++ codes "/batch/" ++ batch ++ codes "/" ++ product) (flat_map line f.0), f.1)) file
+
+pub import_unasked : (text number batch product : List ℕ) (ls : List (Bor (List ℕ))) → step_of text ≡ Some (Import number batch product) → position is_dot ls ≡ None
+    → None ≡ asked text (map text_of ls)
+unfolding file_by
+import_unasked text number batch product ls step none =
+    sym (ap (option_and_then (λ s. asked_by s (map text_of ls))) step
+    ∙ ap (λ o. import_by number batch product (file_by (map text_of ls) o)) (position-map (λ l. bytes_eq l (codes ".")) text_of ls ∙ none))
+
+pub import_asked : (text number batch product m : List ℕ) (ls : List (Bor (List ℕ))) (i : ℕ) → step_of text ≡ Some (Import number batch product) → position is_dot ls ≡ Some i
+    → m ≡ post (number ++ codes "/batch/" ++ batch ++ codes "/" ++ product) (flat_map (λ l. line l.now) (take i ls))
+    → Some (m, drop (i + 1) (map text_of ls)) ≡ asked text (map text_of ls)
+unfolding file_by
+import_asked text number batch product m ls i step found is =
+    let file : flat_map (λ l. line l.now) (take i ls) ≡ flat_map line (take i (map text_of ls)) = sym (flat_map-map line text_of (take i ls)) ∙ ap (flat_map line) (sym (take-map text_of i ls)) in
+    ap (λ x. Some (x, drop (i + 1) (map text_of ls))) (is ∙ ap (post (number ++ codes "/batch/" ++ batch ++ codes "/" ++ product)) file)
+    ∙ sym (ap (option_and_then (λ s. asked_by s (map text_of ls))) step
+    ∙ ap (λ o. import_by number batch product (file_by (map text_of ls) o)) (position-map (λ l. bytes_eq l (codes ".")) text_of ls ∙ found))
+
+pub asks_more : (ls ms : List (List ℕ)) (l m : List ℕ) (behind more : List (List ℕ)) → Asks ls ms (l ∷ behind) → asked l behind ≡ Some (m, more) → Asks ls (ms ++ m ∷ []) more
+asks_more ls [] l m behind more all next = subst (λ xs. Asks xs (m ∷ []) more) (sym all) (more, next, refl)
+asks_more [] (first ∷ ms) l m behind more all next = absurd all
+asks_more (one ∷ others) (first ∷ ms) l m behind more (left, is, rest) next = (left, is, asks_more left ms l m behind more rest next)
+
+-- the line here, and those behind it
+here : (ls behind : List (Bor (List ℕ))) (texts : List (List ℕ)) (at : ℕ) (one : Bor (List ℕ)) → map text_of ls ≡ texts → at < length ls → one ≡ get_or ls at one → behind ≡ drop (at + 1) ls
+    → drop at texts ≡ one.now ∷ map text_of behind
+here ls behind texts at one same within is rest =
+    ap (drop at) (sym same) ∙ drop-map text_of at ls ∙ ap (map text_of) (drop_more ls at one within) ∙ ap (λ l. text_of l ∷ map text_of (drop (at + 1) ls)) (sym is)
+    ∙ ap (λ ls. one.now ∷ map text_of ls) (sym rest)
+
+pub behind_is : (ls all : List (Bor (List ℕ))) (n : ℕ) → all ≡ ls → take (length all - n) (drop n all) ≡ drop n ls
+behind_is ls all n same = take_all (length all - n) (drop n all) (omega (arith, length-drop n all)) ∙ ap (drop n) same
+
+-- after one more message
+pub asks_on : (ls behind : List (Bor (List ℕ))) (texts ms : List (List ℕ)) (at taken : ℕ) (one : Bor (List ℕ)) (m : List ℕ)
+    → map text_of ls ≡ texts → at < length ls → one ≡ get_or ls at one → behind ≡ drop (at + 1) ls
+    → Asks texts ms (drop at texts) → Some (m, drop taken (map text_of behind)) ≡ asked one.now (map text_of behind) → Asks texts (ms ++ m ∷ []) (drop (at + (1 + taken)) texts)
+asks_on ls behind texts ms at taken one m same within is rest all next =
+    let left : drop taken (map text_of behind) ≡ drop (at + (1 + taken)) texts =
+    ap (λ xs. drop taken (map text_of xs)) rest ∙ ap (drop taken) (sym (drop-map text_of (at + 1) ls)) ∙ ap (λ xs. drop taken (drop (at + 1) xs)) same
+    ∙ drop-drop taken (at + 1) texts ∙ ap (λ n. drop n texts) (omega arith) in
+    subst (Asks texts (ms ++ m ∷ [])) left
+    (asks_more texts ms one.now m (map text_of behind) (drop taken (map text_of behind)) (subst (Asks texts ms) (here ls behind texts at one same within is rest) all) (sym next))
+
+-- at a bad line
+pub stops_at : (ls behind : List (Bor (List ℕ))) (text : List ℕ) (ms : List (List ℕ)) (at : ℕ) (one : Bor (List ℕ))
+    → map text_of ls ≡ lines text → at < length ls → one ≡ get_or ls at one → behind ≡ drop (at + 1) ls
+    → Asks (lines text) ms (drop at (lines text)) → None ≡ asked one.now (map text_of behind) → IsScript text ms (Some (at + 1))
+stops_at ls behind text ms at one same within is rest all none = (
+  one.now,
+  map text_of behind,
+  subst (Asks (lines text) ms) (here ls behind (lines text) at one same within is rest) all,
+  sym none,
+  omega (arith, within, length-map behind text_of, ap length rest, length-drop (at + 1) ls, length-map ls text_of, ap length same),
+)
+
+pub asks_all : (ls : List (Bor (List ℕ))) (text : List ℕ) (ms : List (List ℕ)) (at : ℕ) → map text_of ls ≡ lines text → length ls ≤ at → Asks (lines text) ms (drop at (lines text)) → IsScript text ms None
+asks_all ls text ms at same end all = subst (Asks (lines text) ms) (drop_all at (lines text) (omega (arith, end, length-map ls text_of, ap length same))) all

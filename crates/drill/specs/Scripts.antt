@@ -1,0 +1,106 @@
+-- The scripts of a drill (this project's profile).
+use Rattle.std.specs.Prelude.{◌≡◌, ℕ, ◌+◌, ◌-◌, ◌==◌, ◌&&◌, Bool, not, nat_eq, nat_le, nat_lt, List, [], ◌∷◌, ◌++◌, length, map, take, drop, bytes_eq, codes, decimal, position, slice_index, Option, Some, None, option_map, option_and_then, if◌then◌else◌}
+use Rattle.std.specs.List.{ends_with, flat_map, list_all, list_any, slice_split}
+use Rattle.store_data.specs.Name.{is_name}
+use Rattle.wire.specs.Asks.{is_number}
+use Rattle.text_writer.specs.Written.{line}
+use Rattle.drill.specs.declared.script.Step.{Step as Parsed}
+use Rattle.drill.specs.declared.script.Step.TheVariants as parsed
+
+-- ---- lines and words
+
+abbrev pub without_end : List ℕ → List ℕ
+without_end text = if ends_with nat_eq text (codes "\n") then take (length text - 1) text else text
+
+-- the lines of a text, each without its LF; the last may lack it
+abbrev pub lines : List ℕ → List (List ℕ)
+lines text = if length text == 0 then [] else slice_split (λ b. b == 10) (without_end text)
+
+-- what stands before the first that passes, and behind it
+abbrev pub cut : {T : Type 0} → (T → Bool) → List T → Option (List T × List T)
+cut passes xs = option_map (λ i. (take i xs, drop (i + 1) xs)) (position passes xs)
+
+-- a line's first word, and what stands behind its space
+abbrev pub word_of : List ℕ → Option (List ℕ × List ℕ)
+word_of text = cut (λ b. b == 32) text
+
+-- ---- what lines ask
+
+pub data Step : Type 0 where
+  Office : (number body : List ℕ) → Step
+  Import : (number batch product : List ℕ) → Step
+  Get : (target : List ℕ) → Step
+
+-- a client's number, and what stands behind it
+abbrev pub numbered : List ℕ → Option (List ℕ × List ℕ)
+numbered words = option_and_then (λ p. if is_number p.0 then Some p else None) (word_of words)
+
+-- a request under a number
+abbrev pub office_of : List ℕ → Option Step
+office_of words = option_map (λ p. Office p.0 p.1) (numbered words)
+
+-- a batch for a product, under a number
+abbrev pub named : List ℕ → List ℕ → List ℕ → Option Step
+named number batch product = if is_name batch && is_name product then Some (Import number batch product) else None
+
+abbrev pub import_of : List ℕ → Option Step
+import_of words = option_and_then (λ p. option_and_then (λ q. named p.0 q.0 q.1) (word_of p.1)) (numbered words)
+
+-- one word
+abbrev pub target_of : List ℕ → Option Step
+target_of words = if nat_lt 0 (length words) && not (list_any (λ b. b == 32) words) then Some (Get words) else None
+
+abbrev pub step_by : List ℕ → List ℕ → Option Step
+step_by word words =
+    if bytes_eq word (codes "get") then target_of words
+    else if bytes_eq word (codes "office") then office_of words
+    else if bytes_eq word (codes "import") then import_of words
+    else None
+
+-- what a line asks, if it has a form
+abbrev pub step_of : List ℕ → Option Step
+step_of text = option_and_then (λ p. step_by p.0 p.1) (word_of text)
+
+-- ---- the messages (RFC 9112)
+
+-- of the client `office`, by what follows it in the target
+abbrev pub post : List ℕ → List ℕ → List ℕ
+post target body = codes "POST /c/office/" ++ target ++ codes " HTTP/1.1\r\nHost: localhost\r\nContent-Length: " ++ decimal (length body) ++ codes "\r\n\r\n" ++ body
+
+abbrev pub get : List ℕ → List ℕ
+get target = codes "GET " ++ target ++ codes " HTTP/1.1\r\nHost: localhost\r\n\r\n"
+
+-- the lines before the first line `.`, and those behind it
+abbrev pub file_in : List (List ℕ) → Option (List (List ℕ) × List (List ℕ))
+file_in behind = cut (λ l. bytes_eq l (codes ".")) behind
+
+-- the message of a step, and the lines that it leaves; each line of a file ends in LF
+abbrev pub asked_by : Step → List (List ℕ) → Option (List ℕ × List (List ℕ))
+asked_by (Office number body) behind = Some (post number body, behind)
+asked_by (Import number batch product) behind =
+    option_map (λ f. (post (number ++ codes "/batch/" ++ batch ++ codes "/" ++ product) (flat_map line f.0), f.1)) (file_in behind)
+asked_by (Get target) behind = Some (get target, behind)
+
+abbrev pub asked : List ℕ → List (List ℕ) → Option (List ℕ × List (List ℕ))
+asked text behind = option_and_then (λ s. asked_by s behind) (step_of text)
+
+-- ---- a whole script
+
+-- these lines ask for these messages one after the other, and then those are left
+abbrev pub Asks : List (List ℕ) → List (List ℕ) → List (List ℕ) → Type 0
+Asks ls [] left = ls ≡ left
+Asks [] (m ∷ ms) left = ⊥
+Asks (l ∷ behind) (m ∷ ms) left = (more : List (List ℕ)) × (asked l behind ≡ Some (m, more)) × Asks more ms left
+
+-- all of a script is asked for, or what stands before its first bad line, by its number
+abbrev pub IsScript : List ℕ → List (List ℕ) → Option ℕ → Type 0
+IsScript text messages None = Asks (lines text) messages []
+IsScript text messages (Some n) =
+    (l : List ℕ) × (behind : List (List ℕ)) × Asks (lines text) messages (l ∷ behind) × (asked l behind ≡ None) × (n + length behind ≡ length (lines text))
+
+-- ---- what the code calls them
+
+abbrev pub shown : Parsed → Step
+shown (parsed.Office number body) = Office number.now body.now
+shown (parsed.Import number batch product) = Import number.now batch.now product.now
+shown (parsed.Get target) = Get target.now
