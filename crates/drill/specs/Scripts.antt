@@ -1,6 +1,6 @@
 -- The scripts of a drill (this project's profile).
-use Rattle.std.specs.Prelude.{◌≡◌, ℕ, ◌+◌, ◌-◌, ◌==◌, ◌&&◌, Bool, not, nat_eq, nat_le, nat_lt, List, [], ◌∷◌, ◌++◌, length, map, take, drop, bytes_eq, codes, decimal, position, slice_index, Option, Some, None, option_map, option_and_then, if◌then◌else◌}
-use Rattle.std.specs.List.{ends_with, flat_map, list_all, list_any, slice_split}
+use Rattle.std.specs.Prelude.{◌≡◌, ℕ, ◌+◌, ◌-◌, ◌==◌, ◌&&◌, Bool, not, nat_eq, nat_lt, List, [], ◌∷◌, ◌++◌, length, take, drop, bytes_eq, codes, decimal, position, Option, Some, None, option_map, option_and_then, if◌then◌else◌}
+use Rattle.std.specs.List.{ends_with, flat_map, list_any, slice_split}
 use Rattle.store_data.specs.Name.{is_name}
 use Rattle.wire.specs.Asks.{is_number}
 use Rattle.text_writer.specs.Written.{line}

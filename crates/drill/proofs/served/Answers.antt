@@ -1,7 +1,6 @@
-use Rattle.std.proofs.Common.{◌≡◌, ◌∙◌, ◌++◌, ◌<◌, arith, ap, length, map, rules, subst, sym, tests, take, take_all, All}
+use Rattle.std.proofs.Common.{◌≡◌, ◌∙◌, ◌++◌, ◌<◌, arith, ap, length, map, rules, subst, sym, tests, take_all, All}
 use Rattle.std.proofs.lemmas.List.Elements.{All-more}
 use Rattle.std.specs.List.{flat_map}
-use Rattle.server.specs.Exchanges.{IsServed}
 use Rattle.server.specs.Memory.{entry, queue}
 use Rattle.list_store.specs.Lists.{contents}
 use Rattle.server.specs.declared.memory.Replied.{Replied}

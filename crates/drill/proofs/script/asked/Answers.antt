@@ -1,6 +1,6 @@
-use Rattle.std.proofs.Common.{◌≡◌, Some, ap, sym, rules, ◌∙◌}
+use Rattle.std.proofs.Common.{Some, ap, sym, ◌∙◌}
 use Rattle.std.specs.Prelude.{option_map}
-use Rattle.drill.specs.Scripts.{Import, shown, step_of}
+use Rattle.drill.specs.Scripts.{shown}
 use Rattle.drill.proofs.ScriptLemmas.{import_asked, import_unasked}
 use Rattle.drill.proofs.script.asked.Goals as goal
 

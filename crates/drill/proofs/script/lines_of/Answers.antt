@@ -1,7 +1,7 @@
-use Rattle.std.proofs.Common.{rules, tests, ◌≡◌, ◌==◌, IfOk, map, subst, sym, ◌∙◌, false, length}
+use Rattle.std.proofs.Common.{rules, tests, ◌≡◌, ◌==◌, sym, ◌∙◌, false, length}
 use Rattle.std.proofs.lemmas.Iterator.Splits.{YieldsList-from_slice_split}
 use Rattle.std.proofs.lemmas.Iterator.Consumers.{map_from_collect}
-use Rattle.drill.specs.Scripts.{lines, without_end}
+use Rattle.drill.specs.Scripts.{without_end}
 use Rattle.drill.proofs.script.lines_of.Goals as goal
 
 pub returns : goal.returns

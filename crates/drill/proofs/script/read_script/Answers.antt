@@ -1,5 +1,5 @@
-use Rattle.std.proofs.Common.{◌≡◌, ◌+◌, ◌-◌, ◌<◌, ◌∙◌, ap, arith, drop, length, map, refl, subst, sym, take}
-use Rattle.std.proofs.lemmas.List.{length-drop, length-take, map_push}
+use Rattle.std.proofs.Common.{◌+◌, ◌-◌, ◌<◌, ◌∙◌, ap, arith, drop, length, map, refl, subst, sym, take}
+use Rattle.std.proofs.lemmas.List.{length-drop, map_push}
 use Rattle.drill.specs.Scripts.{Asks, lines}
 use Rattle.drill.proofs.ScriptLemmas.{asks_all, asks_on, behind_is, stops_at}
 use Rattle.drill.proofs.script.read_script.Goals as goal
