@@ -6,6 +6,7 @@ use Rattle.std.proofs.lemmas.List.{drop-drop, drop-map, drop_all, drop_more, len
 use Rattle.std.proofs.lemmas.List.Folds.{flat_map-map}
 use Rattle.drill.specs.Scripts.{Asks, Import, asked, IsScript, asked_by, lines, post, step_of}
 use Rattle.text_writer.specs.Written.{line}
+use Rattle.wire.specs.Asks.{import_tail}
 
 abbrev text_of : Bor (List ℕ) → List ℕ
 text_of l = l.now
@@ -26,7 +27,7 @@ abbrev is_dot : Bor (List ℕ) → Bool
 is_dot l = bytes_eq l.now (codes ".")
 
 abbrev import_by : List ℕ → List ℕ → List ℕ → Option (List (List ℕ) × List (List ℕ)) → Option (List ℕ × List (List ℕ))
-import_by number batch product file = option_map (λ f. (post (number ++ codes "/batch/" ++ batch ++ codes "/" ++ product) (flat_map line f.0), f.1)) file
+import_by number batch product file = option_map (λ f. (post (number ++ import_tail batch product) (flat_map line f.0), f.1)) file
 
 pub import_unasked : (text number batch product : List ℕ) (ls : List (Bor (List ℕ))) → step_of text ≡ Some (Import number batch product) → position is_dot ls ≡ None
     → None ≡ asked text (map text_of ls)
@@ -36,12 +37,12 @@ import_unasked text number batch product ls step none =
     ∙ ap (λ o. import_by number batch product (file_by (map text_of ls) o)) (position-map (λ l. bytes_eq l (codes ".")) text_of ls ∙ none))
 
 pub import_asked : (text number batch product m : List ℕ) (ls : List (Bor (List ℕ))) (i : ℕ) → step_of text ≡ Some (Import number batch product) → position is_dot ls ≡ Some i
-    → m ≡ post (number ++ codes "/batch/" ++ batch ++ codes "/" ++ product) (flat_map (λ l. line l.now) (take i ls))
+    → m ≡ post (number ++ import_tail batch product) (flat_map (λ l. line l.now) (take i ls))
     → Some (m, drop (i + 1) (map text_of ls)) ≡ asked text (map text_of ls)
 unfolding file_by
 import_asked text number batch product m ls i step found is =
     let file : flat_map (λ l. line l.now) (take i ls) ≡ flat_map line (take i (map text_of ls)) = sym (flat_map-map line text_of (take i ls)) ∙ ap (flat_map line) (sym (take-map text_of i ls)) in
-    ap (λ x. Some (x, drop (i + 1) (map text_of ls))) (is ∙ ap (post (number ++ codes "/batch/" ++ batch ++ codes "/" ++ product)) file)
+    ap (λ x. Some (x, drop (i + 1) (map text_of ls))) (is ∙ ap (post (number ++ import_tail batch product)) file)
     ∙ sym (ap (option_and_then (λ s. asked_by s (map text_of ls))) step
     ∙ ap (λ o. import_by number batch product (file_by (map text_of ls) o)) (position-map (λ l. bytes_eq l (codes ".")) text_of ls ∙ found))
 

@@ -1,16 +1,14 @@
 -- What `persod drill` prints, and how it ends.
-use Rattle.std.specs.Prelude.{◌≡◌, ℕ, nat_eq, All, List, ◌∷◌, ◌++◌, codes, if◌then◌else◌, Option, None, Some, Result, Ok, Err, ⊤}
-use Rattle.std.specs.Prelude.{Vec}
+use Rattle.std.specs.Prelude.{◌≡◌, ℕ, nat_eq, All, List, ◌∷◌, ◌++◌, codes, if◌then◌else◌, Option, None, Some, Result, Ok, Err, Vec, ⊤}
 use Rattle.std.specs.Global.{Global}
 use Rattle.std.specs.List.{ends_with, flat_map}
 use Rattle.std.specs.Io.KnownBytes.{Appends, Keeps}
 use Rattle.job_core.specs.Store.{Contents}
-use Rattle.text_writer.specs.Written.{AppendsBeginning}
+use Rattle.text_writer.specs.Written.{AppendsBeginning, line}
 use Rattle.wire.specs.Messages.{Tells}
 use Rattle.wire.specs.Parts.{body_behind, status_in}
 use Rattle.server.specs.declared.served.End.TheVariants.{Answered}
 use Rattle.server.specs.Exchanges.{Entry, Exchange, IsServed}
-use Rattle.text_writer.specs.Written.{line}
 use Rattle.drill.specs.Scripts.{IsScript}
 use Rattle.drill.specs.declared.DrillStop.{DrillStop}
 use Rattle.drill.specs.declared.DrillStop.TheVariants as stop

@@ -1,8 +1,9 @@
 -- The scripts of a drill (this project's profile).
-use Rattle.std.specs.Prelude.{◌≡◌, ℕ, ◌+◌, ◌-◌, ◌==◌, ◌&&◌, Bool, not, nat_eq, nat_lt, List, [], ◌∷◌, ◌++◌, length, take, drop, bytes_eq, codes, decimal, position, Option, Some, None, option_map, option_and_then, if◌then◌else◌}
+use Rattle.std.specs.Prelude.{◌≡◌, ℕ, ◌+◌, ◌-◌, ◌==◌, ◌&&◌, Bool, not, nat_eq, nat_lt, List, [], ◌∷◌, ◌++◌, length, take, drop, bytes_eq, codes, position, Option, Some, None, option_map, option_and_then, if◌then◌else◌}
 use Rattle.std.specs.List.{ends_with, flat_map, list_any, slice_split}
 use Rattle.store_data.specs.Name.{is_name}
-use Rattle.wire.specs.Asks.{is_number}
+use Rattle.wire.specs.Asks.{import_tail, is_number}
+use Rattle.wire.specs.Sending.{sending_head}
 use Rattle.text_writer.specs.Written.{line}
 use Rattle.drill.specs.declared.script.Step.{Step as Parsed}
 use Rattle.drill.specs.declared.script.Step.TheVariants as parsed
@@ -65,7 +66,7 @@ step_of text = option_and_then (λ p. step_by p.0 p.1) (word_of text)
 
 -- of the client `office`, by what follows it in the target
 abbrev pub post : List ℕ → List ℕ → List ℕ
-post target body = codes "POST /c/office/" ++ target ++ codes " HTTP/1.1\r\nHost: localhost\r\nContent-Length: " ++ decimal (length body) ++ codes "\r\n\r\n" ++ body
+post target body = sending_head (codes "/c/office/" ++ target) (length body) ++ body
 
 abbrev pub get : List ℕ → List ℕ
 get target = codes "GET " ++ target ++ codes " HTTP/1.1\r\nHost: localhost\r\n\r\n"
@@ -78,7 +79,7 @@ file_in behind = cut (λ l. bytes_eq l (codes ".")) behind
 abbrev pub asked_by : Step → List (List ℕ) → Option (List ℕ × List (List ℕ))
 asked_by (Office number body) behind = Some (post number body, behind)
 asked_by (Import number batch product) behind =
-    option_map (λ f. (post (number ++ codes "/batch/" ++ batch ++ codes "/" ++ product) (flat_map line f.0), f.1)) (file_in behind)
+    option_map (λ f. (post (number ++ import_tail batch product) (flat_map line f.0), f.1)) (file_in behind)
 asked_by (Get target) behind = Some (get target, behind)
 
 abbrev pub asked : List ℕ → List (List ℕ) → Option (List ℕ × List (List ℕ))

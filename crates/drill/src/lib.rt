@@ -57,7 +57,7 @@ impl From<WriteFailed> for DrillStop {
 /// Serves the lines of a script in turn, over a store in memory that begins empty, and prints what each is answered: the status,
 /// a space and the body, which ends its line. The lines are `office N JSON`, `import N BATCH PRODUCT` with the lines of a batch
 /// file up to a line `.`, and `get TARGET`. Errors: the first line of another form, before which all is served and printed; a read
-/// or a write that fails; refused memory. It writes only after all was served.
+/// or a write that fails; refused memory. It writes only after all was served. A request for which memory was refused is told as 503.
 pub fn drill_engine<R: Read, W: Write>(
     alloc: Global,
     reader: &mut R,

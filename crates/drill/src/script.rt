@@ -1,14 +1,14 @@
 //! A drill's script, and the messages that its lines stand for.
 ghost use Rattle.std.specs.Prelude.{◌≡◌, ◌++◌, ◌==◌, ◌≤◌, IfOk, IfSome, bytes_eq, codes, drop, length, map, option_map, position};
-ghost use Rattle.std.specs.List.{flat_map, list_all};
-ghost use Rattle.std.specs.Char.{is_ascii_digit};
-ghost use Rattle.wire.specs.Asks.{is_number};
+ghost use Rattle.std.specs.List.{flat_map};
+ghost use Rattle.wire.specs.Asks.{import_tail};
 ghost use Rattle.text_writer.specs.Written.{line};
 ghost use Rattle.drill.specs.Scripts.{IsScript, asked, get, import_of, lines, numbered, office_of, post, shown, step_by, step_of, target_of, without_end, word_of};
 
 use itoa::Buffer;
 use std::alloc::{AllocError, Global};
 use store_data::Name;
+use wire::is_number;
 
 /// The messages of a script up to its first bad line, and the number of that line, if there is one.
 #[derive(Drop)]
@@ -172,19 +172,6 @@ fn numbered(words: &[u8]) -> Option<(&[u8], &[u8])>
     is_number(number).then_some((number, words))
 }
 
-// A number of a client: 1 to 18 decimal digits, the first of which is not 0.
-fn is_number(text: &[u8]) -> bool
-    ensures { result ≡ is_number text.now }
-{
-    1 <= text.len() && text.len() <= 18 && all_digits(text) && text[0] != b'0'
-}
-
-fn all_digits(text: &[u8]) -> bool
-    ensures { result ≡ list_all is_ascii_digit text.now }
-{
-    text.iter().all(|byte| byte.is_ascii_digit())
-}
-
 // What stands before the first space, and behind it.
 fn word_of(text: &[u8]) -> Option<(&[u8], &[u8])>
     ensures { option_map (λ p. (p.0.now, p.1.now)) result ≡ word_of text.now }
@@ -214,7 +201,7 @@ fn import_target(
     batch: &[u8],
     product: &[u8],
 ) -> Result<Vec<u8>, AllocError>
-    ensures { IfOk result (λ t. t.items ≡ number.now ++ codes "/batch/" ++ batch.now ++ codes "/" ++ product.now) }
+    ensures { IfOk result (λ t. t.items ≡ number.now ++ import_tail batch.now product.now) }
 {
     let mut target = Vec::from_slice(alloc, number)?;
     target.extend_from_slice(b"/batch/")?;

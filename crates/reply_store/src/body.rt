@@ -1,9 +1,8 @@
 //! The texts of replies: compact JSON (RFC 8259), members in order of their names.
-ghost use Rattle.std.specs.Prelude.{◌≡◌, false, true, IfOk, OnOk, IsTrue, string_bytes, codes};
+ghost use Rattle.std.specs.Prelude.{◌≡◌, IfOk, OnOk, string_bytes};
 ghost use Rattle.hex.specs.Hex.{encode_upper};
 ghost use Rattle.json.specs.Print.{escape};
 ghost use Rattle.serde_json.specs.View.{view};
-ghost use Rattle.serde_json.specs.Written.{compact_text, has_float};
 ghost use Rattle.reply_store.specs.Told.{body_of, status_of};
 ghost use Rattle.reply_store.specs.Values.{ArePlain, IsPlain, ended_value, record_value, value_of};
 

@@ -27,6 +27,7 @@ use store_data::{Bytes, Name};
 pub struct Kept {
     /// 200, or 409 for every refusal.
     pub status: u16,
+    /// Compact JSON.
     pub body: Bytes,
 }
 

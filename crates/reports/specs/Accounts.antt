@@ -1,5 +1,5 @@
 -- The accounts of a batch and of a product's blanks (this project's profile): compact JSON (RFC 8259), the members in order of their names.
-use Rattle.std.specs.Prelude.{◌≡◌, ℕ, ◌+◌, ◌-◌, Bool, true, false, List, ◌++◌, codes, decimal, Option, option_map}
+use Rattle.std.specs.Prelude.{◌≡◌, ℕ, ◌+◌, ◌-◌, List, ◌++◌, codes, decimal, Option, option_map}
 use Rattle.job_core.specs.declared.rows.BatchRow.{BatchRow}
 use Rattle.job_core.specs.declared.rows.BatchTotals.{BatchTotals}
 use Rattle.job_core.specs.declared.rows.BlankTotals.{BlankTotals}
@@ -7,15 +7,12 @@ use Rattle.job_core.specs.Accounts.{batch_totals, blank_totals}
 use Rattle.job_core.specs.Facts.{Facts}
 use Rattle.job_core.specs.Rows.{batch_row_of}
 use Rattle.job_core.specs.States.{product_named}
-
-abbrev pub boolean : Bool → List ℕ
-boolean true = codes "true"
-boolean false = codes "false"
+use Rattle.reply_store.specs.Values.{flag_text}
 
 -- names stand as they are, since none of their characters needs an escape
 unfoldable pub batch_text : List ℕ → BatchRow → BatchTotals → List ℕ
 batch_text b row t =
-    codes "{\"batch\":\"" ++ b ++ codes "\",\"closed\":" ++ boolean row.is_closed ++ codes ",\"failed\":" ++ decimal t.failed
+    codes "{\"batch\":\"" ++ b ++ codes "\",\"closed\":" ++ flag_text row.is_closed ++ codes ",\"failed\":" ++ decimal t.failed
     ++ codes ",\"good\":" ++ decimal t.good ++ codes ",\"product\":\"" ++ row.product ++ codes "\",\"records\":" ++ decimal t.records
     ++ codes ",\"running\":" ++ decimal t.running ++ codes ",\"sessions\":" ++ decimal t.sessions ++ codes ",\"spoiled\":" ++ decimal t.spoiled
     ++ codes ",\"waiting\":" ++ decimal t.waiting ++ codes ",\"withdrawn\":" ++ decimal t.withdrawn ++ codes "}"

@@ -15,8 +15,8 @@ IsTold why text (Err (Store fault)) = ⊤
 IsTold why text (Err Write) = ⊥
 
 -- what is answered is this of the contents
-abbrev pub Tells : State → State → Refusal → (Contents → Option (List ℕ)) → Result (List ℕ) AccountFault → Type 0
-Tells old new why text_of result = IsHonest new → (c : Contents) → old.holds c → IsTold why (text_of c) result
+abbrev pub TellsText : State → State → Refusal → (Contents → Option (List ℕ)) → Result (List ℕ) AccountFault → Type 0
+TellsText old new why text_of result = IsHonest new → (c : Contents) → old.holds c → IsTold why (text_of c) result
 
 -- what isn't told: another refusal, a fault of a device that didn't fail, or a failed write
 abbrev pub HasFaultCause : Refusal → State → Result (List ℕ) AccountFault → Type 0

@@ -1,13 +1,11 @@
 -- The JSON values of accounts.
 use Rattle.std.specs.Prelude.{ℕ, List, codes}
-use Rattle.serde_json.specs.Data.{Data, boolean, number, unsigned, string, object, member, no_members}
+use Rattle.serde_json.specs.Data.{Data, boolean, string, object, member, no_members}
 use Rattle.job_core.specs.declared.rows.BatchRow.{BatchRow}
 use Rattle.job_core.specs.declared.rows.BatchTotals.{BatchTotals}
 use Rattle.job_core.specs.declared.rows.BlankTotals.{BlankTotals}
+use Rattle.reply_store.specs.Values.{num}
 use Rattle.reports.specs.Accounts.{charged, free}
-
-abbrev pub num : ℕ → Data
-num n = number (unsigned n)
 
 abbrev pub batch_value : List ℕ → BatchRow → BatchTotals → Data
 batch_value b row t =

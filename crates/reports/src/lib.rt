@@ -4,11 +4,11 @@
 ghost use Rattle.std.specs.Prelude.{◌≡◌, map, take};
 ghost use Rattle.job_core.specs.Accounts.{batch_totals, blank_totals, record_line};
 ghost use Rattle.job_core.specs.States.{records_named};
-ghost use Rattle.job_core.specs.Store.{Contents, HasCause, IsHonest, Reads, Stays};
+ghost use Rattle.job_core.specs.Store.{Contents, HasCause, Reads, Stays};
 ghost use Rattle.job_core.specs.declared.refusal.Refusal.TheVariants.{BatchUnknown, ProductUnknown};
 ghost use Rattle.reports.specs.Accounts.{AreAllCounted, AreAllStanding, batch_account, blank_account};
 ghost use Rattle.reports.specs.Report.{report_text};
-ghost use Rattle.reports.specs.Told.{HasFaultCause, HasReportCause, KeepsUntold, Reports, Tells};
+ghost use Rattle.reports.specs.Told.{HasFaultCause, HasReportCause, KeepsUntold, Reports, TellsText};
 
 mod accounts;
 mod fault;
@@ -33,7 +33,7 @@ pub fn batch_counts<S: JobStore>(
     batch: &Name,
 ) -> Result<Bytes, AccountFault>
     ensures stays { Stays (S.state store.old) (S.state store.new) }
-    ensures tells { Tells (S.state store.old) (S.state store.new) BatchUnknown (λ c. batch_account c.facts batch.now) result }
+    ensures tells { TellsText (S.state store.old) (S.state store.new) BatchUnknown (λ c. batch_account c.facts batch.now) result }
     ensures all { (c : Contents) → AreAllStanding (batch_totals c.facts batch.now) }
     ensures cause { HasFaultCause BatchUnknown (S.state store.new) result }
 {
@@ -52,7 +52,7 @@ pub fn blank_counts<S: JobStore>(
     product: &Name,
 ) -> Result<Bytes, AccountFault>
     ensures stays { Stays (S.state store.old) (S.state store.new) }
-    ensures tells { Tells (S.state store.old) (S.state store.new) ProductUnknown (λ c. blank_account c.facts product.now) result }
+    ensures tells { TellsText (S.state store.old) (S.state store.new) ProductUnknown (λ c. blank_account c.facts product.now) result }
     ensures all { (c : Contents) → (S.state store.old).holds c → AreAllCounted (blank_totals c.facts product.now) }
     ensures cause { HasFaultCause ProductUnknown (S.state store.new) result }
 {
@@ -86,7 +86,7 @@ pub fn close_report<S: JobStore, W: Write>(
 // The report's text.
 fn report_of<S: JobStore>(alloc: Global, store: &mut S, batch: &Name) -> Result<Bytes, AccountFault>
     ensures stays { Stays (S.state store.old) (S.state store.new) }
-    ensures tells { Tells (S.state store.old) (S.state store.new) BatchUnknown (λ c. report_text c.facts batch.now) result }
+    ensures tells { TellsText (S.state store.old) (S.state store.new) BatchUnknown (λ c. report_text c.facts batch.now) result }
     ensures cause { HasFaultCause BatchUnknown (S.state store.new) result }
 {
     let Some(row) = store.batch(batch)? else {

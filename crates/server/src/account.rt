@@ -3,7 +3,7 @@ ghost use Rattle.std.specs.Prelude.{◌≡◌, IfOk};
 ghost use Rattle.job_core.specs.Store.{Reads, Stays};
 ghost use Rattle.job_core.specs.declared.refusal.Refusal.TheVariants.{BatchUnknown};
 ghost use Rattle.reports.specs.Report.{report_text};
-ghost use Rattle.reports.specs.Told.{HasFaultCause, Tells};
+ghost use Rattle.reports.specs.Told.{TellsText};
 ghost use Rattle.reply_store.specs.Told.{told_of};
 ghost use Rattle.job_core.specs.declared.reply.Reply.TheVariants.{Refused};
 ghost use Rattle.server.specs.Replies.{account_kind, account_of, account_text, told_text, unknown_of};
@@ -58,7 +58,7 @@ fn kind_of(wanted: Wanted) -> Kind
 
 fn account<S: JobStore>(alloc: Global, store: &mut S, wanted: Wanted) -> Result<Bytes, AccountFault>
     ensures stays { Stays (S.state store.old) (S.state store.new) }
-    ensures tells { Tells (S.state store.old) (S.state store.new) (unknown_of wanted) (λ c. account_of c.facts wanted) result }
+    ensures tells { TellsText (S.state store.old) (S.state store.new) (unknown_of wanted) (λ c. account_of c.facts wanted) result }
 {
     match wanted {
         Wanted::Batch(batch) => batch_counts(alloc, store, &batch),
@@ -70,7 +70,7 @@ fn account<S: JobStore>(alloc: Global, store: &mut S, wanted: Wanted) -> Result<
 // A write into memory fails where memory is refused.
 fn report<S: JobStore>(alloc: Global, store: &mut S, batch: &Name) -> Result<Bytes, AccountFault>
     ensures stays { Stays (S.state store.old) (S.state store.new) }
-    ensures tells { Tells (S.state store.old) (S.state store.new) BatchUnknown (λ c. report_text c.facts batch.now) result }
+    ensures tells { TellsText (S.state store.old) (S.state store.new) BatchUnknown (λ c. report_text c.facts batch.now) result }
 {
     let mut text = Vec::new(alloc);
     match close_report(alloc, store, batch, &mut text) {

@@ -1,5 +1,5 @@
 //! Connections over memory, which keep what each brought and got.
-ghost use Rattle.std.specs.Prelude.{◌≡◌, ◌≤◌, []};
+ghost use Rattle.std.specs.Prelude.{◌≡◌, []};
 ghost use Rattle.server.specs.Memory.{bytes_left, queue, replies_of, texts};
 
 use crate::connections::{Connections, NextFault};
@@ -45,8 +45,11 @@ impl Incoming for MemoryReader {
 /// What a connection brought and got, and what became of it.
 #[derive(Drop)]
 pub struct Replied {
+    /// All its bytes, those behind its message too.
     pub input: Vec<u8>,
+    /// Its reply, or a beginning of it.
     pub written: Vec<u8>,
+    /// How it ended.
     pub served: Served,
 }
 

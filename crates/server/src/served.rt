@@ -14,6 +14,7 @@ pub enum End {
 /// What became of a connection.
 #[derive(Clone, Copy, Debug, PartialEq, Eq)]
 pub struct Served {
+    /// How it ended.
     pub end: End,
     /// An arrival was decided: its reply is kept, also where it could not be written.
     pub decided: bool,

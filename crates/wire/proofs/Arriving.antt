@@ -7,9 +7,9 @@ use Rattle.store_data.specs.Name.{is_name}
 use Rattle.job_core.specs.declared.request.Request.{Request}
 use Rattle.job_core.specs.declared.request.Request.TheVariants as request
 use Rattle.wire.specs.declared.ask.Asked.TheVariants as asked
-use Rattle.wire.specs.Asks.{arrival_of, ask_with, asked_at, asked_of, import_of, or_malformed}
+use Rattle.wire.specs.Asks.{arrival_of, ask_with, asked_at, asked_of, import_of, import_tail, or_malformed}
 use Rattle.wire.specs.Messages.{Brings, Came, IsHeard}
-use Rattle.wire.specs.Sending.{AreNames, Arrives, IsSendable, body_of, import_tail, sending_head, sending_of, sending_with, target_with}
+use Rattle.wire.specs.Sending.{AreNames, Arrives, IsSendable, body_of, sending_head, sending_of, sending_with, target_with}
 use Rattle.wire.proofs.SendLemmas.{IsNoImport, no_tail}
 use Rattle.wire.proofs.SentAsks.{import_route, job_route, name_is_read, number_is_read}
 use Rattle.wire.proofs.SentHeads.{are_seen, decimal_is_seen, is_heard}

@@ -7,7 +7,8 @@ use Rattle.std.proofs.Common.{append-nil, length-take-le}
 use Rattle.std.proofs.Math.Seq.{take-append-add}
 use Rattle.std.proofs.lemmas.List.{length-append, length-drop, take-append-le, take-take}
 use borrow.Rule.Slice.PartMut.{put_mid, post_of}
-use Rattle.wire.specs.Heads.{ends_head, head_end, least, or_else}
+use Rattle.batch_import.specs.Batch.{or_else}
+use Rattle.wire.specs.Heads.{ends_head, head_end, least}
 
 suc_is : (n : ℕ) → suc n ≡ n + 1
 suc_is n = omega arith

@@ -48,7 +48,8 @@ use Rattle.store_data.specs.Name.{is_name}
 use Rattle.wire.specs.declared.reply.Kind.TheVariants.{Json}
 use Rattle.wire.specs.Parsed.{HasNoBrace, kind_by, refusal_by, reply_in}
 use Rattle.wire.specs.Parsing.{IsReply, reply_bytes}
-use Rattle.wire.specs.Requests.{name_at, text_at}
+use Rattle.wire.specs.Requests.{name_at, text_at, value_in}
+use Rattle.wire.proofs.RequestLemmas.{value_in-read}
 use Rattle.wire.specs.Texts.{head_text, status_text}
 
 -- ---- where a body begins
@@ -328,12 +329,12 @@ body_is_read r h = ap read (sym (text_is_body r (are_plain r h))) ∙ value_is_r
 -- ---- what is found of the bytes of a reply
 
 pub value_is_found : (bytes body : List ℕ) (found : Option Data) (r : Reply) → IsReply r → bytes ≡ reply_bytes r → length bytes < 2 ^ 64
-    → ((head rest : List ℕ) → bytes ≡ head ++ rest → HasNoBrace head → slice_index rest 0 ≡ 123 → body ≡ rest) → (IsUtf8 body → found ≡ read body) → found ≡ Some (value_of r)
+    → ((head rest : List ℕ) → bytes ≡ head ++ rest → HasNoBrace head → slice_index rest 0 ≡ 123 → body ≡ rest) → found ≡ value_in body → found ≡ Some (value_of r)
 value_is_found bytes body found r ranged is few cuts reads =
     let head = head_text (status_of r) Json (length (body_of r)) in
     let long : length bytes ≡ length head + length (body_of r) = simp length-append at (ap length is) in
     let cut : body ≡ body_of r = cuts head (body_of r) is (head_has_no_brace r (length (body_of r)) (omega arith)) (body_begins r) in
-    reads (subst IsUtf8 (sym cut) (body_is_utf8 r ranged)) ∙ ap read cut ∙ body_is_read r ranged
+    reads ∙ ap value_in cut ∙ value_in-read (body_of r) (value_of r) (body_is_utf8 r ranged) (body_is_read r ranged)
 
 -- the value in an option that is one
 pub same_value : (v w : Data) → Some v ≡ Some w → v ≡ w

@@ -7,7 +7,8 @@ use Rattle.job_core.specs.declared.request.Request.{Request}
 use Rattle.job_core.specs.declared.request.Request.TheVariants as request
 use Rattle.reply_store.specs.Values.{IsPlain}
 use Rattle.reply_store.proofs.Escapes.{escape_plain, hex_plain, name_plain}
-use Rattle.wire.specs.Sending.{AreNames, IsSendable, body_of, import_tail, sending_of, sending_with, tail_of, value_of, word_text}
+use Rattle.wire.specs.Asks.{import_tail}
+use Rattle.wire.specs.Sending.{AreNames, IsSendable, body_of, sending_of, sending_with, tail_of, value_of, word_text}
 
 pub no_float : (r : Request) → has_float (value_of r) ≡ false
 no_float (request.Product p) = refl

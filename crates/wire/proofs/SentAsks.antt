@@ -10,9 +10,9 @@ use Rattle.std.proofs.lemmas.Fmt.{decimal_is_IsNumeral, decimal_nonempty, first_
 use Rattle.store_data.specs.Name.{is_name, is_name_char}
 use Rattle.reply_store.specs.Values.{IsPlain}
 use Rattle.reply_store.proofs.Escapes.{name_plain}
-use Rattle.wire.specs.Asks.{is_number, name_in, number_in}
+use Rattle.wire.specs.Asks.{import_tail, is_number, name_in, number_in}
 use Rattle.wire.specs.Routes.{Job, Import, has_no_empty, led, parts, route_by, route_in}
-use Rattle.wire.specs.Sending.{import_tail, target_with}
+use Rattle.wire.specs.Sending.{target_with}
 use Rattle.wire.proofs.RouteLemmas.{all_text, text_join, route_is}
 use Rattle.wire.proofs.SentHeads.{digits_are_digits}
 

@@ -22,7 +22,8 @@ use Rattle.httparse.specs.Grammar.{Field, IsField, RequestHead, ReadsRequest, cr
 use Rattle.httparse.proofs.GrammarLemmas.{cons-append, request_unique}
 use Rattle.httparse.proofs.OnLiterals.{httparse_on_literals}
 use Rattle.httparse.proofs.TrimLemmas.{trim_ows_space}
-use Rattle.wire.specs.Heads.{HeadParts, IsJudged, bare_lf_after, body_size, ends_head, has_bare_lf, head_end, least, or_else, pairs, pairs_after, parts_of, size_text, sized}
+use Rattle.batch_import.specs.Batch.{or_else}
+use Rattle.wire.specs.Heads.{HeadParts, IsJudged, bare_lf_after, body_size, ends_head, has_bare_lf, head_end, least, pairs, pairs_after, parts_of, size_text, sized}
 use Rattle.wire.specs.Messages.{Brings, Broken, IsHeard, IsHeardBy, after_head, end_of_head}
 use Rattle.wire.specs.Sending.{sending_head}
 use Rattle.wire.proofs.BodyLemmas.{end_stays}

@@ -17,10 +17,10 @@ use Rattle.serde_json.proofs.Numbers.{number_of-decimal}
 use Rattle.store_data.specs.Name.{is_name, is_name_char}
 use Rattle.job_core.specs.declared.request.Request.{Request}
 use Rattle.job_core.specs.declared.request.Request.TheVariants as request
-use Rattle.reply_store.specs.Values.{IsPlain}
+use Rattle.reply_store.specs.Values.{IsPlain, flag_text}
 use Rattle.reply_store.proofs.Escapes.{name_plain}
-use Rattle.wire.specs.Requests.{abort_in, answer_in, close_in, discard_in, flag_at, is_lot, is_within, is_word, kept, lot_in, name_at, number_at, open_in, product_in, remake_in, request_by_word, request_in, request_of_value, text_at, withdraw_in, word_in, with_two, with_three, with_four}
-use Rattle.wire.specs.Sending.{AreNames, IsSendable, body_of, flag_text, value_of, word_text}
+use Rattle.wire.specs.Requests.{abort_in, answer_in, close_in, discard_in, flag_at, is_lot, is_within, is_word, kept, lot_in, name_at, number_within, open_in, product_in, remake_in, request_by_word, request_in, request_of_value, text_at, withdraw_in, word_in, with_two, with_three, with_four}
+use Rattle.wire.specs.Sending.{AreNames, IsSendable, body_of, value_of, word_text}
 use Rattle.wire.proofs.ParseLemmas.{read_whole}
 use Rattle.wire.proofs.RequestLemmas.{value_in-read}
 use Rattle.wire.proofs.SendLemmas.{IsNoImport, text_is_body, word_is_plain}
@@ -84,7 +84,7 @@ name_kept : (n : List ℕ) → IsTrue (is_name n) → kept is_name n ≡ Some n
 name_kept n h = ap (λ (t : Bool). cond t (Some n) None) h
 
 request_is_found : (r : Request) → AreNames r → IsSendable r → IsNoImport r → request_of_value (value_of r) ≡ Some r
-unfolding request_of_value request_by_word text_at name_at number_at flag_at product_in lot_in open_in answer_in word_in abort_in discard_in remake_in withdraw_in close_in
+unfolding request_of_value request_by_word text_at name_at number_within flag_at product_in lot_in open_in answer_in word_in abort_in discard_in remake_in withdraw_in close_in
 request_is_found (request.Product p) h s other = λ i. with_four (λ code max low check. request.Product (record { code = code; max = max; low = low; check = check }))
     (name_kept p.code h i) (number_kept 16 255 p.max s.least s.most i) (number_kept 0 31 p.low (omega arith) s.low i) (Some p.check)
 request_is_found (request.Lot l) h s other =

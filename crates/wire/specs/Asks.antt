@@ -29,6 +29,10 @@ is_number text = nat_le 1 (length text) && nat_le (length text) 18 && list_all i
 abbrev pub number_in : List ℕ → Option ℕ
 number_in text = if is_number text then Some (digits_value 10 text) else None
 
+-- what follows the number in an import's target
+abbrev pub import_tail : List ℕ → List ℕ → List ℕ
+import_tail batch product = codes "/batch/" ++ batch ++ codes "/" ++ product
+
 -- what follows the number in the target, a byte 00, and the body
 abbrev pub ask_with : List ℕ → List ℕ → List ℕ
 ask_with tail body = tail ++ 0 ∷ body
@@ -56,7 +60,7 @@ import_of batch product raw = None
 abbrev pub ask_in : Route → List ℕ → Option Asked
 ask_in (Job client number) body = arrival_of (name_in client) (number_in number) (ask_with [] body) (request_in body)
 ask_in (Import client number batch product) body =
-    arrival_of (name_in client) (number_in number) (ask_with (codes "/batch/" ++ batch ++ codes "/" ++ product) body) (import_of (name_in batch) (name_in product) body)
+    arrival_of (name_in client) (number_in number) (ask_with (import_tail batch product) body) (import_of (name_in batch) (name_in product) body)
 ask_in (Batch batch) body = option_map (λ (name : List ℕ). asked.Account (wanted.Batch name)) (name_in batch)
 ask_in (Report batch) body = option_map (λ (name : List ℕ). asked.Account (wanted.Report name)) (name_in batch)
 ask_in (Blanks product) body = option_map (λ (name : List ℕ). asked.Account (wanted.Blanks name)) (name_in product)

@@ -6,15 +6,11 @@ use Rattle.std.specs.Str.{str_eq_ignore_ascii_case}
 use Rattle.std.specs.Str.Parse.{digits_value}
 use Rattle.httparse.specs.Grammar.{RequestHead, ReadsRequest}
 use Rattle.httparse.specs.Spans.{name_and_value}
+use Rattle.batch_import.specs.Batch.{or_else}
 use Rattle.wire.specs.declared.refusal.Refusal.{Refusal}
 use Rattle.wire.specs.declared.refusal.Refusal.TheVariants.{Malformed, TooLarge, HeadTooLarge}
 
 -- ---- the end of a head
-
--- the first, or where there is none, the second
-abbrev pub or_else : Option ℕ → Option ℕ → Option ℕ
-or_else None other = other
-or_else (Some n) other = Some n
 
 -- the least number up to n that passes
 abbrev pub least : (ℕ → Bool) → ℕ → Option ℕ

@@ -3,7 +3,6 @@ use Rattle.std.specs.Prelude.{◌≢◌, ◌^◌, ◌==◌, ℕ, List, codes, by
 use Rattle.hex.specs.Hex.{decode_of}
 use Rattle.hex.specs.declared.error.FromHexError.{FromHexError}
 use Rattle.serde_json.specs.Data.{Data}
-use Rattle.serde_json.specs.Find.{get, as_number, as_u64}
 use Rattle.batch_import.specs.declared.fault.Kind.{Kind as FaultKind}
 use Rattle.batch_import.specs.declared.fault.Kind.TheVariants as kind
 use Rattle.job_core.specs.declared.refusal.Refusal.{Refusal}
@@ -12,7 +11,8 @@ use Rattle.job_core.specs.declared.reply.Made.{Made}
 use Rattle.job_core.specs.declared.reply.Made.TheVariants.{Created, Known}
 use Rattle.job_core.specs.declared.reply.Reply.{Reply}
 use Rattle.job_core.specs.declared.reply.Reply.TheVariants.{Product, Lot, Import, Opened, Next, Good, Spoiled, Reset, Discarded, Waiting, Withdrawn, Closed, Refused, Busy, Faulty}
-use Rattle.wire.specs.Requests.{kept, name_at, text_at}
+use Rattle.batch_import.specs.Batch.{or_else}
+use Rattle.wire.specs.Requests.{kept, name_at, number_at, text_at}
 
 -- ---- where a body begins
 
@@ -20,9 +20,6 @@ abbrev pub HasNoBrace : List ℕ → Type 0
 HasNoBrace xs = (k : ℕ) → slice_index xs k ≢ 123
 
 -- ---- members of a body
-
-abbrev pub number_at : List ℕ → Data → Option ℕ
-number_at key d = option_and_then as_u64 (option_and_then as_number (get key d))
 
 abbrev pub count_at : List ℕ → Data → Option ℕ
 count_at key d = option_and_then (kept (λ (n : ℕ). nat_lt n (2 ^ 32))) (number_at key d)
@@ -37,10 +34,6 @@ bytes_at key d = option_and_then (λ (text : List ℕ). decoded (decode_of text)
 
 -- ---- the reply that a body may be of, by its members; its text decides
 
-abbrev pub either : {T : Type 0} → Option T → Option T → Option T
-either None other = other
-either (Some x) other = Some x
-
 abbrev pub import_in : Made → Data → Option Reply
 import_in made d =
     option_and_then (λ (b : List ℕ). option_and_then (λ (records : ℕ). option_map (λ (rows : ℕ). Import b records made rows)
@@ -48,8 +41,8 @@ import_in made d =
 
 abbrev pub made_in : Made → Data → Option Reply
 made_in made d =
-    either (option_map (λ (p : List ℕ). Product p made) (name_at (codes "product") d))
-    (either (option_map (λ (l : List ℕ). Lot l made) (name_at (codes "lot") d)) (import_in made d))
+    or_else (option_map (λ (p : List ℕ). Product p made) (name_at (codes "product") d))
+    (or_else (option_map (λ (l : List ℕ). Lot l made) (name_at (codes "lot") d)) (import_in made d))
 
 abbrev pub opened_in : List ℕ → List ℕ → Data → Option Reply
 opened_in b command d =

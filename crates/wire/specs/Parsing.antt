@@ -1,7 +1,7 @@
 -- Replies as text, as far as they can be read back (this project's profile).
-use Rattle.std.specs.Prelude.{◌<◌, ◌^◌, ℕ, List, IsTrue, ⊤}
+use Rattle.std.specs.Prelude.{◌<◌, ◌^◌, ℕ, List, ⊤}
 use Rattle.hex.specs.Hex.{IsBytes}
-use Rattle.store_data.specs.Name.{is_name}
+use Rattle.job_core.specs.Sound.{IsName}
 use Rattle.job_core.specs.declared.reply.Reply.{Reply}
 use Rattle.job_core.specs.declared.reply.Reply.TheVariants.{Product, Lot, Import, Opened, Next, Good, Spoiled, Reset, Discarded, Waiting, Withdrawn, Closed, Refused, Busy, Faulty}
 use Rattle.reply_store.specs.Told.{status_of, body_of}
@@ -11,9 +11,6 @@ use Rattle.wire.specs.Texts.{reply_text}
 -- all of a reply, from the status line to the end of its body
 abbrev pub reply_bytes : Reply → List ℕ
 reply_bytes r = reply_text (status_of r) Json (body_of r)
-
-abbrev pub IsName : List ℕ → Type 0
-IsName n = IsTrue (is_name n)
 
 -- its names are names, its bytes are bytes, and its numbers fit their types
 abbrev pub IsReply : Reply → Type 0

@@ -49,16 +49,20 @@ flag_at key d = option_and_then as_bool (get key d)
 abbrev pub is_within : ℕ → ℕ → ℕ → Bool
 is_within least most n = nat_le least n && nat_le n most
 
--- a number from the least to the most, with no minus, point or exponent
-unfoldable pub number_at : ℕ → ℕ → List ℕ → Data → Option ℕ
-number_at least most key d = option_and_then (kept (is_within least most)) (option_and_then as_u64 (option_and_then as_number (get key d)))
+-- a number with no minus, point or exponent
+abbrev pub number_at : List ℕ → Data → Option ℕ
+number_at key d = option_and_then as_u64 (option_and_then as_number (get key d))
+
+-- a number from the least to the most
+unfoldable pub number_within : ℕ → ℕ → List ℕ → Data → Option ℕ
+number_within least most key d = option_and_then (kept (is_within least most)) (number_at key d)
 
 -- serials and sessions have at most 18 digits
 abbrev pub serial_at : List ℕ → Data → Option ℕ
-serial_at key d = number_at 0 (10 ^ 18 - 1) key d
+serial_at key d = number_within 0 (10 ^ 18 - 1) key d
 
 abbrev pub session_in : Data → Option ℕ
-session_in d = number_at 1 (10 ^ 18 - 1) (codes "session") d
+session_in d = number_within 1 (10 ^ 18 - 1) (codes "session") d
 
 -- four hexadecimal digits, of either case
 abbrev pub is_word : List ℕ → Bool
@@ -72,7 +76,7 @@ word_in d = option_map (digits_value 16) (option_and_then (kept is_word) (text_a
 unfoldable pub product_in : Data → Option Request
 product_in d =
     with_four (λ code max low check. request.Product (record { code = code; max = max; low = low; check = check }))
-    (name_at (codes "product") d) (number_at 16 255 (codes "max") d) (number_at 0 31 (codes "low") d) (flag_at (codes "check") d)
+    (name_at (codes "product") d) (number_within 16 255 (codes "max") d) (number_within 0 31 (codes "low") d) (flag_at (codes "check") d)
 
 -- its last serial has at most 18 digits too
 abbrev pub is_lot : Lot → Bool
@@ -82,7 +86,7 @@ unfoldable pub lot_in : Data → Option Request
 lot_in d =
     option_map request.Lot (option_and_then (kept is_lot)
     (with_four (λ name product first count. record { name = name; product = product; first = first; count = count })
-    (name_at (codes "lot") d) (name_at (codes "product") d) (serial_at (codes "first") d) (number_at 1 1000000 (codes "count") d)))
+    (name_at (codes "lot") d) (name_at (codes "product") d) (serial_at (codes "first") d) (number_within 1 1000000 (codes "count") d)))
 
 unfoldable pub open_in : Data → Option Request
 open_in d = with_two (λ batch blank. request.Open batch blank) (name_at (codes "batch") d) (serial_at (codes "blank") d)
@@ -90,7 +94,7 @@ open_in d = with_two (λ batch blank. request.Open batch blank) (name_at (codes 
 unfoldable pub answer_in : Data → Option Request
 answer_in d =
     with_three (λ session index sw. request.Answer session index sw)
-    (session_in d) (number_at 0 (2 ^ 32 - 1) (codes "index") d) (word_in d)
+    (session_in d) (number_within 0 (2 ^ 32 - 1) (codes "index") d) (word_in d)
 
 unfoldable pub abort_in : Data → Option Request
 abort_in d = option_map (λ session. request.Abort session) (session_in d)

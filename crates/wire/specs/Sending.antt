@@ -1,15 +1,15 @@
 -- The texts of requests: HTTP/1.1 (RFC 9112), with the lines of this project's profile, and compact JSON (RFC 8259) with the members in order of their names.
-use Rattle.std.specs.Prelude.{◌≡◌, ◌≤◌, ◌<◌, ◌^◌, ◌/◌, ◌%◌, ℕ, Bool, true, false, List, [], ◌∷◌, ◌++◌, length, codes, decimal, Ok, ⊤}
+use Rattle.std.specs.Prelude.{◌≡◌, ◌≤◌, ◌<◌, ◌^◌, ◌/◌, ◌%◌, ℕ, List, [], ◌∷◌, ◌++◌, length, codes, decimal, Ok, ⊤}
 use Rattle.hex.specs.Hex.{encode_upper}
 use Rattle.serde_json.specs.Data.{Data, boolean, null, string, object, member, no_members}
-use Rattle.reply_store.specs.Values.{num}
+use Rattle.reply_store.specs.Values.{flag_text, num}
+use Rattle.job_core.specs.Sound.{IsName}
 use Rattle.job_core.specs.Requests.{IsRequest}
 use Rattle.job_core.specs.declared.request.Request.{Request}
 use Rattle.job_core.specs.declared.request.Request.TheVariants as request
 use Rattle.wire.specs.declared.ask.Asked.TheVariants as asked
-use Rattle.wire.specs.Asks.{ask_with, asked_of}
+use Rattle.wire.specs.Asks.{ask_with, asked_of, import_tail}
 use Rattle.wire.specs.Messages.{Brings, Came, IsHeard}
-use Rattle.wire.specs.Parsing.{IsName}
 
 -- ---- what callers owe
 
@@ -28,10 +28,6 @@ IsSendable (request.Withdraw b r) = ⊤
 IsSendable (request.Close b) = ⊤
 
 -- ---- bodies
-
-abbrev pub flag_text : Bool → List ℕ
-flag_text true = codes "true"
-flag_text false = codes "false"
 
 -- four digits in upper case
 abbrev pub word_text : ℕ → List ℕ
@@ -57,10 +53,6 @@ body_of (request.Withdraw b r) = codes "{\"batch\":\"" ++ b ++ codes "\",\"do\":
 body_of (request.Close b) = codes "{\"batch\":\"" ++ b ++ codes "\",\"do\":\"close\"}"
 
 -- ---- whole texts
-
--- what follows the number in an import's target
-abbrev pub import_tail : List ℕ → List ℕ → List ℕ
-import_tail batch product = codes "/batch/" ++ batch ++ codes "/" ++ product
 
 abbrev pub tail_of : Request → List ℕ
 tail_of (request.Import b p raw) = import_tail b p

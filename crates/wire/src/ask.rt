@@ -2,7 +2,8 @@
 ghost use Rattle.std.specs.Prelude.{◌≡◌, ◌<◌, ◌≤◌, ◌^◌, ◌++◌, [], ◌∷◌, Err, IfOk, IfSome, Ok, OnOk, bytes_eq, codes, if◌then◌else◌, true};
 ghost use Rattle.std.specs.Str.Parse.{digits_value};
 ghost use Rattle.store_data.specs.Name.{is_name};
-ghost use Rattle.wire.specs.Asks.{IsAsked, IsInRange, ask_in, ask_with, asked_of, is_number, method_text, number_in, or_malformed};
+ghost use Rattle.job_core.specs.Sound.{IsName};
+ghost use Rattle.wire.specs.Asks.{IsAsked, IsInRange, ask_in, ask_with, asked_of, import_tail, is_number, method_text, number_in, or_malformed};
 ghost use Rattle.wire.specs.Messages.{came};
 ghost use Rattle.wire.specs.Matched.{shown};
 ghost use Rattle.wire.specs.Routes.{Import, Job};
@@ -188,15 +189,27 @@ fn job_ask(alloc: Global, body: &[u8]) -> Result<Bytes, AllocError>
 
 // What a repeat of an import has to have alike: what follows the number in the target, a byte 00, and the body.
 fn import_ask(alloc: Global, batch: &Name, product: &Name, body: &[u8]) -> Result<Bytes, AllocError>
-    ensures { IfOk result (λ ask. ask ≡ ask_with (codes "/batch/" ++ batch.now ++ codes "/" ++ product.now) body.now) }
+    ensures { IfOk result (λ ask. ask ≡ ask_with (import_tail batch.now product.now) body.now) }
 {
     let mut ask = Vec::with_capacity(alloc, MOST_TAIL + 1 + body.len())?;
-    ask.extend_from_slice(b"/batch/")?;
-    ask.extend_from_slice(batch.bytes())?;
-    ask.push(b'/')?;
-    ask.extend_from_slice(product.bytes())?;
+    push_import_tail(&mut ask, batch, product)?;
     push_body(&mut ask, body)?;
     Ok(Bytes::from_vec(ask))
+}
+
+/// Adds what follows the number in an import's target.
+pub(crate) fn push_import_tail(
+    text: &mut Vec<u8>,
+    batch: &Name,
+    product: &Name,
+) -> Result<(), AllocError>
+    ensures tail { OnOk result (text.new.items ≡ text.old.items ++ import_tail batch.now product.now) }
+    ensures names { OnOk result (IsName batch.now × IsName product.now) }
+{
+    text.extend_from_slice(b"/batch/")?;
+    text.extend_from_slice(batch.bytes())?;
+    text.push(b'/')?;
+    text.extend_from_slice(product.bytes())
 }
 
 // Adds a byte 00, and the body.
@@ -219,7 +232,8 @@ fn number_in(text: &[u8]) -> Option<u64>
     }
 }
 
-fn is_number(text: &[u8]) -> bool
+/// Whether a text is a number of a request: 1 to 18 decimal digits, the first of which is not 0 (this project's profile).
+pub fn is_number(text: &[u8]) -> bool
     ensures { result ≡ is_number text.now }
 {
     1 <= text.len() && text.len() <= MOST_DIGITS && all_digits(text) && text[0] != b'0'

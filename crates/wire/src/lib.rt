@@ -14,7 +14,7 @@ mod request;
 mod route;
 mod sending;
 
-pub use ask::{AskFault, Asked, Wanted, to_ask};
+pub use ask::{AskFault, Asked, Wanted, is_number, to_ask};
 pub use incoming::{Incoming, Pieces};
 pub use message::{Message, Reading, read_message};
 pub use parse::parse_reply;

@@ -13,8 +13,11 @@ use store_data::Bytes;
 /// A message that came whole, and whose head passes its tests.
 #[derive(Drop)]
 pub struct Message {
+    /// Of the head's first line (RFC 9112, section 3.1).
     pub method: Bytes,
+    /// What follows the method there (RFC 9112, section 3.2).
     pub target: Bytes,
+    /// As many bytes as the head's length says, none if it says none.
     pub body: Bytes,
 }
 
@@ -63,14 +66,14 @@ fn with_body(alloc: Global, head: HeadParts<'_>, body: Option<Bytes>) -> Reading
     let Some(body) = body else {
         return Reading::Broken;
     };
-    match message_of(alloc, head, body) {
+    match message_with(alloc, head, body) {
         Ok(message) => Reading::Message(message),
         Err(_) => Reading::Memory,
     }
 }
 
 // A message of this head and body.
-fn message_of(alloc: Global, head: HeadParts<'_>, body: Bytes) -> Result<Message, AllocError>
+fn message_with(alloc: Global, head: HeadParts<'_>, body: Bytes) -> Result<Message, AllocError>
     ensures { IfOk result (λ m. came m ≡ record { method = head.entry.method.now; target = head.entry.target.now; body = body }) }
 {
     let method = Bytes::from_vec(head.method.to_vec(alloc)?);

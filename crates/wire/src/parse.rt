@@ -1,15 +1,15 @@
 //! Replies, read back from their bytes.
-ghost use Rattle.std.specs.Prelude.{◌≡◌, ◌≢◌, ◌<◌, ◌≤◌, ◌^◌, ◌↔◌, ◌++◌, ℕ, List, length, slice_index, option_map, Some, IfOk, IfSome, IsTrue, IsUtf8};
+ghost use Rattle.std.specs.Prelude.{◌≡◌, ◌≢◌, ◌<◌, ◌≤◌, ◌^◌, ◌↔◌, ◌++◌, ℕ, List, length, slice_index, Some, IfOk, IfSome, IsTrue};
 ghost use Rattle.hex.specs.Hex.{IsBytes};
+ghost use Rattle.job_core.specs.Sound.{IsName};
 ghost use Rattle.job_core.specs.declared.reply.Reply.{Reply as ReplyValue};
-ghost use Rattle.serde_json.specs.Read.{read};
 ghost use Rattle.serde_json.specs.View.{view};
-ghost use Rattle.wire.specs.Parsed.{HasNoBrace, accepted_in, bytes_at, command_in, count_at, ended_in, import_in, kind_by, made_in, next_in, noted_in, number_at, opened_in, refusal_by, refused_in, reply_in};
-ghost use Rattle.wire.specs.Parsing.{IsName, IsReply, reply_bytes};
-ghost use Rattle.wire.specs.Requests.{name_at, text_at};
+ghost use Rattle.wire.specs.Parsed.{HasNoBrace, accepted_in, bytes_at, command_in, count_at, ended_in, import_in, kind_by, made_in, next_in, noted_in, opened_in, refusal_by, refused_in, reply_in};
+ghost use Rattle.wire.specs.Parsing.{IsReply, reply_bytes};
+ghost use Rattle.wire.specs.Requests.{name_at, number_at, text_at};
 
 use crate::reply::{Kind, reply_head};
-use crate::request::{name_at, text_at};
+use crate::request::{name_at, number_at, text_at, value_in};
 use batch_import::{Kind as FaultKind, RowFault};
 use hex::FromHexError;
 use job_core::{Made, Refusal, Reply};
@@ -58,22 +58,6 @@ fn first_brace(bytes: &[u8]) -> usize
         }
     }
     bytes.len()
-}
-
-// The JSON value of a text, if it is one.
-fn value_in(alloc: Global, text: &[u8]) -> Result<Option<Value>, AllocError>
-    ensures { IsUtf8 text.now → IfOk result (λ v. option_map view v ≡ read text.now) }
-{
-    match Value::from_slice(alloc, text) {
-        Ok(value) => Ok(Some(value)),
-        Err(why) => {
-            if why.is_memory() {
-                Err(AllocError)
-            } else {
-                Ok(None)
-            }
-        }
-    }
 }
 
 // Whether these bytes are the whole text of a reply.
@@ -245,13 +229,6 @@ fn refused_in(value: &Value) -> Option<Reply>
 }
 
 // ---- members
-
-fn number_at(value: &Value, key: &str) -> Option<u64>
-    ensures value { result ≡ number_at key.now (view value.now) }
-    ensures ranged { IfSome result (λ n. n < 2 ^ 64) }
-{
-    value.get(key)?.as_u64()
-}
 
 fn count_at(value: &Value, key: &str) -> Option<u32>
     ensures value { result ≡ count_at key.now (view value.now) }

@@ -5,7 +5,7 @@ use job_core::{Made, Refusal, Reply};
 use std::alloc::{AllocError, Global};
 use std::process::Abort;
 use std::test::Fail;
-use store_data::{Bytes, Name};
+use store_data::Name;
 
 // A whole reply: its status with its words, and its body.
 fn reply_of(alloc: Global, status: &str, body: &str) -> Result<Option<Reply>, AllocError> {

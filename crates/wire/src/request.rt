@@ -1,12 +1,12 @@
 //! Requests in JSON (RFC 8259).
-ghost use Rattle.std.specs.Prelude.{◌≡◌, ◌≤◌, IfOk, IfSome, IsTrue, option_map};
+ghost use Rattle.std.specs.Prelude.{◌≡◌, ◌<◌, ◌≤◌, ◌^◌, IfOk, IfSome, IsTrue, option_map};
 ghost use Rattle.std.specs.Char.{is_ascii_hexdigit};
 ghost use Rattle.std.specs.List.{list_all};
 ghost use Rattle.std.specs.Str.Parse.{digits_value};
 ghost use Rattle.store_data.specs.Name.{is_name};
 ghost use Rattle.job_core.specs.Requests.{IsRequest};
 ghost use Rattle.serde_json.specs.View.{view};
-ghost use Rattle.wire.specs.Requests.{abort_in, answer_in, close_in, count_in, discard_in, flag_at, is_word, kept, lot_in, name_at, number_at, open_in, product_in, remake_in, request_by_word, request_in, request_of_value, serial_at, session_in, text_at, value_in, withdraw_in, word_in};
+ghost use Rattle.wire.specs.Requests.{abort_in, answer_in, close_in, count_in, discard_in, flag_at, is_word, kept, lot_in, name_at, number_at, number_within, open_in, product_in, remake_in, request_by_word, request_in, request_of_value, serial_at, session_in, text_at, value_in, withdraw_in, word_in};
 
 use job_core::{Lot, Request};
 use serde_json::Value;
@@ -28,9 +28,9 @@ pub(crate) fn request_of(alloc: Global, body: &[u8]) -> Result<Option<Request>, 
     }
 }
 
-// The value that a body is, if it is JSON.
+/// The value that a body is, if it is JSON.
 #[tactic(auto, unfolding(crate::specs::Requests::value_in))]
-fn value_in(alloc: Global, body: &[u8]) -> Result<Option<Value>, AllocError>
+pub(crate) fn value_in(alloc: Global, body: &[u8]) -> Result<Option<Value>, AllocError>
     ensures { IfOk result (λ v. option_map view v ≡ value_in body.now) }
 {
     match Value::from_slice(alloc, body) {
@@ -82,8 +82,8 @@ fn product_in(value: &Value) -> Option<Request>
     ensures ranged { IfSome result IsRequest }
 {
     let code = name_at(value, "product")?;
-    let max = number_at(value, "max", 16, 255)?;
-    let low = number_at(value, "low", 0, 31)?;
+    let max = number_within(value, "max", 16, 255)?;
+    let low = number_within(value, "low", 0, 31)?;
     let check = flag_at(value, "check")?;
     Some(Request::Product {
         product: Product {
@@ -103,7 +103,7 @@ fn lot_in(value: &Value) -> Option<Request>
     let name = name_at(value, "lot")?;
     let product = name_at(value, "product")?;
     let first = serial_at(value, "first")?;
-    let count = number_at(value, "count", 1, 1_000_000)?;
+    let count = number_within(value, "count", 1, 1_000_000)?;
     if first + count - 1 > MOST_SERIAL {
         return None;
     }
@@ -133,7 +133,7 @@ fn answer_in(value: &Value) -> Option<Request>
     ensures ranged { IfSome result IsRequest }
 {
     let session = session_in(value)?;
-    let index = number_at(value, "index", 0, 4_294_967_295)?;
+    let index = number_within(value, "index", 0, 4_294_967_295)?;
     let sw = word_in(value)?;
     Some(Request::Answer {
         session,
@@ -220,13 +220,21 @@ fn flag_at(value: &Value, key: &str) -> Option<bool>
     value.get(key)?.as_bool()
 }
 
-// A number from the least to the most, with no minus, point or exponent.
-#[tactic(auto, unfolding(crate::specs::Requests::number_at))]
-fn number_at(value: &Value, key: &str, least: u64, most: u64) -> Option<u64>
-    ensures value { result ≡ number_at least most key.now (view value.now) }
+/// A number with no minus, point or exponent.
+pub(crate) fn number_at(value: &Value, key: &str) -> Option<u64>
+    ensures value { result ≡ number_at key.now (view value.now) }
+    ensures ranged { IfSome result (λ n. n < 2 ^ 64) }
+{
+    value.get(key)?.as_u64()
+}
+
+// A number from the least to the most.
+#[tactic(auto, unfolding(crate::specs::Requests::number_within))]
+fn number_within(value: &Value, key: &str, least: u64, most: u64) -> Option<u64>
+    ensures value { result ≡ number_within least most key.now (view value.now) }
     ensures ranged { IfSome result (λ n. (least ≤ n) × (n ≤ most)) }
 {
-    let number = value.get(key)?.as_u64()?;
+    let number = number_at(value, key)?;
     if least <= number && number <= most {
         Some(number)
     } else {
@@ -238,13 +246,13 @@ fn serial_at(value: &Value, key: &str) -> Option<u64>
     ensures value { result ≡ serial_at key.now (view value.now) }
     ensures ranged { IfSome result (λ n. n ≤ MOST_SERIAL) }
 {
-    number_at(value, key, 0, MOST_SERIAL)
+    number_within(value, key, 0, MOST_SERIAL)
 }
 
 fn session_in(value: &Value) -> Option<u64>
     ensures { result ≡ session_in (view value.now) }
 {
-    number_at(value, "session", 1, MOST_SERIAL)
+    number_within(value, "session", 1, MOST_SERIAL)
 }
 
 #[tactic(auto, unfolding(crate::specs::Requests::word_in))]

@@ -1,9 +1,11 @@
 //! The texts of requests, as a machine's feeder sends them: a head, and compact JSON (RFC 8259) or a batch file.
-ghost use Rattle.std.specs.Prelude.{◌≡◌, ◌≤◌, ◌<◌, ◌^◌, ◌++◌, [], IfOk, OnOk, codes, decimal, string_bytes};
+ghost use Rattle.std.specs.Prelude.{◌≡◌, ◌≤◌, ◌<◌, ◌^◌, IfOk, OnOk, string_bytes};
 ghost use Rattle.serde_json.specs.View.{view};
-ghost use Rattle.wire.specs.Parsing.{IsName};
-ghost use Rattle.wire.specs.Sending.{AreNames, Arrives, IsSendable, body_of, import_tail, record_request, sending_of, sending_with, value_of, word_text};
+ghost use Rattle.job_core.specs.Sound.{IsName};
+ghost use Rattle.wire.specs.Asks.{import_tail};
+ghost use Rattle.wire.specs.Sending.{AreNames, Arrives, IsSendable, record_request, sending_of, sending_with, value_of, word_text};
 
+use crate::ask::push_import_tail;
 use itoa::Buffer;
 use job_core::{Lot, Request};
 use reply_store::name_text;
@@ -11,7 +13,7 @@ use serde_json::{Value, json};
 use std::alloc::{AllocError, Global};
 use store_data::{Bytes, Name, Product};
 
-/// The most bytes of a head: a target with three names and a number of 18 digits, and the lines around it.
+/// Room for a head: a target with three names and a number of 18 digits, and the lines around it.
 const MOST_HEAD: usize = 256;
 
 /// The message that asks for a request under a client's number, head and body. The number is 1 to 999,999,999,999,999,999. It
@@ -87,10 +89,8 @@ fn import_tail(alloc: Global, batch: &Name, product: &Name) -> Result<Bytes, All
     ensures tail { IfOk result (λ tail. tail ≡ import_tail batch.now product.now) }
     ensures names { OnOk result (IsName batch.now × IsName product.now) }
 {
-    let mut tail = Vec::from_slice(alloc, b"/batch/")?;
-    tail.extend_from_slice(batch.bytes())?;
-    tail.push(b'/')?;
-    tail.extend_from_slice(product.bytes())?;
+    let mut tail = Vec::new(alloc);
+    push_import_tail(&mut tail, batch, product)?;
     Ok(Bytes::from_vec(tail))
 }
 

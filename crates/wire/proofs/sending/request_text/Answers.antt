@@ -2,8 +2,9 @@ use Rattle.std.proofs.Common.{◌≡◌, ◌∙◌, ℕ, List, [], ap, refl, fal
 use Rattle.std.specs.Prelude.{string_bytes}
 use Rattle.serde_json.specs.View.{view}
 use Rattle.serde_json.specs.Written.{compact_text, has_float}
-use Rattle.wire.specs.Parsing.{IsName}
-use Rattle.wire.specs.Sending.{Arrives, body_of, import_tail, sending_of}
+use Rattle.job_core.specs.Sound.{IsName}
+use Rattle.wire.specs.Asks.{import_tail}
+use Rattle.wire.specs.Sending.{Arrives, body_of, sending_of}
 use Rattle.wire.proofs.Arriving.{file_arrives, json_arrives, on_made}
 use Rattle.wire.proofs.SendLemmas.{file_is_sent, json_is_sent, no_float, text_is_body}
 use Rattle.wire.proofs.sending.request_text.Goals as goal
