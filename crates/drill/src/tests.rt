@@ -157,6 +157,8 @@ fn set_up<R: AllocGlobal>(rt: &R, taken: &mut [u8; 200]) -> Result<(), DrillStop
     drill_engine(rt.alloc(), &mut reader, &mut writer)
 }
 
+const UNAVAILABLE: &str = r#"503 {"code":503,"refused":"storage"}"#;
+
 // Where memory is refused, by `--fail-alloc`, nothing is printed, or a message is told 503; a second drill prints it all.
 #[test]
 fn refused_memory_is_no_half_drill(rt: HostRuntime) -> Result<(), Fail> {
@@ -165,12 +167,18 @@ fn refused_memory_is_no_half_drill(rt: HostRuntime) -> Result<(), Fail> {
     if taken.starts_with(SET_UP_PRINTS.as_bytes()) {
         return Ok(());
     }
-    if let Err(stop) = ended {
-        assert_eq!(rt; stop, DrillStop::Memory);
-        assert_eq!(rt; taken, [0; 200]);
+    match ended {
+        Ok(()) => {
+            let mut lines = taken.split(|b| *b == b'\n');
+            assert!(rt; lines.any(|line| line == UNAVAILABLE.as_bytes()));
+        }
+        Err(stop) => {
+            assert_eq!(rt; stop, DrillStop::Memory);
+            assert_eq!(rt; taken, [0; 200]);
+        }
     }
     assert_eq!(rt; set_up(&rt, &mut taken), Ok(()));
-    assert_eq!(rt; taken.starts_with(SET_UP_PRINTS.as_bytes()), true);
+    assert!(rt; taken.starts_with(SET_UP_PRINTS.as_bytes()));
     Ok(())
 }
 

@@ -19,6 +19,11 @@ const UNKNOWN: &str = "GET /batch/B9 HTTP/1.1\r\nHost: localhost\r\n\r\n";
 const BATCH_UNKNOWN: &str =
     "HTTP/1.1 409 Conflict\r\nContent-Type: application/json\r\nContent-Length: 37\r\nConnection: close\r\n\r\n{\"code\":56,\"refused\":\"batch-unknown\"}";
 
+const BLANKS: &str = "GET /blanks/P1 HTTP/1.1\r\n\r\n";
+
+const PRODUCT_UNKNOWN: &str =
+    "HTTP/1.1 409 Conflict\r\nContent-Type: application/json\r\nContent-Length: 39\r\nConnection: close\r\n\r\n{\"code\":52,\"refused\":\"product-unknown\"}";
+
 const MALFORMED: &str =
     "HTTP/1.1 400 Bad Request\r\nContent-Type: application/json\r\nContent-Length: 34\r\nConnection: close\r\n\r\n{\"code\":400,\"refused\":\"malformed\"}";
 
@@ -217,6 +222,14 @@ fn a_head_has_32_lines_and_8192_bytes_at_most(rt: HostRuntime) -> Result<(), Fai
     Ok(())
 }
 
+// The store has no product.
+fn check_is_empty(rt: &impl Abort, alloc: Global, store: &mut ListStore) -> Result<(), Fail> {
+    let mut writer = Vec::new(alloc);
+    let _ = served(alloc, store, BLANKS.as_bytes(), &mut writer);
+    assert_eq!(rt; writer.as_slice(), PRODUCT_UNKNOWN.as_bytes());
+    Ok(())
+}
+
 // A reader that fails is told by 0 bytes, as the end is, so each cut is also a reader that fails there. What is refused for its head
 // is refused as soon as the cause was read, and bytes after a message are ignored.
 #[test]
@@ -232,17 +245,20 @@ fn a_message_cut_or_failing_to_come_changes_nothing(rt: HostRuntime) -> Result<(
         (LONG, TOO_LARGE),
         (endless.as_str(), HEAD_TOO_LARGE),
     ];
-    let mut store = ListStore::new(alloc);
     for (message, reply) in table {
         let longer = format!(in alloc; "{message}more")?;
         for cut in 0..=longer.len() {
             let front = longer.as_bytes().get(..cut).ok_or("no front")?;
+            let mut store = ListStore::new(alloc);
             let mut writer = Vec::new(alloc);
             let ended = served(alloc, &mut store, front, &mut writer);
             let is_cut = cut < message.len();
             assert_eq!(rt; ended == BROKEN, is_cut);
             let told = if is_cut { "" } else { reply };
             assert_eq!(rt; writer.as_slice(), told.as_bytes());
+            if is_cut {
+                check_is_empty(&rt, alloc, &mut store)?;
+            }
         }
     }
     Ok(())
@@ -266,7 +282,7 @@ fn a_failed_reply_is_told_again(rt: HostRuntime) -> Result<(), Fail> {
             let mut writer = Limited::new(alloc, most, at_a_call);
             let first = served(alloc, &mut store, PRODUCT.as_bytes(), &mut writer);
             assert_eq!(rt; first.end, end_of(most));
-            assert_eq!(rt; first.decided, true);
+            assert!(rt; first.decided);
             assert_eq!(rt;
                 Some(writer.taken.as_slice()),
                 CREATED.as_bytes().get(..most)
@@ -292,9 +308,9 @@ fn refused_memory_is_told_as_unavailable(rt: HostRuntime) -> Result<(), Fail> {
         let mut writer = written.as_mut_slice();
         let served = served(rt.alloc(), &mut store, PRODUCT.as_bytes(), &mut writer);
         let told = if served.decided { CREATED } else { UNAVAILABLE };
-        assert_eq!(rt; written.starts_with(told.as_bytes()), true);
+        assert!(rt; written.starts_with(told.as_bytes()));
         answered = answered.saturating_add(u32::from(served.decided));
     }
-    assert_eq!(rt; answered >= 2, true);
+    assert!(rt; answered >= 2);
     Ok(())
 }

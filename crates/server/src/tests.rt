@@ -4,11 +4,12 @@ use super::worked::{
     BLANKS, CLOSE, Exchange, IMPORTS, LATE_RESET, ONE_RUNS, OPEN, OPENED, PIECES, REFUSED, REMAKE,
     REPEATS, REPORT, SET_UP,
 };
-use super::{End, NextFault, Served, serve_all, serve_inputs};
+use super::{End, MemoryReader, NextFault, Served, serve_all, serve_inputs};
 use list_store::ListStore;
 use std::alloc::Global;
 use std::process::Abort;
 use std::test::Fail;
+use wire::Incoming;
 
 fn message(alloc: Global, (request, body, ..): Exchange) -> Result<Vec<u8>, Fail> {
     let size = body.len();
@@ -31,7 +32,8 @@ fn reply(alloc: Global, (_, _, status, body): Exchange) -> Result<Vec<u8>, Fail>
     Ok(text.into_bytes())
 }
 
-// After the set-up, these go so, in pieces of at most so many bytes.
+// After the set-up, these go so, in pieces of at most so many bytes. So a server that gives up, by a 503 or a failed write at each
+// sound message, which no clause refuses, fails here.
 fn check_in_pieces(
     rt: &impl Abort,
     alloc: Global,
@@ -99,6 +101,18 @@ fn a_late_reset_spoils_what_runs(rt: HostRuntime) -> Result<(), Fail> {
 #[test]
 fn what_is_refused_is_not_kept(rt: HostRuntime) -> Result<(), Fail> {
     check(&rt, rt.alloc(), REFUSED)
+}
+
+#[test]
+fn bytes_in_memory_come_in_pieces(rt: HostRuntime) -> Result<(), Fail> {
+    let bytes = b"GET /batch/B9".to_vec(rt.alloc())?;
+    for (most, count) in [(0, 1), (1, 1), (5, 5), (13, 13), (100, 13)] {
+        let mut reader = MemoryReader::new(bytes.to_vec(rt.alloc())?, most);
+        let mut buf = [0; 20];
+        assert_eq!(rt; reader.bring(&mut buf), count);
+        assert_eq!(rt; buf.get(..count), bytes.as_slice().get(..count));
+    }
+    Ok(())
 }
 
 #[test]

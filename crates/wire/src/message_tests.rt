@@ -1,5 +1,5 @@
 //! Messages, however their bytes are cut.
-use super::{Pieces, Reading, Refusal, read_message};
+use super::{Incoming, Pieces, Reading, Refusal, read_message};
 use std::process::Abort;
 use std::test::Fail;
 
@@ -65,6 +65,89 @@ fn bytes_behind_a_message_are_ignored(rt: HostRuntime) -> Result<(), Fail> {
         b"/batch/B9",
         b"",
     )
+}
+
+// Counts how often it is asked.
+#[derive(Drop)]
+struct Counted<'a> {
+    pieces: Pieces<'a>,
+    asked: usize,
+}
+
+impl Incoming for Counted<'_> {
+    ghost use Rattle.std.specs.Prelude.{Some};
+    ghost use Rattle.wire.specs.Brought.{bytes_of};
+
+    ghost brings = { λ c. Some (bytes_of c.pieces) };
+
+    fn bring(&mut self, buf: &mut [u8]) -> usize {
+        self.asked = self.asked.saturating_add(1);
+        self.pieces.bring(buf)
+    }
+}
+
+#[test]
+fn nothing_is_read_behind_a_message(rt: HostRuntime) -> Result<(), Fail> {
+    // The message has 129 bytes.
+    let table = [
+        (1, 129),
+        (2, 65),
+        (7, 19),
+        (HEAD - 1, 2),
+        (HEAD, 2),
+        (HEAD + 1, 2),
+        (8192, 1),
+    ];
+    for (most, calls) in table {
+        let mut incoming = Counted {
+            pieces: Pieces::new(PRODUCT, most),
+            asked: 0,
+        };
+        let Reading::Message(_) = read_message(rt.alloc(), &mut incoming) else {
+            return Err(Fail::new("no message"));
+        };
+        assert_eq!(rt; incoming.asked, calls, "at {most}");
+    }
+    Ok(())
+}
+
+// A read of the first bytes that fails, and would then bring the others.
+#[derive(Drop)]
+struct Failing<'a> {
+    front: Pieces<'a>,
+    others: Pieces<'a>,
+    has_failed: bool,
+}
+
+impl Incoming for Failing<'_> {
+    ghost use Rattle.std.specs.Prelude.{None};
+
+    ghost brings = { λ _. None };
+
+    fn bring(&mut self, buf: &mut [u8]) -> usize {
+        if self.has_failed {
+            return self.others.bring(buf);
+        }
+        let count = self.front.bring(buf);
+        self.has_failed = count == 0;
+        count
+    }
+}
+
+#[test]
+fn a_failed_read_is_the_end(rt: HostRuntime) -> Result<(), Fail> {
+    for cut in 0..PRODUCT.len() {
+        let (front, others) = PRODUCT.split_at(cut);
+        let mut incoming = Failing {
+            front: Pieces::new(front, 5),
+            others: Pieces::new(others, 5),
+            has_failed: false,
+        };
+        let Reading::Broken = read_message(rt.alloc(), &mut incoming) else {
+            return Err(Fail::new("not broken"));
+        };
+    }
+    Ok(())
 }
 
 // Why the message of these bytes is refused.
