@@ -19,7 +19,7 @@ pub enum Words {
     /// Prints the commands of a batch, with at most `max` bytes of data in each STORE DATA, 16 to
     /// 255, the product's number `low` in its P1, 0 to 31, and whether plain records are checked.
     Plan { max: u8, low: u8, check: bool },
-    /// Runs the server and its machines in memory, by a script. It has no options.
+    /// Serves a script of requests in memory. It has no options.
     Drill,
 }
 
@@ -90,7 +90,7 @@ fn drill_command<'a>(alloc: Global) -> Command<'a>
     ensures { (app_of result ≡ drill_command) × ((fields_of result).has_globals ≡ false) }
 {
     Command::new(alloc, "drill").about(
-        "Runs the server and its machines in memory, by a script read from standard input",
+        "Serves a script of requests, read from standard input, in memory",
     )
 }
 

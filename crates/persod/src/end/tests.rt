@@ -1,3 +1,4 @@
+//! What each end is told as.
 use super::{End, Exit, Told, exit_of};
 use std::test::Fail;
 

@@ -1,3 +1,4 @@
+//! The words that a subcommand takes, and those that it refuses.
 use super::{Words, WordsFault, read_words};
 
 #[test]
