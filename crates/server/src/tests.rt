@@ -4,7 +4,7 @@ use super::worked::{
     BLANKS, CLOSE, Exchange, IMPORTS, LATE_RESET, ONE_RUNS, OPEN, OPENED, PIECES, REFUSED, REMAKE,
     REPEATS, REPORT, SET_UP,
 };
-use super::{End, MemoryReader, NextFault, Served, serve_all, serve_inputs};
+use super::{Connections, End, MemoryReader, NextFault, Served, serve_all, serve_inputs};
 use list_store::ListStore;
 use std::alloc::Global;
 use std::process::Abort;
@@ -111,6 +111,23 @@ fn bytes_in_memory_come_in_pieces(rt: HostRuntime) -> Result<(), Fail> {
         let mut buf = [0; 20];
         assert_eq!(rt; reader.bring(&mut buf), count);
         assert_eq!(rt; buf.get(..count), bytes.as_slice().get(..count));
+    }
+    Ok(())
+}
+
+#[test]
+fn inputs_come_in_pieces(rt: HostRuntime) -> Result<(), Fail> {
+    for (most, count) in [(0, 1), (5, 5), (100, 13)] {
+        let mut inputs = Vec::new(rt.alloc());
+        inputs.push(b"GET /batch/B9".to_vec(rt.alloc())?)?;
+        let Ok((_, mut connections)) = serve_inputs(rt.alloc(), inputs, most, 0) else {
+            return Err(Fail::new("not served"));
+        };
+        let Ok((mut reader, _)) = connections.next() else {
+            return Err(Fail::new("no connection"));
+        };
+        let mut buf = [0; 20];
+        assert_eq!(rt; reader.bring(&mut buf), count);
     }
     Ok(())
 }

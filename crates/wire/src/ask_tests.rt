@@ -1,5 +1,5 @@
 //! What messages ask for.
-use super::{AskFault, Asked, Message, Method, Refusal, Wanted, to_ask};
+use super::{AskFault, Asked, Message, Method, Refusal, Wanted, is_number, to_ask};
 use job_core::{Arrival, Request};
 use std::alloc::{AllocError, Global};
 use std::process::Abort;
@@ -157,6 +157,32 @@ fn names_and_numbers_have_their_forms(rt: HostRuntime) -> Result<(), Fail> {
     ];
     for (method, target) in table {
         check_refused(&rt, method, target, MALFORMED)?;
+    }
+    Ok(())
+}
+
+#[test]
+fn a_number_has_1_to_18_digits_and_does_not_begin_with_0(rt: HostRuntime) -> Result<(), Fail> {
+    for text in ["1", "9", "10", "100000000000000000", "999999999999999999"] {
+        assert!(rt; is_number(text.as_bytes()), "at {text}");
+    }
+    let others = [
+        "",
+        "0",
+        "01",
+        "1000000000000000000",
+        "+1",
+        "-1",
+        " 1",
+        "1 ",
+        "1.0",
+        "1x",
+        "/",
+        ":",
+        "\u{661}",
+    ];
+    for text in others {
+        assert!(rt; !is_number(text.as_bytes()), "at {text:?}");
     }
     Ok(())
 }
