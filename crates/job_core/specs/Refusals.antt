@@ -1,5 +1,5 @@
--- The numbers of the refusals by rule (this project's profile).
-use Rattle.std.specs.Prelude.{ℕ}
+-- The numbers and names of the refusals by rule (this project's profile).
+use Rattle.std.specs.Prelude.{ℕ, List, codes}
 use Rattle.job_core.specs.declared.refusal.Refusal.{Refusal}
 use Rattle.job_core.specs.declared.refusal.Refusal.TheVariants.{ProductDiffers, ProductUnknown, LotDiffers, SerialsOverlap, BatchDiffers, BatchUnknown, BatchClosed, BlankUnknown, BlankOfOtherProduct, BlankUsed, NothingWaiting, SessionUnknown, NotYours, SessionEnded, OutOfTurn, RecordUnknown, NotFailed, NotWithdrawable, NotFinished, Limit, NumberReused}
 
@@ -25,3 +25,27 @@ code_of NotWithdrawable = 69
 code_of NotFinished = 70
 code_of Limit = 71
 code_of NumberReused = 72
+
+-- the name that replies tell it by
+abbrev pub name_of : Refusal → List ℕ
+name_of ProductDiffers = codes "product-differs"
+name_of ProductUnknown = codes "product-unknown"
+name_of LotDiffers = codes "lot-differs"
+name_of SerialsOverlap = codes "serials-overlap"
+name_of BatchDiffers = codes "batch-differs"
+name_of BatchUnknown = codes "batch-unknown"
+name_of BatchClosed = codes "batch-closed"
+name_of BlankUnknown = codes "blank-unknown"
+name_of BlankOfOtherProduct = codes "blank-of-other-product"
+name_of BlankUsed = codes "blank-used"
+name_of NothingWaiting = codes "nothing-waiting"
+name_of SessionUnknown = codes "session-unknown"
+name_of NotYours = codes "not-yours"
+name_of SessionEnded = codes "session-ended"
+name_of OutOfTurn = codes "out-of-turn"
+name_of RecordUnknown = codes "record-unknown"
+name_of NotFailed = codes "not-failed"
+name_of NotWithdrawable = codes "not-withdrawable"
+name_of NotFinished = codes "not-finished"
+name_of Limit = codes "limit"
+name_of NumberReused = codes "number-reused"

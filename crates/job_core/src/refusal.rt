@@ -1,74 +1,54 @@
 //! Refusals by rule.
 ghost use Rattle.std.specs.Prelude.{◌≡◌};
-ghost use Rattle.job_core.specs.Refusals.{code_of};
+ghost use Rattle.job_core.specs.Refusals.{code_of, name_of};
 
 use thiserror::Error;
 
 /// Why a request is refused (this project's profile).
 #[derive(Clone, Copy, Debug, PartialEq, Eq, Error)]
+#[error("{}", self.name())]
 pub enum Refusal {
     /// The product's code is there with other values.
-    #[error("product-differs")]
     ProductDiffers = 51,
     /// There is no such product.
-    #[error("product-unknown")]
     ProductUnknown = 52,
     /// The lot's name is there with other values.
-    #[error("lot-differs")]
     LotDiffers = 53,
     /// A serial of the lot lies in another lot.
-    #[error("serials-overlap")]
     SerialsOverlap = 54,
     /// The batch's name is there with another product or other bytes.
-    #[error("batch-differs")]
     BatchDiffers = 55,
     /// There is no such batch.
-    #[error("batch-unknown")]
     BatchUnknown = 56,
     /// The batch is closed.
-    #[error("batch-closed")]
     BatchClosed = 57,
     /// The blank lies in no lot.
-    #[error("blank-unknown")]
     BlankUnknown = 58,
     /// The blank is of another product.
-    #[error("blank-of-other-product")]
     BlankOfOtherProduct = 59,
     /// The blank was used or discarded.
-    #[error("blank-used")]
     BlankUsed = 60,
     /// No record of the batch wants a card.
-    #[error("nothing-waiting")]
     NothingWaiting = 62,
     /// There is no such session.
-    #[error("session-unknown")]
     SessionUnknown = 63,
     /// The session is another client's.
-    #[error("not-yours")]
     NotYours = 64,
     /// The session does not run any more.
-    #[error("session-ended")]
     SessionEnded = 65,
     /// The word is not for the command that was handed out last.
-    #[error("out-of-turn")]
     OutOfTurn = 66,
     /// The batch has no such record.
-    #[error("record-unknown")]
     RecordUnknown = 67,
     /// The record has not failed.
-    #[error("not-failed")]
     NotFailed = 68,
     /// The record neither waits nor has failed.
-    #[error("not-withdrawable")]
     NotWithdrawable = 69,
     /// A record of the batch is neither good nor withdrawn.
-    #[error("not-finished")]
     NotFinished = 70,
     /// There are as many as there may be.
-    #[error("limit")]
     Limit = 71,
     /// The request's number is kept with another ask.
-    #[error("number-reused")]
     NumberReused = 72,
 }
 
@@ -78,5 +58,34 @@ impl Refusal {
         ensures { result ≡ code_of self }
     {
         self as u8
+    }
+
+    /// The name that replies tell it by (this project's profile).
+    pub fn name(self) -> &'static str
+        ensures { result.now ≡ name_of self }
+    {
+        match self {
+            Refusal::ProductDiffers => "product-differs",
+            Refusal::ProductUnknown => "product-unknown",
+            Refusal::LotDiffers => "lot-differs",
+            Refusal::SerialsOverlap => "serials-overlap",
+            Refusal::BatchDiffers => "batch-differs",
+            Refusal::BatchUnknown => "batch-unknown",
+            Refusal::BatchClosed => "batch-closed",
+            Refusal::BlankUnknown => "blank-unknown",
+            Refusal::BlankOfOtherProduct => "blank-of-other-product",
+            Refusal::BlankUsed => "blank-used",
+            Refusal::NothingWaiting => "nothing-waiting",
+            Refusal::SessionUnknown => "session-unknown",
+            Refusal::NotYours => "not-yours",
+            Refusal::SessionEnded => "session-ended",
+            Refusal::OutOfTurn => "out-of-turn",
+            Refusal::RecordUnknown => "record-unknown",
+            Refusal::NotFailed => "not-failed",
+            Refusal::NotWithdrawable => "not-withdrawable",
+            Refusal::NotFinished => "not-finished",
+            Refusal::Limit => "limit",
+            Refusal::NumberReused => "number-reused",
+        }
     }
 }

@@ -4,24 +4,25 @@ use Rattle.std.specs.Fmt.{digits}
 use Rattle.hex.specs.Hex.{encode_upper}
 use Rattle.serde_json.specs.Written.{compact_text, has_float}
 use Rattle.serde_json.proofs.OnLiterals.{serde_json_on_literals}
+use Rattle.batch_import.specs.Kinds.{name_of as kind_name_of}
 use Rattle.batch_import.specs.declared.fault.Kind.{Kind}
 use Rattle.batch_import.specs.declared.fault.Kind.TheVariants as kind
+use Rattle.job_core.specs.Refusals.{name_of}
 use Rattle.job_core.specs.declared.refusal.Refusal.{Refusal}
 use Rattle.job_core.specs.declared.refusal.Refusal.TheVariants as refusal
 use Rattle.job_core.specs.declared.reply.Made.{Made}
 use Rattle.job_core.specs.declared.reply.Made.TheVariants.{Created, Known}
 use Rattle.job_core.specs.declared.reply.Reply.{Reply}
 use Rattle.job_core.specs.declared.reply.Reply.TheVariants.{Product, Lot, Import, Opened, Next, Good, Spoiled, Reset, Discarded, Waiting, Withdrawn, Closed, Refused, Busy, Faulty}
-use Rattle.reply_store.specs.Names.{made_name, refusal_name, kind_name}
 use Rattle.reply_store.specs.Values.{IsPlain, ArePlain, value_of}
-use Rattle.reply_store.specs.Told.{body_of}
+use Rattle.reply_store.specs.Told.{body_of, made_name}
 use Rattle.reply_store.proofs.Escapes.{escape_plain}
 
 made_plain : (m : Made) → IsPlain (made_name m)
 made_plain Created = refl
 made_plain Known = refl
 
-refusal_plain : (r : Refusal) → IsPlain (refusal_name r)
+refusal_plain : (r : Refusal) → IsPlain (name_of r)
 refusal_plain refusal.ProductDiffers = refl
 refusal_plain refusal.ProductUnknown = refl
 refusal_plain refusal.LotDiffers = refl
@@ -44,7 +45,7 @@ refusal_plain refusal.NotFinished = refl
 refusal_plain refusal.Limit = refl
 refusal_plain refusal.NumberReused = refl
 
-kind_plain : (k : Kind) → IsPlain (kind_name k)
+kind_plain : (k : Kind) → IsPlain (kind_name_of k)
 kind_plain kind.MarksDiffer = refl
 kind_plain kind.IdentifierTwice = refl
 kind_plain kind.TooManyBlocks = refl
@@ -99,6 +100,6 @@ text_is_body (Discarded blank) h = refl
 text_is_body (Waiting b r) h = simp (escape_plain b h.0, escape_plain r h.1, append_assoc)
 text_is_body (Withdrawn b r) h = simp (escape_plain b h.0, escape_plain r h.1, append_assoc)
 text_is_body (Closed b) h = simp (escape_plain b h, append_assoc)
-text_is_body (Refused why) h = simp (escape_plain (refusal_name why) (refusal_plain why), append_assoc)
+text_is_body (Refused why) h = simp (escape_plain (name_of why) (refusal_plain why), append_assoc)
 text_is_body (Busy s) h = simp (decimal-61, append_assoc)
-text_is_body (Faulty fault) h = simp (escape_plain (kind_name fault.kind) (kind_plain fault.kind), append_assoc)
+text_is_body (Faulty fault) h = simp (escape_plain (kind_name_of fault.kind) (kind_plain fault.kind), append_assoc)

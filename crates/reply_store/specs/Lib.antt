@@ -1,6 +1,5 @@
-pub mod Names
-pub mod Values
 pub mod Told
+pub mod Values
 pub mod Meaning
 pub mod Commands
 pub mod Handled

@@ -1,13 +1,14 @@
 -- What is told of a reply (this project's profile): its status, and its body, which is compact JSON (RFC 8259) with the members in order of their names.
 use Rattle.std.specs.Prelude.{ℕ, List, ◌++◌, codes, decimal}
 use Rattle.hex.specs.Hex.{encode_upper}
-use Rattle.batch_import.specs.Kinds.{code_of as kind_code_of}
-use Rattle.job_core.specs.Refusals.{code_of}
+use Rattle.batch_import.specs.Kinds.{code_of as kind_code_of, name_of as kind_name_of}
+use Rattle.job_core.specs.Refusals.{code_of, name_of}
 use Rattle.job_core.specs.declared.refusal.Refusal.TheVariants.{NumberReused}
+use Rattle.job_core.specs.declared.reply.Made.{Made}
+use Rattle.job_core.specs.declared.reply.Made.TheVariants.{Created, Known}
 use Rattle.job_core.specs.declared.reply.Reply.{Reply}
 use Rattle.job_core.specs.declared.reply.Reply.TheVariants.{Product, Lot, Import, Opened, Next, Good, Spoiled, Reset, Discarded, Waiting, Withdrawn, Closed, Refused, Busy, Faulty}
 use Rattle.reply_store.specs.declared.Kept.{Kept}
-use Rattle.reply_store.specs.Names.{made_name, refusal_name, kind_name}
 
 pub record Told : Type 0 where
   pub status : ℕ
@@ -31,6 +32,10 @@ status_of (Refused why) = 409
 status_of (Busy s) = 409
 status_of (Faulty fault) = 409
 
+abbrev pub made_name : Made → List ℕ
+made_name Created = codes "created"
+made_name Known = codes "known"
+
 -- names stand as they are, since none of their characters needs an escape; bytes stand in upper case hexadecimal
 unfoldable pub body_of : Reply → List ℕ
 body_of (Product p made) = codes "{\"product\":\"" ++ p ++ codes "\",\"result\":\"" ++ made_name made ++ codes "\"}"
@@ -51,10 +56,10 @@ body_of (Discarded blank) = codes "{\"blank\":" ++ decimal blank ++ codes ",\"re
 body_of (Waiting b r) = codes "{\"batch\":\"" ++ b ++ codes "\",\"record\":\"" ++ r ++ codes "\",\"result\":\"waiting\"}"
 body_of (Withdrawn b r) = codes "{\"batch\":\"" ++ b ++ codes "\",\"record\":\"" ++ r ++ codes "\",\"result\":\"withdrawn\"}"
 body_of (Closed b) = codes "{\"batch\":\"" ++ b ++ codes "\",\"result\":\"closed\"}"
-body_of (Refused why) = codes "{\"code\":" ++ decimal (code_of why) ++ codes ",\"refused\":\"" ++ refusal_name why ++ codes "\"}"
+body_of (Refused why) = codes "{\"code\":" ++ decimal (code_of why) ++ codes ",\"refused\":\"" ++ name_of why ++ codes "\"}"
 body_of (Busy s) = codes "{\"code\":61,\"refused\":\"machine-busy\",\"session\":" ++ decimal s ++ codes "}"
 body_of (Faulty fault) =
-    codes "{\"code\":" ++ decimal (kind_code_of fault.kind) ++ codes ",\"refused\":\"" ++ kind_name fault.kind
+    codes "{\"code\":" ++ decimal (kind_code_of fault.kind) ++ codes ",\"refused\":\"" ++ kind_name_of fault.kind
     ++ codes "\",\"row\":" ++ decimal fault.row ++ codes "}"
 
 abbrev pub told_of : Reply → Told

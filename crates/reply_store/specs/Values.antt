@@ -4,11 +4,11 @@ use Rattle.std.specs.List.{list_all}
 use Rattle.hex.specs.Hex.{encode_upper}
 use Rattle.serde_json.specs.Data.{Data, number, unsigned, string, object, member, no_members}
 use Rattle.store_data.specs.Name.{is_name_char}
-use Rattle.batch_import.specs.Kinds.{code_of as kind_code_of}
-use Rattle.job_core.specs.Refusals.{code_of}
+use Rattle.batch_import.specs.Kinds.{code_of as kind_code_of, name_of as kind_name_of}
+use Rattle.job_core.specs.Refusals.{code_of, name_of}
 use Rattle.job_core.specs.declared.reply.Reply.{Reply}
 use Rattle.job_core.specs.declared.reply.Reply.TheVariants.{Product, Lot, Import, Opened, Next, Good, Spoiled, Reset, Discarded, Waiting, Withdrawn, Closed, Refused, Busy, Faulty}
-use Rattle.reply_store.specs.Names.{made_name, refusal_name, kind_name}
+use Rattle.reply_store.specs.Told.{made_name}
 
 abbrev pub num : ℕ → Data
 num n = number (unsigned n)
@@ -41,10 +41,10 @@ value_of (Discarded blank) = object (member (codes "blank") (num blank) (member 
 value_of (Waiting b r) = record_value b r (codes "waiting")
 value_of (Withdrawn b r) = record_value b r (codes "withdrawn")
 value_of (Closed b) = object (member (codes "batch") (string b) (member (codes "result") (string (codes "closed")) no_members))
-value_of (Refused why) = object (member (codes "code") (num (code_of why)) (member (codes "refused") (string (refusal_name why)) no_members))
+value_of (Refused why) = object (member (codes "code") (num (code_of why)) (member (codes "refused") (string (name_of why)) no_members))
 value_of (Busy s) = object (member (codes "code") (num 61) (member (codes "refused") (string (codes "machine-busy")) (member (codes "session") (num s) no_members)))
 value_of (Faulty fault) =
-    object (member (codes "code") (num (kind_code_of fault.kind)) (member (codes "refused") (string (kind_name fault.kind)) (member (codes "row") (num fault.row) no_members)))
+    object (member (codes "code") (num (kind_code_of fault.kind)) (member (codes "refused") (string (kind_name_of fault.kind)) (member (codes "row") (num fault.row) no_members)))
 
 -- of characters that need no escape in JSON: those of names
 abbrev pub IsPlain : List ℕ → Type 0

@@ -3,10 +3,9 @@ ghost use Rattle.std.specs.Prelude.{◌≡◌, IfOk, OnOk, string_bytes};
 ghost use Rattle.hex.specs.Hex.{encode_upper};
 ghost use Rattle.json.specs.Print.{escape};
 ghost use Rattle.serde_json.specs.View.{view};
-ghost use Rattle.reply_store.specs.Told.{body_of, status_of};
+ghost use Rattle.reply_store.specs.Told.{body_of, made_name, status_of};
 ghost use Rattle.reply_store.specs.Values.{ArePlain, IsPlain, ended_value, record_value, value_of};
 
-use crate::names::{kind_name, made_name, refusal_name};
 use batch_import::RowFault;
 use job_core::{Made, Refusal, Reply};
 use serde_json::{Value, json};
@@ -67,6 +66,16 @@ fn value_of(alloc: Global, reply: &Reply) -> Result<Value, AllocError>
         Reply::Refused { refusal } => refused_value(alloc, *refusal),
         Reply::Busy { session } => busy_value(alloc, *session),
         Reply::Faulty { fault } => faulty_value(alloc, *fault),
+    }
+}
+
+// Whether something was made, as replies name it.
+fn made_name(made: Made) -> &'static str
+    ensures { result.now ≡ made_name made }
+{
+    match made {
+        Made::Created => "created",
+        Made::Known => "known",
     }
 }
 
@@ -159,7 +168,7 @@ fn closed_value(alloc: Global, batch: &Name) -> Result<Value, AllocError>
 fn refused_value(alloc: Global, refusal: Refusal) -> Result<Value, AllocError>
     ensures { IfOk result (λ v. view v ≡ value_of (Reply.Refused refusal)) }
 {
-    json!(in alloc; {"code": refusal.code(), "refused": refusal_name(refusal)})
+    json!(in alloc; {"code": refusal.code(), "refused": refusal.name()})
 }
 
 fn busy_value(alloc: Global, session: u64) -> Result<Value, AllocError>
@@ -173,7 +182,7 @@ fn faulty_value(alloc: Global, fault: RowFault) -> Result<Value, AllocError>
 {
     json!(in alloc; {
         "code": fault.kind.code(),
-        "refused": kind_name(fault.kind),
+        "refused": fault.kind.name(),
         "row": fault.row
     })
 }

@@ -13,7 +13,6 @@ ghost use Rattle.reply_store.specs.Runs.{AreNext, Runs, arrived};
 ghost use Rattle.reply_store.specs.Told.{body_of, status_of, told, told_of};
 
 mod body;
-mod names;
 #[cfg(test)]
 mod tests;
 

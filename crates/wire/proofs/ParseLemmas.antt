@@ -29,18 +29,17 @@ use Rattle.serde_json.specs.Read.{max_depth, of_json, read}
 use Rattle.serde_json.specs.Written.{compact_text, outline}
 use Rattle.serde_json.proofs.Numbers.{number_of-decimal}
 use Rattle.serde_json.proofs.Texts.{print-outline}
-use Rattle.batch_import.specs.Kinds.{code_of as kind_code_of}
+use Rattle.batch_import.specs.Kinds.{code_of as kind_code_of, name_of as kind_name_of}
 use Rattle.batch_import.specs.declared.fault.Kind.{Kind}
 use Rattle.batch_import.specs.declared.fault.Kind.TheVariants as kind
-use Rattle.job_core.specs.Refusals.{code_of}
+use Rattle.job_core.specs.Refusals.{code_of, name_of}
 use Rattle.job_core.specs.declared.refusal.Refusal.{Refusal}
 use Rattle.job_core.specs.declared.refusal.Refusal.TheVariants as refusal
 use Rattle.job_core.specs.declared.reply.Made.{Made}
 use Rattle.job_core.specs.declared.reply.Made.TheVariants.{Created, Known}
 use Rattle.job_core.specs.declared.reply.Reply.{Reply}
 use Rattle.job_core.specs.declared.reply.Reply.TheVariants.{Product, Lot, Import, Opened, Next, Good, Spoiled, Reset, Discarded, Waiting, Withdrawn, Closed, Refused, Busy, Faulty}
-use Rattle.reply_store.specs.Names.{kind_name, made_name, refusal_name}
-use Rattle.reply_store.specs.Told.{body_of, status_of}
+use Rattle.reply_store.specs.Told.{body_of, made_name, status_of}
 use Rattle.reply_store.specs.Values.{ArePlain, IsPlain, value_of}
 use Rattle.reply_store.proofs.Escapes.{hex_plain, name_plain, plain_ascii}
 use Rattle.reply_store.proofs.Texts.{text_is_body}
@@ -267,12 +266,12 @@ unfolding are_low is_low
 made_is_low Created = refl
 made_is_low Known = refl
 
-refusal_is_low : (why : Refusal) → are_low (refusal_name why) ≡ true
+refusal_is_low : (why : Refusal) → are_low (name_of why) ≡ true
 unfolding are_low is_low
 refusal_is_low refusal.ProductDiffers = refl
 refusal_is_low _ = refl
 
-kind_is_low : (k : Kind) → are_low (kind_name k) ≡ true
+kind_is_low : (k : Kind) → are_low (kind_name_of k) ≡ true
 unfolding are_low is_low
 kind_is_low kind.MarksDiffer = refl
 kind_is_low _ = refl
