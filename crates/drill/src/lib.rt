@@ -6,8 +6,6 @@ ghost use Rattle.drill.specs.declared.DrillStop.TheVariants.{Memory};
 ghost use Rattle.drill.specs.Ends.{AreServed, DrillEnds, ReadsScript, reply_line};
 
 mod script;
-#[cfg(test)]
-mod scripts;
 
 use script::read_script;
 use server::{End, serve_inputs};
@@ -122,6 +120,3 @@ fn put_line(text: &mut Vec<u8>, reply: &[u8]) -> Result<(), AllocError>
     }
     Ok(())
 }
-
-#[cfg(test)]
-mod tests;

@@ -16,6 +16,3 @@ mod states;
 mod store;
 
 pub use store::ListStore;
-
-#[cfg(test)]
-mod tests;

@@ -13,8 +13,6 @@ ghost use Rattle.reply_store.specs.Runs.{AreNext, Runs, arrived};
 ghost use Rattle.reply_store.specs.Told.{body_of, status_of, told, told_of};
 
 mod body;
-#[cfg(test)]
-mod tests;
 
 pub use body::{body_of, name_text, status_of};
 use job_core::{Arrival, Change, JobStore, KeptReply, Refusal, Reply, Request, StoreFault, decide};

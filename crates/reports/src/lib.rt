@@ -118,6 +118,3 @@ fn record_lines<S: JobStore>(
     }
     Ok(lines)
 }
-
-#[cfg(test)]
-mod tests;

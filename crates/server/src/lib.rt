@@ -16,12 +16,3 @@ pub use memory::{MemoryConnections, MemoryReader, Replied};
 pub use one::serve_one;
 pub use plain::serve_inputs;
 pub use served::{End, Served};
-
-#[cfg(test)]
-mod limited;
-#[cfg(test)]
-mod message_tests;
-#[cfg(test)]
-mod tests;
-#[cfg(test)]
-mod worked;

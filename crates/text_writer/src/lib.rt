@@ -35,6 +35,3 @@ fn write_some<W: Write>(writer: &mut W, text: &[u8]) -> usize
 {
     writer.write(text).unwrap_or(0)
 }
-
-#[cfg(test)]
-mod tests;

@@ -22,16 +22,3 @@ pub use parts::reply_parts;
 pub use refusal::Refusal;
 pub use reply::{Kind, Method, reply_head};
 pub use sending::request_text;
-
-#[cfg(test)]
-mod ask_tests;
-#[cfg(test)]
-mod message_tests;
-#[cfg(test)]
-mod parse_tests;
-#[cfg(test)]
-mod request_tests;
-#[cfg(test)]
-mod sending_tests;
-#[cfg(test)]
-mod tests;

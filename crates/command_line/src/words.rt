@@ -1,0 +1,152 @@
+//! The program's words: the subcommand that they ask for, each of its values in its range.
+ghost use Rattle.std.specs.Prelude.{◌≡◌, [], IfOk, IfErr, false, map};
+ghost use Rattle.clap.specs.Words.{HasKind, Kinds, app_of, fault_of, rule_of};
+ghost use Rattle.clap.specs.declared.builder.command.Command.TheViews.{out-Command as fields_of};
+ghost use Rattle.clap.specs.Words.{subcommand_rows_of};
+ghost use Rattle.command_line.specs.Words.{InRange, IsRefusal, IsSubcommand, Means, ReadsAs};
+ghost use Rattle.command_line.specs.Words.{drill_command, flag, number_option, plan_command, program};
+ghost use Rattle.command_line.specs.declared.words.WordsFault.TheVariants.{Memory};
+
+use clap::builder::ValueParser;
+use clap::error::ErrorKind;
+use clap::{Arg, ArgAction, ArgMatches, Command, Error, value_parser};
+use std::alloc::{AllocError, Global};
+use std::convert::AsStr;
+
+/// A subcommand of the program, each value in its range.
+#[derive(Clone, Copy, Debug, PartialEq, Eq)]
+pub enum Words {
+    /// Prints the commands of a batch, with at most `max` bytes of data in each STORE DATA, 16 to
+    /// 255, the product's number `low` in its P1, 0 to 31, and whether plain records are checked.
+    Plan { max: u8, low: u8, check: bool },
+    /// Serves a script of requests in memory. It has no options.
+    Drill,
+}
+
+/// Why the words give no subcommand.
+#[derive(Debug, Drop)]
+pub enum WordsFault {
+    /// They ask for help: its text is for standard output, and the exit status is 0.
+    Help(String),
+    /// They are no use of the program: the text is for standard error, and the exit status is 2.
+    Usage(String),
+    /// Memory ran out.
+    Memory,
+}
+
+impl From<AllocError> for WordsFault {
+    ghost from_gives = { λ _ fault. fault ≡ Memory };
+
+    fn from(_error: AllocError) -> WordsFault {
+        WordsFault::Memory
+    }
+}
+
+/// What the words ask for. The first is the program's own name, as `env::args` gives them.
+///
+/// `Help` and `Usage` come only where `clap` refuses the words, with `clap`'s text.
+pub fn read_words<S: AsStr>(alloc: Global, words: &[S]) -> Result<Words, WordsFault>
+    ensures ranges { IfOk result InRange }
+    ensures meaning { IfOk result (Means (map S.text words.now)) }
+    ensures taken { IfOk result (λ _. fault_of program (map S.text words.now) ≡ []) }
+    ensures refusal { IfErr result (IsRefusal (fault_of program (map S.text words.now))) }
+{
+    match program(alloc)?.try_get_matches_from(words) {
+        Ok(matches) => Ok(words_of(&matches)),
+        Err(error) => Err(refusal_of(alloc, &error)?),
+    }
+}
+
+fn program<'a>(alloc: Global) -> Result<Command<'a>, AllocError>
+    ensures { IfOk result (λ c. app_of c ≡ program) }
+{
+    Command::new(alloc, "persod")
+        .about("A job server for card personalisation")
+        .subcommand_required(true)
+        .subcommand(plan_command(alloc)?)?
+        .subcommand(drill_command(alloc))
+}
+
+fn plan_command<'a>(alloc: Global) -> Result<Command<'a>, AllocError>
+    ensures { IfOk result (λ c. (app_of c ≡ plan_command) × ((fields_of c).has_globals ≡ false)) }
+{
+    let max = number_option(alloc, "max", value_parser!(u8).range(16..=255), "255").help(
+        "The most bytes of data in one STORE DATA, 16 to 255",
+    );
+    let low = number_option(alloc, "low", value_parser!(u8).range(0..=31), "0").help(
+        "Bits 5 to 1 of P1 in each STORE DATA, 0 to 31",
+    );
+    let check = flag(alloc, "check").help(
+        "Checks each plain record of a card's files (EMV Book 3)",
+    );
+    Command::new(alloc, "plan")
+        .about("Prints the commands for each record of a batch, read from standard input")
+        .arg(max)?
+        .arg(low)?
+        .arg(check)
+}
+
+fn drill_command<'a>(alloc: Global) -> Command<'a>
+    ensures { (app_of result ≡ drill_command) × ((fields_of result).has_globals ≡ false) }
+{
+    Command::new(alloc, "drill").about(
+        "Serves a script of requests, read from standard input, in memory",
+    )
+}
+
+// `--name N`, and the default where it is not given.
+fn number_option<'a>(
+    alloc: Global,
+    name: &'a str,
+    parser: ValueParser<'a>,
+    default: &'a str,
+) -> Arg<'a>
+    ensures rule { rule_of result ≡ number_option name.entry.now parser.entry default.entry.now }
+    ensures own { result.global ≡ false }
+{
+    Arg::new(alloc, name)
+        .long(name)
+        .value_name("N")
+        .value_parser(parser)
+        .default_value(default)
+}
+
+// `--name`, which is on where it is given.
+fn flag<'a>(alloc: Global, name: &'a str) -> Arg<'a>
+    ensures rule { rule_of result ≡ flag name.entry.now }
+    ensures own { result.global ≡ false }
+{
+    Arg::new(alloc, name).long(name).action(ArgAction::SetTrue)
+}
+
+fn words_of(matches: &ArgMatches<'_>) -> Words
+    requires { IsSubcommand (subcommand_rows_of matches.now) }
+    ensures ranges { InRange result }
+    ensures meaning { ReadsAs (subcommand_rows_of matches.now) result }
+{
+    match matches.subcommand() {
+        Some(("plan", plan)) => Words::Plan {
+            max: plan.get_one("max").unwrap(),
+            low: plan.get_one("low").unwrap(),
+            check: plan.get_flag("check"),
+        },
+        Some(("drill", _)) => Words::Drill,
+        _ => unreachable!(),
+    }
+}
+
+fn refusal_of(alloc: Global, error: &Error) -> Result<WordsFault, AllocError>
+    ensures { IfOk result (λ fault. (kinds : Kinds) → HasKind kinds error.now
+        → IsRefusal kinds fault) }
+{
+    let kind = error.kind();
+    if kind == ErrorKind::OutOfMemory {
+        return Ok(WordsFault::Memory);
+    }
+    let text = format!(in alloc; "{error}")?;
+    if kind == ErrorKind::DisplayHelp {
+        Ok(WordsFault::Help(text))
+    } else {
+        Ok(WordsFault::Usage(text))
+    }
+}

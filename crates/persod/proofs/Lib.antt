@@ -1,5 +1,0 @@
-mod NumberLemmas
-mod PlanLemmas
-mod TakenLemmas
-mod TextLemmas
-mod PrintLemmas

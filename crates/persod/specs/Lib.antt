@@ -1,4 +1,0 @@
-pub mod Words
-pub mod Printed
-pub mod PlanEnds
-pub mod Ends

@@ -1,0 +1,57 @@
+-- How `persod plan` ends.
+use Rattle.std.specs.Prelude.{◌≡◌, ◌<◌, ◌≤◌, ⊤, ℕ, List, length, map, Option, IfSome, Result, Ok, Err}
+use Rattle.std.specs.Prelude.{Vec}
+use Rattle.std.specs.Global.{Global}
+use Rattle.std.specs.Io.KnownBytes.{Appends, Keeps}
+use Rattle.batch_import.specs.declared.fault.ImportFault.{ImportFault}
+use Rattle.batch_import.specs.declared.fault.ImportFault.TheVariants as fault
+use Rattle.store_data.specs.declared.row.Product.{Product}
+use Rattle.store_data.specs.declared.row.Row.{Row}
+use Rattle.batch_import.specs.Batch.{batch_of}
+use Rattle.batch_import.specs.Outlines.{AreBatchRows}
+use Rattle.store_data.specs.Groups.{grouped}
+use Rattle.text_writer.specs.Written.{AppendsBeginning}
+use Rattle.plan_print.specs.Printed.{printed}
+use Rattle.plan_print.specs.declared.plan.PlanStop.{PlanStop}
+use Rattle.plan_print.specs.declared.plan.PlanStop.TheVariants as stop
+
+-- the most bytes of a batch (this project's profile)
+abbrev pub most_input : ℕ
+most_input = 1048576
+
+-- the input is these bytes, where it is known
+abbrev pub Tells : Option (List ℕ) → List ℕ → Type 0
+Tells known raw = IfSome known (λ told. told ≡ raw)
+
+-- for the input `raw` the text of its batch was written, a beginning of it where the writer failed, or nothing and a refusal
+abbrev pub PlanEnds : Product → List ℕ → Option (List ℕ) → Option (List ℕ) → Result (Unit {0}) PlanStop → Type 0
+PlanEnds p raw before after (Ok u) = (rows : List Row) × (length raw ≤ most_input) × (batch_of p raw ≡ Ok rows) × Appends before after (printed p rows)
+PlanEnds p raw before after (Err (stop.Refused fault)) = (length raw ≤ most_input) × (batch_of p raw ≡ Err fault) × Keeps before after
+PlanEnds p raw before after (Err stop.TooLarge) = (most_input < length raw) × Keeps before after
+PlanEnds p raw before after (Err stop.WriteFailed) = (rows : List Row) × (length raw ≤ most_input) × (batch_of p raw ≡ Ok rows) × AppendsBeginning before after (printed p rows)
+PlanEnds p raw before after (Err stop.ReadFailed) = Keeps before after
+PlanEnds p raw before after (Err stop.Memory) = Keeps before after
+
+-- ---- the steps on the way
+
+abbrev pub stop_of : ImportFault → PlanStop
+stop_of (fault.At f) = stop.Refused f
+stop_of fault.Memory = stop.Memory
+
+-- the input was read, or it is too large
+abbrev pub ReadsInput : List ℕ → Result (Vec ℕ Global) PlanStop → Type 0
+ReadsInput raw (Ok v) = (v.items ≡ raw) × (length raw ≤ most_input)
+ReadsInput raw (Err stop.TooLarge) = most_input < length raw
+ReadsInput raw (Err stop.ReadFailed) = ⊤
+ReadsInput raw (Err stop.Memory) = ⊤
+ReadsInput raw (Err stop.WriteFailed) = ⊥
+ReadsInput raw (Err (stop.Refused f)) = ⊥
+
+-- the rows of each record of a batch, or its fault
+abbrev pub GroupsBatch : Product → List ℕ → Result (Vec (Vec Row Global) Global) PlanStop → Type 0
+GroupsBatch p raw (Ok records) = (rows : List Row) × (batch_of p raw ≡ Ok rows) × AreBatchRows rows × (map (λ v. v.items) records.items ≡ grouped (λ (row : Row). row.rec) rows)
+GroupsBatch p raw (Err (stop.Refused f)) = batch_of p raw ≡ Err f
+GroupsBatch p raw (Err stop.Memory) = ⊤
+GroupsBatch p raw (Err stop.TooLarge) = ⊥
+GroupsBatch p raw (Err stop.ReadFailed) = ⊥
+GroupsBatch p raw (Err stop.WriteFailed) = ⊥

@@ -1,0 +1,151 @@
+//! `persod plan`: from the bytes of a batch to the printed commands.
+ghost use Rattle.std.specs.Prelude.{◌≡◌, ℕ, List, All, map, IfOk};
+ghost use Rattle.std.specs.List.{flat_map};
+ghost use Rattle.store_data.specs.Sequence.{AreRows, IsProduct};
+ghost use Rattle.text_writer.specs.Written.{Writes};
+ghost use Rattle.plan_print.specs.PlanEnds.{GroupsBatch, PlanEnds, ReadsInput, Tells};
+ghost use Rattle.plan_print.specs.Printed.{planned_of, text_of};
+
+use crate::print::{Planned, write_record};
+use batch_import::{ImportFault, RowFault, read_batch};
+use std::alloc::{AllocError, Global};
+use std::io::{ErrorKind, Read, Write};
+use store_data::{Product, Row, grouped, plan};
+use text_writer::WriteFailed;
+
+/// The most bytes of a batch (this project's profile).
+const MOST_INPUT: u64 = 1_048_576;
+
+/// Why `persod plan` stopped.
+#[derive(Clone, Copy, Debug, PartialEq, Eq)]
+pub enum PlanStop {
+    /// The batch has a fault.
+    Refused(RowFault),
+    /// The input has over 1,048,576 bytes.
+    TooLarge,
+    /// A read failed.
+    ReadFailed,
+    /// A write failed, or took nothing.
+    WriteFailed,
+    /// Memory was refused.
+    Memory,
+}
+
+impl From<ImportFault> for PlanStop {
+    ghost use Rattle.plan_print.specs.PlanEnds.{stop_of};
+
+    ghost from_gives = { λ fault stop. stop ≡ stop_of fault };
+
+    fn from(fault: ImportFault) -> PlanStop {
+        match fault {
+            ImportFault::At(fault) => PlanStop::Refused(fault),
+            ImportFault::Memory => PlanStop::Memory,
+        }
+    }
+}
+
+impl From<AllocError> for PlanStop {
+    ghost use Rattle.plan_print.specs.declared.plan.PlanStop.TheVariants.{Memory};
+
+    ghost from_gives = { λ _ stop. stop ≡ Memory };
+
+    fn from(_error: AllocError) -> PlanStop {
+        PlanStop::Memory
+    }
+}
+
+impl From<WriteFailed> for PlanStop {
+    ghost use Rattle.plan_print.specs.declared.plan.PlanStop.TheVariants.{WriteFailed};
+
+    ghost from_gives = { λ _ stop. stop ≡ WriteFailed };
+
+    fn from(_error: WriteFailed) -> PlanStop {
+        PlanStop::WriteFailed
+    }
+}
+
+/// Prints the commands of the batch that the reader gives: for each record its name line, and its command sequence in
+/// upper case hexadecimal. It writes only after every record was planned.
+pub fn plan_engine<R: Read, W: Write>(
+    alloc: Global,
+    product: &Product,
+    reader: &mut R,
+    writer: &mut W,
+) -> Result<(), PlanStop>
+    requires { IsProduct product.now }
+    ensures { (raw : List ℕ) × Tells (R.remaining reader.old) raw
+        × PlanEnds product.now raw (W.contents writer.old) (W.contents writer.new) result }
+{
+    let raw = input(alloc, reader)?;
+    let records = records(alloc, product, raw.as_slice())?;
+    let plans = plans(alloc, product, records.as_slice())?;
+    print(writer, plans.as_slice())?;
+    Ok(())
+}
+
+// The bytes of a batch.
+fn input<R: Read>(alloc: Global, reader: &mut R) -> Result<Vec<u8>, PlanStop>
+    ensures { (raw : List ℕ) × Tells (R.remaining reader.old) raw × ReadsInput raw result }
+{
+    let mut raw = Vec::new(alloc);
+    let mut limited = (&mut *reader).take(MOST_INPUT + 1);
+    match limited.read_to_end(&mut raw) {
+        Ok(_) if raw.len() as u64 > MOST_INPUT => Err(PlanStop::TooLarge),
+        Ok(_) => Ok(raw),
+        Err(error) if error.kind() == ErrorKind::OutOfMemory => Err(PlanStop::Memory),
+        Err(_) => Err(PlanStop::ReadFailed),
+    }
+}
+
+// The rows of each record of a batch, or its fault.
+fn records(alloc: Global, product: &Product, raw: &[u8]) -> Result<Vec<Vec<Row>>, PlanStop>
+    requires { IsProduct product.now }
+    ensures { GroupsBatch product.now raw.now result }
+{
+    let batch = read_batch(alloc, raw, product)?;
+    Ok(grouped(alloc, batch.rows)?)
+}
+
+// The plan of each record. A record of a batch has a plan, so that it fails for memory alone.
+fn plans<'a>(
+    alloc: Global,
+    product: &Product,
+    records: &'a [Vec<Row>],
+) -> Result<Vec<Planned<'a>>, AllocError>
+    requires product { IsProduct product.now }
+    requires records { All (λ v. AreRows v.items) records.now }
+    ensures { IfOk result (λ plans. plans.items ≡ map (λ v. planned_of product.now v.items) records.now) }
+{
+    let mut plans = Vec::with_capacity(alloc, records.len())?;
+    for rows in records {
+        plans.push(planned(alloc, product, rows.as_slice())?)?;
+    }
+    Ok(plans)
+}
+
+fn planned<'a>(alloc: Global, product: &Product, rows: &'a [Row]) -> Result<Planned<'a>, AllocError>
+    requires product { IsProduct product.now }
+    requires rows { AreRows rows.now }
+    ensures { IfOk result (λ planned. planned ≡ planned_of product.now rows.now) }
+{
+    match plan(alloc, rows, product) {
+        Ok(plan) => Ok(Planned {
+            name: rows[0].rec,
+            plan,
+        }),
+        Err(_) => Err(AllocError),
+    }
+}
+
+// Writes the lines of each record, or a beginning of them where the writer fails.
+fn print<W: Write>(writer: &mut W, plans: &[Planned<'_>]) -> Result<(), WriteFailed>
+    ensures { Writes (W.contents writer.old) (W.contents writer.new) (flat_map text_of plans.now) result }
+{
+    for record in plans {
+        write_record(writer, record)?;
+    }
+    match writer.flush() {
+        Ok(()) => Ok(()),
+        Err(_) => Err(WriteFailed),
+    }
+}

@@ -1,0 +1,74 @@
+//! Printing a plan: a record's name line, and each command by the cursor, a line each.
+ghost use Rattle.std.specs.Prelude.{◌≡◌, ◌+◌, ◌*◌, ◌++◌, ◌<◌, ◌≤◌, length, slice_index, take, codes};
+ghost use Rattle.hex.specs.Hex.{encode_upper, upper_digits};
+ghost use Rattle.text_writer.specs.Written.{Writes, line};
+ghost use Rattle.plan_print.specs.Printed.{command_lines, text_of};
+
+use std::io::Write;
+use store_data::{Cursor, Name, RecordPlan, count};
+use text_writer::{WriteFailed, write_text};
+
+const UPPER_DIGITS: [u8; 16] = *b"0123456789ABCDEF";
+
+/// A record's name, and its plan.
+#[derive(Drop)]
+pub struct Planned<'a> {
+    pub name: Name,
+    pub plan: RecordPlan<'a>,
+}
+
+/// Writes the lines of a record, or a beginning of them.
+pub fn write_record<W: Write>(writer: &mut W, planned: &Planned<'_>) -> Result<(), WriteFailed>
+    ensures { Writes (W.contents writer.old) (W.contents writer.new) (text_of planned.now) result }
+{
+    write_name(writer, &planned.name)?;
+    write_commands(writer, &planned.plan)
+}
+
+// Writes a record's name line.
+fn write_name<W: Write>(writer: &mut W, name: &Name) -> Result<(), WriteFailed>
+    ensures { Writes (W.contents writer.old) (W.contents writer.new) (line (codes "record " ++ name.now)) result }
+{
+    write_text(writer, b"record ")?;
+    write_text(writer, name.bytes())?;
+    write_text(writer, b"\n")
+}
+
+// Writes the commands of a plan, as the cursor goes over them.
+fn write_commands<W: Write>(writer: &mut W, plan: &RecordPlan<'_>) -> Result<(), WriteFailed>
+    ensures { Writes (W.contents writer.old) (W.contents writer.new) (command_lines plan.now) result }
+{
+    let mut cursor = Cursor::start();
+    let mut command = [0; 260];
+    let mut text = [0; 521];
+    for _ in 0..count(plan) {
+        let size = cursor.put(plan, &mut command);
+        let written = put_line(&command[..size], &mut text);
+        write_text(writer, &text[..written])?;
+        cursor.step(plan);
+    }
+    Ok(())
+}
+
+// Puts bytes in upper case hexadecimal at the front, as a line, and answers its length.
+fn put_line(bytes: &[u8], text: &mut [u8; 521]) -> usize
+    requires { length bytes.now ≤ 260 }
+    ensures line { take result text.new ≡ line (encode_upper bytes.now) }
+    ensures room { result ≤ 521 }
+{
+    let mut at = 0;
+    for byte in bytes {
+        text[at] = upper_digit(*byte / 16);
+        text[at + 1] = upper_digit(*byte % 16);
+        at += 2;
+    }
+    text[at] = b'\n';
+    at + 1
+}
+
+fn upper_digit(value: u8) -> u8
+    requires { value < 16 }
+    ensures { result ≡ slice_index upper_digits value }
+{
+    UPPER_DIGITS[usize::from(value)]
+}

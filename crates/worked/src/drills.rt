@@ -1,0 +1,41 @@
+//! Scripts of drills, and what is printed.
+use crate::fault::CaseFault;
+use crate::text::{Case, Line};
+use crate::ways::check_bytes;
+use drill::{DrillStop, drill_engine};
+use std::alloc::{AllocError, Global};
+
+/// A script prints what it must.
+pub fn check_script(alloc: Global, case: &Case) -> Result<(), CaseFault> {
+    let mut script = String::new(alloc);
+    let mut wanted = String::new(alloc);
+    for line in &case.lines {
+        if line.is_answer {
+            put_line(&mut wanted, line)?;
+        } else {
+            put_line(&mut script, line)?;
+        }
+    }
+    let mut input = script.as_bytes();
+    let mut printed = Vec::new(alloc);
+    match drill_engine(alloc, &mut input, &mut printed) {
+        Ok(()) => {}
+        Err(DrillStop::BadLine(line)) => {
+            let stop = format!(in alloc; "bad line {line}\n")?;
+            printed.extend_from_slice(stop.as_bytes())?;
+        }
+        Err(_) => return Err(CaseFault::Memory),
+    }
+    check_bytes(
+        alloc,
+        case.number,
+        "drill",
+        wanted.as_bytes(),
+        printed.as_slice(),
+    )
+}
+
+fn put_line(text: &mut String, line: &Line) -> Result<(), AllocError> {
+    text.push_str(line.text.as_str())?;
+    text.push('\n')
+}

@@ -1,0 +1,259 @@
+//! Asks and their replies.
+use crate::fault::CaseFault;
+use crate::message::{get, post};
+use crate::reply::wanted_of;
+use crate::text::{Case, Line, Repeats, cases};
+use crate::typed::{check_handled, check_parsed, check_run, written_anew};
+use crate::ways::{Exchange, Fresh, Way, check_bytes, check_same, check_wanted, connected, served};
+use drill::drill_engine;
+use server::Replied;
+use std::alloc::{AllocError, Global};
+use wire::reply_parts;
+
+const WHOLE: Way = Way {
+    name: "whole",
+    most: 8192,
+    behind: b"",
+};
+
+const ONE_BY_ONE: Way = Way {
+    name: "one byte at a time",
+    most: 1,
+    behind: b"",
+};
+
+/// The asks of a case.
+#[derive(Drop)]
+struct Asks {
+    exchanges: Vec<Exchange>,
+    /// The script that asks the same of a drill, where all asks are the office's.
+    script: Option<String>,
+    /// How the asks are spelt matters to the replies.
+    is_spelling: bool,
+}
+
+/// Runs a case on every way, each over a store of its own.
+pub fn check_exchanges<S: Fresh + Drop>(alloc: Global, case: Case) -> Result<(), CaseFault> {
+    let number = case.number;
+    let lines = with_set_up(alloc, case)?;
+    let Asks {
+        exchanges,
+        script,
+        is_spelling,
+    } = asks_of(alloc, lines.as_slice())?;
+    let exchanges = exchanges.as_slice();
+    let first = served::<S>(alloc, exchanges, WHOLE)?;
+    let first = first.replies();
+    check_wanted(alloc, exchanges, WHOLE.name, first, false)?;
+    let second = served::<S>(alloc, exchanges, ONE_BY_ONE)?;
+    check_same(alloc, exchanges, ONE_BY_ONE.name, first, second.replies())?;
+    check_handled::<S>(alloc, exchanges, first)?;
+    check_run::<S>(alloc, exchanges, first)?;
+    check_parsed(alloc, exchanges, first)?;
+    if !is_spelling {
+        let mut store = S::fresh(alloc)?;
+        let inputs = written_anew(alloc, exchanges)?;
+        let anew = connected(alloc, &mut store, inputs, WHOLE.most)?;
+        check_same(alloc, exchanges, "request_text", first, anew.replies())?;
+    }
+    match script {
+        Some(script) => check_drill(alloc, number, script.as_str(), first),
+        None => Ok(()),
+    }
+}
+
+// A drill prints the status and the body of each reply.
+fn check_drill(alloc: Global, line: u64, script: &str, first: &[Replied]) -> Result<(), CaseFault> {
+    let mut wanted = Vec::new(alloc);
+    for replied in first {
+        let (status, body) = reply_parts(replied.written.as_slice());
+        wanted.extend_from_slice(status)?;
+        wanted.push(b' ')?;
+        wanted.extend_from_slice(body)?;
+        if !body.ends_with(b"\n") {
+            wanted.push(b'\n')?;
+        }
+    }
+    let mut input = script.as_bytes();
+    let mut printed = Vec::new(alloc);
+    if drill_engine(alloc, &mut input, &mut printed).is_err() {
+        return Err(CaseFault::Memory);
+    }
+    check_bytes(alloc, line, "drill", wanted.as_slice(), printed.as_slice())
+}
+
+// A batch file that is being read: the target that it goes to, and its bytes so far.
+#[derive(Drop)]
+struct File {
+    target: String,
+    body: Vec<u8>,
+}
+
+// What a line of a case is.
+#[derive(Drop)]
+enum Step {
+    /// How the asks are spelt matters.
+    Spelling,
+    /// The lines behind are a batch file.
+    File(File),
+    /// A whole ask.
+    Ask(Vec<u8>),
+}
+
+fn asks_of(alloc: Global, lines: &[Line]) -> Result<Asks, CaseFault> {
+    let mut exchanges = Vec::new(alloc);
+    let mut file: Option<File> = None;
+    let mut is_spelling = false;
+    for (i, line) in lines.iter().enumerate() {
+        if line.is_answer || file.is_none() && line.text.is_empty() {
+            continue;
+        }
+        let step = match file.take() {
+            Some(file) => step_in(alloc, file, line.text.as_str())?,
+            None => step_of(alloc, line.text.as_str())?,
+        };
+        match step {
+            Some(Step::Spelling) => is_spelling = true,
+            Some(Step::File(begun)) => file = Some(begun),
+            Some(Step::Ask(input)) => {
+                let behind = lines.get(i.saturating_add(1)..).unwrap_or(&[]);
+                exchanges.push(exchange(alloc, line.number, input, behind)?)?;
+            }
+            None => return Err(CaseFault::Form { line: line.number }),
+        }
+    }
+    Ok(Asks {
+        exchanges,
+        script: script_of(alloc, lines)?,
+        is_spelling,
+    })
+}
+
+/// A connection with this input, and the answers at the front of the lines behind it.
+pub fn exchange(
+    alloc: Global,
+    line: u64,
+    input: Vec<u8>,
+    behind: &[Line],
+) -> Result<Exchange, CaseFault> {
+    let wanted = wanted_of(alloc, line, answers_in(behind))?;
+    Ok(Exchange {
+        line,
+        input,
+        wanted,
+    })
+}
+
+// The answers at the front.
+fn answers_in(lines: &[Line]) -> &[Line] {
+    let count = lines.iter().take_while(|line| line.is_answer).count();
+    lines.get(..count).unwrap_or(lines)
+}
+
+// A line of a file, or its end.
+fn step_in(alloc: Global, file: File, text: &str) -> Result<Option<Step>, AllocError> {
+    let File { target, mut body } = file;
+    if text == "." {
+        let input = post(alloc, target.as_str(), body.as_slice())?;
+        return Ok(Some(Step::Ask(input)));
+    }
+    body.extend_from_slice(text.as_bytes())?;
+    body.push(b'\n')?;
+    Ok(Some(Step::File(File { target, body })))
+}
+
+fn step_of(alloc: Global, text: &str) -> Result<Option<Step>, AllocError> {
+    if text == "spelling" {
+        return Ok(Some(Step::Spelling));
+    }
+    let Some((first, rest)) = text.split_once(' ') else {
+        return Ok(None);
+    };
+    match first {
+        "get" => Ok(Some(Step::Ask(get(alloc, rest)?))),
+        "import" => import_of(alloc, rest),
+        client => ask_of(alloc, client, rest),
+    }
+}
+
+fn import_of(alloc: Global, rest: &str) -> Result<Option<Step>, AllocError> {
+    let mut words = rest.split(' ');
+    let (Some(client), Some(number)) = (words.next(), words.next()) else {
+        return Ok(None);
+    };
+    let (Some(batch), Some(product), None) = (words.next(), words.next(), words.next()) else {
+        return Ok(None);
+    };
+    let target = format!(in alloc; "/c/{client}/{number}/batch/{batch}/{product}")?;
+    let body = Vec::new(alloc);
+    Ok(Some(Step::File(File { target, body })))
+}
+
+fn ask_of(alloc: Global, client: &str, rest: &str) -> Result<Option<Step>, AllocError> {
+    let Some((number, body)) = rest.split_once(' ') else {
+        return Ok(None);
+    };
+    let target = format!(in alloc; "/c/{client}/{number}")?;
+    let input = post(alloc, target.as_str(), body.as_bytes())?;
+    Ok(Some(Step::Ask(input)))
+}
+
+// The script that asks the same of a drill, if all asks are the office's.
+fn script_of(alloc: Global, lines: &[Line]) -> Result<Option<String>, AllocError> {
+    let mut script = String::new(alloc);
+    let mut is_in_file = false;
+    for line in lines {
+        let text = line.text.as_str();
+        if line.is_answer || !is_in_file && (text.is_empty() || text == "spelling") {
+            continue;
+        }
+        if is_in_file {
+            is_in_file = text != ".";
+            script.push_str(text)?;
+        } else if let Some(rest) = text.strip_prefix("import office ") {
+            is_in_file = true;
+            script.push_str("import ")?;
+            script.push_str(rest)?;
+        } else if text.starts_with("office ") || text.starts_with("get ") {
+            script.push_str(text)?;
+        } else {
+            return Ok(None);
+        }
+        script.push('\n')?;
+    }
+    Ok(Some(script))
+}
+
+// What stands for `set-up`.
+const SET_UP: &str = r#"== product P1, lot L1 of three blanks from 1000, batch B1
+office 1 {"do":"product","product":"P1","max":255,"low":0,"check":false}
+  200 {"product":"P1","result":"created"}
+office 2 {"do":"lot","lot":"L1","product":"P1","first":1000,"count":3}
+  200 {"lot":"L1","result":"created"}
+import office 3 B1 P1
+record,aid,rank,enc,tol,dgi
+R1,F00000000101,1,0,0,0101027000
+.
+  200 {"batch":"B1","records":1,"result":"created","rows":1}
+"#;
+
+// The lines of a case, with those of the set-up where it is asked for.
+fn with_set_up(alloc: Global, case: Case) -> Result<Vec<Line>, CaseFault> {
+    let mut lines = Vec::new(alloc);
+    for line in case.lines {
+        if line.text.as_str() != "set-up" {
+            lines.push(line)?;
+            continue;
+        }
+        for set_up in cases(alloc, SET_UP, Repeats::Alone)? {
+            for its in set_up.lines {
+                lines.push(Line {
+                    number: line.number,
+                    is_answer: its.is_answer,
+                    text: its.text,
+                })?;
+            }
+        }
+    }
+    Ok(lines)
+}

@@ -1,0 +1,34 @@
+//! Why a case is not what its file says.
+use std::alloc::{AllocError, AllocFailed};
+
+/// Why a case fails.
+#[derive(Debug, Drop)]
+pub enum CaseFault {
+    /// A way answers something else than what must come out.
+    Differs {
+        /// The line of the file that asks.
+        line: u64,
+        /// The way that was gone.
+        way: &'static str,
+        wanted: String,
+        came: String,
+    },
+    /// A line has none of the forms of its file.
+    Form {
+        line: u64,
+    },
+    /// Memory was refused, or a call gave up as if it was.
+    Memory,
+}
+
+impl From<AllocError> for CaseFault {
+    fn from(_error: AllocError) -> CaseFault {
+        CaseFault::Memory
+    }
+}
+
+impl<T: Drop> From<AllocFailed<T>> for CaseFault {
+    fn from(_error: AllocFailed<T>) -> CaseFault {
+        CaseFault::Memory
+    }
+}

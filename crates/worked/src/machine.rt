@@ -1,0 +1,100 @@
+//! A machine that makes every card of a batch.
+use crate::fault::CaseFault;
+use crate::message::post;
+use crate::typed::reply_to;
+use crate::walks::{put_command, put_name};
+use crate::ways::Fresh;
+use job_core::{JobStore, Reply};
+use std::alloc::Global;
+use store_data::Product;
+
+/// The commands that a machine is handed for so many records of a batch, each answered 9000, as they are printed.
+pub fn handed_out<S: Fresh + Drop>(
+    alloc: Global,
+    product: &Product,
+    raw: &[u8],
+    records: usize,
+) -> Result<String, CaseFault> {
+    let mut store = S::fresh(alloc)?;
+    stock(alloc, &mut store, product, raw, records)?;
+    let mut text = String::new(alloc);
+    let mut number = 1u64;
+    for blank in 1..records.saturating_add(1) {
+        let open = format!(in alloc; "{{\"do\":\"open\",\"batch\":\"B1\",\"blank\":{blank}}}")?;
+        let reply = ask(alloc, &mut store, "m1", number, open.as_str())?;
+        number = number.saturating_add(1);
+        let Some(
+            Reply::Opened {
+                command,
+                rec,
+                session,
+                ..
+            },
+        ) = reply
+        else {
+            text.push_str("no record is opened\n")?;
+            return Ok(text);
+        };
+        put_name(alloc, &mut text, rec.bytes())?;
+        put_command(alloc, &mut text, command.as_slice())?;
+        number = personalise(alloc, &mut store, session, number, &mut text)?;
+    }
+    Ok(text)
+}
+
+// Makes known the product, as many blanks as records, and the batch.
+fn stock<S: JobStore>(
+    alloc: Global,
+    store: &mut S,
+    product: &Product,
+    raw: &[u8],
+    records: usize,
+) -> Result<(), CaseFault> {
+    let (max, low, check) = (product.max, product.low, product.check);
+    let made = format!(in alloc;
+        "{{\"do\":\"product\",\"product\":\"P1\",\"max\":{max},\"low\":{low},\"check\":{check}}}"
+    )?;
+    let _ = ask(alloc, store, "office", 1, made.as_str())?;
+    let lot = format!(in alloc;
+        "{{\"do\":\"lot\",\"lot\":\"L1\",\"product\":\"P1\",\"first\":1,\"count\":{records}}}"
+    )?;
+    let _ = ask(alloc, store, "office", 2, lot.as_str())?;
+    let import = post(alloc, "/c/office/3/batch/B1/P1", raw)?;
+    let _ = reply_to(alloc, store, import.as_slice())?;
+    Ok(())
+}
+
+fn ask<S: JobStore>(
+    alloc: Global,
+    store: &mut S,
+    client: &str,
+    number: u64,
+    body: &str,
+) -> Result<Option<Reply>, CaseFault> {
+    let target = format!(in alloc; "/c/{client}/{number}")?;
+    let input = post(alloc, target.as_str(), body.as_bytes())?;
+    reply_to(alloc, store, input.as_slice())
+}
+
+// Answers each command of a session until its card is good, and gives the next number.
+fn personalise<S: JobStore>(
+    alloc: Global,
+    store: &mut S,
+    session: u64,
+    from: u64,
+    text: &mut String,
+) -> Result<u64, CaseFault> {
+    for index in 0..100_000u64 {
+        let number = from.saturating_add(index);
+        let body = format!(in alloc;
+            "{{\"do\":\"answer\",\"session\":{session},\"index\":{index},\"sw\":\"9000\"}}"
+        )?;
+        match ask(alloc, store, "m1", number, body.as_str())? {
+            Some(Reply::Next { command, .. }) => put_command(alloc, text, command.as_slice())?,
+            Some(Reply::Good { .. }) => return Ok(number.saturating_add(1)),
+            _ => break,
+        }
+    }
+    text.push_str("the card is not good\n")?;
+    Ok(from)
+}

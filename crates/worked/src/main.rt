@@ -1,0 +1,137 @@
+//! The program `worked`: runs files of worked examples through every public way, as docs/WORKED.md has them.
+#![tactic(auto)]
+
+mod drills;
+mod exchanges;
+mod fault;
+mod machine;
+mod message;
+mod messages;
+mod plans;
+mod reply;
+mod tables;
+mod text;
+mod typed;
+mod walks;
+mod ways;
+
+use drills::check_script;
+use exchanges::check_exchanges;
+use fault::CaseFault;
+use list_store::ListStore;
+use messages::check_messages;
+use plans::check_plan;
+use std::alloc::Global;
+use std::process::ExitCode;
+use std::{env, fs, io};
+use tables::{Table, check_table};
+use text::{Case, Repeats, cases};
+
+const USAGE: &str =
+    "usage: worked FILE.. (.plan, .exchange, .message, .drill, .grouping, .record, .word)";
+
+/// What the cases of a file are.
+#[derive(Clone, Copy)]
+enum Kind {
+    Plan,
+    Exchange,
+    Message,
+    Drill,
+    Table(Table),
+}
+
+fn main(rt: HostRuntime) -> ExitCode {
+    match run(&rt) {
+        Ok(true) => ExitCode::SUCCESS,
+        Ok(false) => ExitCode::from(1),
+        Err(_) => ExitCode::from(3),
+    }
+}
+
+// Runs the files that the words of the process name. Answers whether each case is what its file says.
+fn run(rt: &HostRuntime) -> io::Result<bool> {
+    let words = env::args(rt)?.collect::<Vec<String>>(rt.alloc())?;
+    let mut is_right = true;
+    for name in words.iter().skip(1) {
+        is_right = run_file(rt, name.as_str())? && is_right;
+    }
+    Ok(is_right)
+}
+
+fn run_file(rt: &HostRuntime, name: &str) -> io::Result<bool> {
+    let Some(kind) = kind_of(name) else {
+        println!(rt; "{USAGE}")?;
+        return Ok(false);
+    };
+    let text = fs::read_to_string(rt, name)?;
+    match cases(rt.alloc(), text.as_str(), repeats_of(kind)) {
+        Ok(cases) => run_cases(rt, name, kind, cases),
+        Err(fault) => {
+            tell(rt, name, fault)?;
+            Ok(false)
+        }
+    }
+}
+
+// By the end of a file's name.
+fn kind_of(name: &str) -> Option<Kind> {
+    let (_, end) = name.rsplit_once('.')?;
+    match end {
+        "plan" => Some(Kind::Plan),
+        "exchange" => Some(Kind::Exchange),
+        "message" => Some(Kind::Message),
+        "drill" => Some(Kind::Drill),
+        "grouping" => Some(Kind::Table(Table::Groupings)),
+        "record" => Some(Kind::Table(Table::Records)),
+        "word" => Some(Kind::Table(Table::Words)),
+        _ => None,
+    }
+}
+
+fn repeats_of(kind: Kind) -> Repeats {
+    match kind {
+        Kind::Exchange | Kind::Message => Repeats::WithAnswers,
+        Kind::Plan | Kind::Drill | Kind::Table(_) => Repeats::Alone,
+    }
+}
+
+// Tells each case that fails, and how many there are.
+fn run_cases(rt: &HostRuntime, name: &str, kind: Kind, cases: Vec<Case>) -> io::Result<bool> {
+    let count = cases.len();
+    let mut failed = 0usize;
+    for case in cases {
+        if let Err(fault) = run_case(rt.alloc(), kind, case) {
+            failed = failed.saturating_add(1);
+            tell(rt, name, fault)?;
+        }
+    }
+    if failed > 0 {
+        println!(rt; "{name}: {count} cases, {failed} failed")?;
+    } else {
+        println!(rt; "{name}: {count} cases")?;
+    }
+    Ok(failed == 0)
+}
+
+fn run_case(alloc: Global, kind: Kind, case: Case) -> Result<(), CaseFault> {
+    match kind {
+        Kind::Plan => check_plan::<ListStore>(alloc, &case),
+        Kind::Exchange => check_exchanges::<ListStore>(alloc, case),
+        Kind::Message => check_messages::<ListStore>(alloc, &case),
+        Kind::Drill => check_script(alloc, &case),
+        Kind::Table(table) => check_table(alloc, table, &case),
+    }
+}
+
+fn tell(rt: &HostRuntime, name: &str, fault: CaseFault) -> io::Result<()> {
+    match fault {
+        CaseFault::Differs {
+            line,
+            way,
+            wanted,
+            came,
+        } => println!(rt; "{name}:{line}: {way}\n  wanted {wanted}\n  came   {came}"),
+        CaseFault::Form { line } => println!(rt; "{name}:{line}: a line of no form"),
+        CaseFault::Memory => println!(rt; "{name}: a case gave up"),
+    }
+}

@@ -1,0 +1,242 @@
+//! A case's connections as typed arrivals and accounts.
+ghost use Rattle.std.specs.Prelude.{◌↔◌, ◌≤◌, ◌<◌, ◌^◌, All, IfOk, IfSome, IsTrue};
+ghost use Rattle.job_core.specs.Requests.{IsArrival, IsRequest};
+ghost use Rattle.wire.specs.Asks.{IsInRange};
+ghost use Rattle.wire.specs.Sending.{IsSendable};
+
+use crate::fault::CaseFault;
+use crate::reply::{JSON, TEXT, reply_bytes};
+use crate::ways::{Exchange, Fresh, check_bytes};
+use job_core::{Arrival, JobStore, Refusal, Reply, Request};
+use reply_store::{body_of, handle, run, status_of};
+use reports::{AccountFault, batch_counts, blank_counts, close_report};
+use server::Replied;
+use std::alloc::Global;
+use store_data::{Bytes, Name};
+use wire::{
+    AskFault, Asked, Pieces, Reading, Wanted, parse_reply, read_message, request_text, to_ask,
+};
+
+/// The most bytes of a body (this project's profile).
+const MOST_BODY: usize = 1_048_576;
+
+/// One more than the greatest serial or session (this project's profile).
+const PAST_NUMBERS: u64 = 1_000_000_000_000_000_000;
+
+// What these bytes ask, if they ask anything.
+fn asked(alloc: Global, input: &[u8]) -> Result<Option<Asked>, CaseFault>
+    ensures { IfOk result (λ found. IfSome found IsInRange) }
+{
+    match read_message(alloc, &mut Pieces::new(input, input.len())) {
+        Reading::Message(message) => match to_ask(alloc, message) {
+            Ok(asked) => Ok(Some(asked)),
+            Err(AskFault::Refused(_)) => Ok(None),
+            Err(AskFault::Memory) => Err(CaseFault::Memory),
+        },
+        Reading::Broken | Reading::Refused(_) => Ok(None),
+        Reading::Memory => Err(CaseFault::Memory),
+    }
+}
+
+/// Each arrival by `handle` and each account by its call gives the reply that came on the first way.
+pub fn check_handled<S: Fresh + Drop>(
+    alloc: Global,
+    exchanges: &[Exchange],
+    first: &[Replied],
+) -> Result<(), CaseFault> {
+    let mut store = S::fresh(alloc)?;
+    for (exchange, replied) in exchanges.iter().zip(first) {
+        let came = match asked(alloc, exchange.input.as_slice())? {
+            Some(Asked::Arrival(arrival)) => handled(alloc, &mut store, &arrival)?,
+            Some(Asked::Account(wanted)) => account(alloc, &mut store, wanted)?,
+            None => continue,
+        };
+        let wanted = replied.written.as_slice();
+        check_bytes(alloc, exchange.line, "handle", wanted, came.as_slice())?;
+    }
+    Ok(())
+}
+
+fn handled<S: JobStore>(
+    alloc: Global,
+    store: &mut S,
+    arrival: &Arrival,
+) -> Result<Vec<u8>, CaseFault>
+    requires { IsArrival arrival.now }
+{
+    let ask = arrival.ask.as_slice();
+    match handle(
+        alloc,
+        store,
+        &arrival.client,
+        arrival.number,
+        ask,
+        &arrival.request,
+    ) {
+        Ok(kept) => Ok(reply_bytes(alloc, kept.status, JSON, None, kept.body.as_slice())?),
+        Err(_) => Err(CaseFault::Memory),
+    }
+}
+
+fn account<S: JobStore>(
+    alloc: Global,
+    store: &mut S,
+    wanted: Wanted,
+) -> Result<Vec<u8>, CaseFault> {
+    let (kind, told) = match wanted {
+        Wanted::Batch(batch) => (JSON, batch_counts(alloc, store, &batch)),
+        Wanted::Blanks(product) => (JSON, blank_counts(alloc, store, &product)),
+        Wanted::Report(batch) => (TEXT, report(alloc, store, &batch)),
+    };
+    match told {
+        Ok(body) => Ok(reply_bytes(alloc, 200, kind, None, body.as_slice())?),
+        Err(AccountFault::Refused(refusal)) => refused(alloc, refusal),
+        Err(AccountFault::Store(_) | AccountFault::Write) => Err(CaseFault::Memory),
+    }
+}
+
+fn report<S: JobStore>(alloc: Global, store: &mut S, batch: &Name) -> Result<Bytes, AccountFault> {
+    let mut text = Vec::new(alloc);
+    close_report(alloc, store, batch, &mut text)?;
+    Ok(Bytes::from_vec(text))
+}
+
+fn refused(alloc: Global, refusal: Refusal) -> Result<Vec<u8>, CaseFault> {
+    told(alloc, &Reply::Refused { refusal })
+}
+
+// The bytes of a reply.
+fn told(alloc: Global, reply: &Reply) -> Result<Vec<u8>, CaseFault> {
+    let body = body_of(alloc, reply)?;
+    Ok(reply_bytes(alloc, status_of(reply), JSON, None, body.as_slice())?)
+}
+
+/// The arrivals in one run give the replies that came on the first way.
+pub fn check_run<S: Fresh + Drop>(
+    alloc: Global,
+    exchanges: &[Exchange],
+    first: &[Replied],
+) -> Result<(), CaseFault> {
+    let arrivals = arrivals(alloc, exchanges)?;
+    let mut store = S::fresh(alloc)?;
+    let mut outcomes = run(alloc, &mut store, arrivals.as_slice())?.into_iter();
+    for (exchange, replied) in exchanges.iter().zip(first) {
+        let Some(Asked::Arrival(_)) = asked(alloc, exchange.input.as_slice())? else {
+            continue;
+        };
+        let Some(Ok(kept)) = outcomes.next() else {
+            return Err(CaseFault::Memory);
+        };
+        let came = reply_bytes(alloc, kept.status, JSON, None, kept.body.as_slice())?;
+        let wanted = replied.written.as_slice();
+        check_bytes(alloc, exchange.line, "run", wanted, came.as_slice())?;
+    }
+    Ok(())
+}
+
+fn arrivals(alloc: Global, exchanges: &[Exchange]) -> Result<Vec<Arrival>, CaseFault>
+    ensures { IfOk result (λ arrivals. All IsArrival arrivals.items) }
+{
+    let mut arrivals = Vec::new(alloc);
+    for exchange in exchanges {
+        let Some(Asked::Arrival(arrival)) = asked(alloc, exchange.input.as_slice())? else {
+            continue;
+        };
+        arrivals.push(arrival)?;
+    }
+    Ok(arrivals)
+}
+
+/// Each reply to an arrival is read back by `parse_reply`, and written again is the same.
+pub fn check_parsed(
+    alloc: Global,
+    exchanges: &[Exchange],
+    first: &[Replied],
+) -> Result<(), CaseFault> {
+    for (exchange, replied) in exchanges.iter().zip(first) {
+        let written = replied.written.as_slice();
+        let again = match parse_reply(alloc, written)? {
+            Some(reply) => told(alloc, &reply)?,
+            None => match asked(alloc, exchange.input.as_slice())? {
+                Some(Asked::Arrival(_)) => Vec::new(alloc),
+                _ => continue,
+            },
+        };
+        check_bytes(
+            alloc,
+            exchange.line,
+            "parse_reply",
+            written,
+            again.as_slice(),
+        )?;
+    }
+    Ok(())
+}
+
+/// The inputs with each request written anew by `request_text`.
+pub fn written_anew(alloc: Global, exchanges: &[Exchange]) -> Result<Vec<Vec<u8>>, CaseFault> {
+    let mut inputs = Vec::new(alloc);
+    for exchange in exchanges {
+        let input = exchange.input.as_slice();
+        let text = match asked(alloc, input)? {
+            Some(Asked::Arrival(arrival)) => anew(alloc, &arrival)?,
+            _ => None,
+        };
+        match text {
+            Some(text) => inputs.push(text.as_slice().to_vec(alloc)?)?,
+            None => inputs.push(input.to_vec(alloc)?)?,
+        }
+    }
+    Ok(inputs)
+}
+
+fn anew(alloc: Global, arrival: &Arrival) -> Result<Option<Bytes>, CaseFault>
+    requires { IsArrival arrival.now }
+{
+    let request = &arrival.request;
+    if !is_sendable(request) {
+        return Ok(None);
+    }
+    let text = request_text(alloc, &arrival.client, arrival.number, request)?;
+    Ok(Some(text))
+}
+
+// Whether `request_text` takes a request.
+fn is_sendable(request: &Request) -> bool
+    requires { IsRequest request.now }
+    ensures { IsTrue result → IsSendable request.now }
+{
+    match request {
+        Request::Import { raw, .. } => raw.as_slice().len() <= MOST_BODY,
+        Request::Open { blank, .. } => *blank < PAST_NUMBERS,
+        Request::Discard { blank } => *blank < PAST_NUMBERS,
+        Request::Answer { session, index, sw } => {
+            // Read for their ranges.
+            let (_index, _sw) = (*index, *sw);
+            is_session(*session)
+        }
+        Request::Abort { session } => is_session(*session),
+        _ => true,
+    }
+}
+
+fn is_session(session: u64) -> bool
+    ensures { IsTrue result ↔ ((1 ≤ session) × (session < 10 ^ 18)) }
+{
+    1 <= session && session < PAST_NUMBERS
+}
+
+/// The reply to a message that brings an arrival.
+pub fn reply_to<S: JobStore>(
+    alloc: Global,
+    store: &mut S,
+    input: &[u8],
+) -> Result<Option<Reply>, CaseFault> {
+    match asked(alloc, input)? {
+        Some(Asked::Arrival(arrival)) => {
+            let written = handled(alloc, store, &arrival)?;
+            Ok(parse_reply(alloc, written.as_slice())?)
+        }
+        _ => Ok(None),
+    }
+}

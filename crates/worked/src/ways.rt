@@ -1,0 +1,146 @@
+//! Connections in memory, and what comes out of them.
+use crate::fault::CaseFault;
+use crate::reply::Wanted;
+use job_core::JobStore;
+use list_store::ListStore;
+use server::{End, MemoryConnections, Replied, serve_all};
+use std::alloc::{AllocError, Global};
+
+/// A store that a case may have for itself, empty.
+pub trait Fresh: JobStore {
+    /// An empty store.
+    fn fresh(alloc: Global) -> Result<Self, AllocError>;
+}
+
+impl Fresh for ListStore {
+    fn fresh(alloc: Global) -> Result<ListStore, AllocError> {
+        Ok(ListStore::new(alloc))
+    }
+}
+
+/// What a connection of a case brings, and what must come out of it.
+#[derive(Drop)]
+pub struct Exchange {
+    /// The line of the file that asks.
+    pub line: u64,
+    pub input: Vec<u8>,
+    pub wanted: Wanted,
+}
+
+/// A way to serve a case's connections: its name, the most bytes that come at once, and what stands behind each input.
+#[derive(Clone, Copy)]
+pub struct Way {
+    pub name: &'static str,
+    pub most: usize,
+    pub behind: &'static [u8],
+}
+
+/// The connections of a case, served in turn over a store of their own.
+pub fn served<S: Fresh + Drop>(
+    alloc: Global,
+    exchanges: &[Exchange],
+    way: Way,
+) -> Result<MemoryConnections, CaseFault> {
+    let mut inputs = Vec::new(alloc);
+    for exchange in exchanges {
+        let mut input = exchange.input.as_slice().to_vec(alloc)?;
+        input.extend_from_slice(way.behind)?;
+        inputs.push(input)?;
+    }
+    let mut store = S::fresh(alloc)?;
+    connected(alloc, &mut store, inputs, way.most)
+}
+
+/// These inputs, served in turn over this store.
+pub fn connected<S: JobStore>(
+    alloc: Global,
+    store: &mut S,
+    inputs: Vec<Vec<u8>>,
+    most: usize,
+) -> Result<MemoryConnections, CaseFault> {
+    let turns = inputs.len() as u64;
+    let mut connections = MemoryConnections::new(alloc, inputs, most);
+    match serve_all(alloc, store, &mut connections, turns) {
+        Ok(()) => Ok(connections),
+        Err(_) => Err(CaseFault::Memory),
+    }
+}
+
+/// Each connection ended as it must, and what was wanted came out of it.
+pub fn check_wanted(
+    alloc: Global,
+    exchanges: &[Exchange],
+    way: &'static str,
+    replies: &[Replied],
+    may_break: bool,
+) -> Result<(), CaseFault> {
+    for (exchange, replied) in exchanges.iter().zip(replies) {
+        let came = replied.written.as_slice();
+        let end = replied.served.end;
+        let is_right = match &exchange.wanted {
+            Wanted::Any => {
+                let ends = end == End::Answered || may_break && end == End::Broken;
+                ends && !came.starts_with(b"HTTP/1.1 503")
+            }
+            Wanted::Nothing => end == End::Broken && came.is_empty(),
+            Wanted::Bytes(bytes) => end == End::Answered && came == bytes.as_slice(),
+        };
+        if !is_right {
+            let wanted = wanted_text(alloc, &exchange.wanted)?;
+            return Err(CaseFault::Differs {
+                line: exchange.line,
+                way,
+                wanted,
+                came: String::from_utf8_lossy(alloc, came)?,
+            });
+        }
+    }
+    Ok(())
+}
+
+fn wanted_text(alloc: Global, wanted: &Wanted) -> Result<String, AllocError> {
+    match wanted {
+        Wanted::Any => String::from_str(alloc, "any reply but 503"),
+        Wanted::Nothing => String::from_str(alloc, "nothing"),
+        Wanted::Bytes(bytes) => String::from_utf8_lossy(alloc, bytes.as_slice()),
+    }
+}
+
+/// The same came out of each connection as on the first way.
+pub fn check_same(
+    alloc: Global,
+    exchanges: &[Exchange],
+    way: &'static str,
+    first: &[Replied],
+    replies: &[Replied],
+) -> Result<(), CaseFault> {
+    for (exchange, (first, replied)) in exchanges.iter().zip(first.iter().zip(replies)) {
+        let (wanted, came) = (first.written.as_slice(), replied.written.as_slice());
+        check_bytes(alloc, exchange.line, way, wanted, came)?;
+        if first.served != replied.served {
+            return Err(CaseFault::Form {
+                line: exchange.line,
+            });
+        }
+    }
+    Ok(())
+}
+
+/// Two byte strings are one.
+pub fn check_bytes(
+    alloc: Global,
+    line: u64,
+    way: &'static str,
+    wanted: &[u8],
+    came: &[u8],
+) -> Result<(), CaseFault> {
+    if wanted == came {
+        return Ok(());
+    }
+    Err(CaseFault::Differs {
+        line,
+        way,
+        wanted: String::from_utf8_lossy(alloc, wanted)?,
+        came: String::from_utf8_lossy(alloc, came)?,
+    })
+}
