@@ -1,0 +1,40 @@
+#!/usr/bin/env bash
+# Builds the tests of `trials`, and refuses each of their allocations in turn, one in each run of a test. It fails where a run fails, is
+# killed, or takes over 60 seconds, and names those. A word given here picks the tests whose names have it: bench/refused.sh memory::
+set -euo pipefail
+cd "$(dirname "$0")/.."
+(cd crates/trials && rt test)
+folder=$(mktemp -d)
+trap 'rm -rf "$folder"' EXIT
+export ALLOCATOR=$folder/refused.so
+export PROGRAM=$PWD/crates/trials/out/trials_tests
+cc -O2 -shared -fPIC -o "$ALLOCATOR" bench/refused.c
+ulimit -c 0
+
+# A test, where the allocation of this number is refused.
+run() {
+    timeout 60 env LD_PRELOAD="$ALLOCATOR" REFUSE="$2" "$PROGRAM" "$1"
+}
+
+# The same for each of these numbers.
+runs() {
+    local test=$1 number
+    shift
+    for number; do
+        run "$test" "$number" >/dev/null 2>&1 || echo "$test: status $? where allocation $number is refused"
+    done
+}
+export -f run runs
+
+tests=0 total=0
+for test in $("$PROGRAM" --list | sed -n 's/: test$//p' | grep -F -- "${1:-}"); do
+    COUNT=$folder/count run "$test" 0 >/dev/null
+    count=$(cat "$folder/count")
+    seq 1 "$count" | xargs -r -P "$(nproc)" -n 50 bash -c 'runs "$@"' runs "$test" >>"$folder/failed"
+    echo "$test: $count"
+    tests=$((tests + 1)) total=$((total + count))
+done
+cat "$folder/failed"
+failed=$(wc -l <"$folder/failed")
+echo "$total allocations refused, each in a run of its own, of $tests tests: $((total - failed)) passed, $failed failed"
+[ "$total" -gt 0 ] && [ "$failed" -eq 0 ]

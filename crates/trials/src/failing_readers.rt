@@ -1,0 +1,85 @@
+//! Readers that fail, and one that counts how often it is asked.
+use std::io::{self, ErrorKind, Read};
+use wire::{Incoming, Pieces};
+
+/// Gives one byte at a call, and fails where these end.
+#[derive(Drop)]
+pub(crate) struct Broken<'a>(pub(crate) &'a [u8]);
+
+impl Read for Broken<'_> {
+    fn read(&mut self, buf: &mut [u8]) -> io::Result<usize> {
+        let Some(byte) = self.0.first() else {
+            return Err(io::Error::from(ErrorKind::ConnectionReset));
+        };
+        if buf.is_empty() {
+            return Ok(0);
+        }
+        buf[0] = *byte;
+        self.0 = &self.0[1..];
+        Ok(1)
+    }
+}
+
+/// A read that fails behind the first bytes, and would then bring the others.
+#[derive(Drop)]
+pub(crate) struct Failing<'a> {
+    front: Pieces<'a>,
+    others: Pieces<'a>,
+    has_failed: bool,
+}
+
+impl<'a> Failing<'a> {
+    /// These bytes, with a read that fails between them, in pieces of at most so many.
+    pub(crate) fn new(front: &'a [u8], others: &'a [u8], most: usize) -> Failing<'a> {
+        Failing {
+            front: Pieces::new(front, most),
+            others: Pieces::new(others, most),
+            has_failed: false,
+        }
+    }
+}
+
+impl Incoming for Failing<'_> {
+    ghost use Rattle.std.specs.Prelude.{None};
+
+    ghost brings = { λ _. None };
+
+    fn bring(&mut self, buf: &mut [u8]) -> usize {
+        if self.has_failed {
+            return self.others.bring(buf);
+        }
+        let count = self.front.bring(buf);
+        self.has_failed = count == 0;
+        count
+    }
+}
+
+/// Counts how often it is asked.
+#[derive(Drop)]
+pub(crate) struct Counted<'a> {
+    pieces: Pieces<'a>,
+    /// How often it was asked.
+    pub(crate) asked: usize,
+}
+
+impl<'a> Counted<'a> {
+    /// These bytes, in pieces of at most so many.
+    pub(crate) fn new(bytes: &'a [u8], most: usize) -> Counted<'a> {
+        Counted {
+            pieces: Pieces::new(bytes, most),
+            asked: 0,
+        }
+    }
+}
+
+impl Incoming for Counted<'_> {
+    ghost use Rattle.std.specs.Prelude.{Some};
+    ghost use Rattle.wire.specs.Brought.{bytes_of};
+
+    ghost brings = { λ c. Some (bytes_of c.pieces) };
+
+    fn bring(&mut self, buf: &mut [u8]) -> usize {
+        self.asked = self.asked.saturating_add(1);
+        self.pieces.bring(buf)
+    }
+}

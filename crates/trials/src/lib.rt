@@ -1,0 +1,37 @@
+//! Tests of what no file of worked examples can say: readers and writers that fail, refused memory, and the program's words.
+#![tactic(auto)]
+
+#[cfg(test)]
+mod again;
+#[cfg(test)]
+mod batches;
+#[cfg(test)]
+mod by_hand;
+#[cfg(test)]
+mod exchanges;
+#[cfg(test)]
+mod failing_readers;
+#[cfg(test)]
+mod failing_writers;
+#[cfg(test)]
+mod memory;
+#[cfg(test)]
+mod messages;
+#[cfg(test)]
+mod names;
+#[cfg(test)]
+mod readers;
+#[cfg(test)]
+mod rows;
+#[cfg(test)]
+mod sending;
+#[cfg(test)]
+mod serving;
+#[cfg(test)]
+mod stores;
+#[cfg(test)]
+mod stories;
+#[cfg(test)]
+mod words;
+#[cfg(test)]
+mod writers;

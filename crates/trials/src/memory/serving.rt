@@ -1,0 +1,107 @@
+//! Connections and drills.
+use crate::again::{MayWantMemory, at_last};
+use crate::exchanges::inputs;
+use crate::failing_writers::Limited;
+use drill::{DrillStop, drill_engine};
+use list_store::ListStore;
+use server::{End, NextFault, Replied, Served, serve_inputs, serve_one};
+use std::alloc::Global;
+use std::io::Cursor;
+use std::process::Abort;
+use wire::Pieces;
+
+const PRODUCT: &[u8] =
+    b"POST /c/office/1 HTTP/1.1\r\nContent-Length: 63\r\n\r\n{\"do\":\"product\",\"product\":\"P1\",\"max\":255,\"low\":0,\"check\":false}";
+
+const CREATED: &[u8] =
+    b"HTTP/1.1 200 OK\r\nContent-Type: application/json\r\nContent-Length: 35\r\nConnection: close\r\n\r\n{\"product\":\"P1\",\"result\":\"created\"}";
+
+const UNAVAILABLE: &[u8] =
+    b"HTTP/1.1 503 Service Unavailable\r\nContent-Type: application/json\r\nContent-Length: 32\r\nConnection: close\r\n\r\n{\"code\":503,\"refused\":\"storage\"}";
+
+// What is told where a message was decided, and where memory for it was refused.
+fn reply_of(served: Served) -> &'static [u8] {
+    if served.decided { CREATED } else { UNAVAILABLE }
+}
+
+// One message of three gets 503 at most, and each other one its reply.
+#[test]
+fn refused_memory_is_told_as_unavailable(rt: HostRuntime) {
+    let mut store = ListStore::new(rt.alloc());
+    let mut decided = 0u32;
+    for _ in 0..3 {
+        let mut writer = Limited::new(512, 512);
+        let served = serve_one(
+            rt.alloc(),
+            &mut store,
+            &mut Pieces::new(PRODUCT, 7),
+            &mut writer,
+        );
+        assert_eq!(rt; served.end, End::Answered);
+        assert_eq!(rt; writer.taken(), reply_of(served));
+        decided = decided.saturating_add(u32::from(served.decided));
+    }
+    assert!(rt; decided >= 2);
+}
+
+// What a connection in memory got is its reply, or a beginning of it where memory for that was refused.
+fn check_replied(rt: &impl Abort, replied: &Replied) {
+    let written = replied.written.as_slice();
+    match replied.served.end {
+        End::Answered => assert_eq!(rt; written, reply_of(replied.served)),
+        End::WriteFailed => assert!(rt; reply_of(replied.served).starts_with(written)),
+        End::Broken => assert!(rt; false),
+    }
+}
+
+// How many of two messages are answered by what was decided.
+fn decided(rt: &impl Abort, alloc: Global) -> Result<usize, NextFault> {
+    let inputs = inputs(alloc, &[PRODUCT, PRODUCT])?;
+    let (_, connections) = serve_inputs(alloc, inputs, 7, 2)?;
+    let replies = connections.replies();
+    assert_eq!(rt; replies.len(), 2);
+    for replied in replies {
+        check_replied(rt, replied);
+    }
+    Ok(replies.iter().filter(|r| r.served.decided).count())
+}
+
+#[test]
+fn inputs_are_served_after_refused_memory(rt: HostRuntime) {
+    let count = at_last!(decided(&rt, rt.alloc()));
+    assert!(rt; matches!(count, Ok(1 | 2)), "{count:?}");
+}
+
+const SCRIPT: &[u8] =
+    b"office 1 {\"do\":\"reset\"}\nimport 2 B1 P1\nrecord,aid,rank,enc,tol,dgi\n.\nget /batch/B9\n";
+
+const TOLD: &str = r#"200 {"result":"reset","session":0}
+409 {"code":52,"refused":"product-unknown"}
+409 {"code":56,"refused":"batch-unknown"}
+"#;
+
+const LINE: &[u8] = br#"503 {"code":503,"refused":"storage"}"#;
+
+// Where memory is refused nothing is printed, or one message is told 503; a second drill prints it all.
+#[test]
+fn refused_memory_is_no_half_drill(rt: HostRuntime) {
+    for is_again in [false, true] {
+        let mut writer = Limited::new(512, 512);
+        let end = drill_engine(rt.alloc(), &mut Cursor::new(SCRIPT), &mut writer);
+        let printed = writer.taken();
+        if end == Ok(()) && printed == TOLD.as_bytes() {
+            return;
+        }
+        assert!(rt; !is_again);
+        match end {
+            Ok(()) => {
+                let mut lines = printed.split(|b| *b == b'\n');
+                assert!(rt; lines.any(|line| line == LINE));
+            }
+            Err(stop) => {
+                assert_eq!(rt; stop, DrillStop::Memory);
+                assert!(rt; printed.is_empty());
+            }
+        }
+    }
+}

@@ -1,0 +1,150 @@
+//! Readers that fail, and readers whose reads are counted.
+ghost use Rattle.store_data.specs.Sequence.{IsProduct};
+
+use crate::again::{MayWantMemory, at_last};
+use crate::batches::{FILE, product};
+use crate::exchanges::inputs;
+use crate::failing_readers::{Broken, Counted, Failing};
+use crate::failing_writers::Limited;
+use drill::{DrillStop, drill_engine};
+use plan_print::{PlanStop, plan_engine};
+use server::{Connections, MemoryReader, NextFault, serve_inputs};
+use std::alloc::Global;
+use std::process::Abort;
+use std::test::Fail;
+use store_data::Product;
+use wire::{Incoming, Reading, read_message};
+
+// The first worked message, a product: its head has 66 bytes, its body 63.
+const PRODUCT: &[u8] =
+    b"POST /c/office/1 HTTP/1.1\r\nHost: localhost\r\nContent-Length: 63\r\n\r\n{\"do\":\"product\",\"product\":\"P1\",\"max\":255,\"low\":0,\"check\":false}";
+
+// How often a reader is asked for the first message, in pieces of at most so many bytes; none where memory was refused.
+fn asked(alloc: Global, most: usize) -> Option<usize> {
+    let mut incoming = Counted::new(PRODUCT, most);
+    match read_message(alloc, &mut incoming) {
+        Reading::Message(_) => Some(incoming.asked),
+        _ => None,
+    }
+}
+
+#[test]
+fn nothing_is_read_behind_a_message(rt: HostRuntime) -> Result<(), Fail> {
+    let table = [
+        (1, 129),
+        (2, 65),
+        (7, 19),
+        (65, 2),
+        (66, 2),
+        (67, 2),
+        (8192, 1),
+    ];
+    for (most, calls) in table {
+        let count = match asked(rt.alloc(), most) {
+            None => asked(rt.alloc(), most),
+            count => count,
+        };
+        assert_eq!(rt; count, Some(calls), "at {most}");
+    }
+    // A head that is refused is read to its end alone.
+    let head = b"GET /batch/B9 HTTP/1.1\r\nContent-Length: 1048577\r\n\r\n";
+    let mut incoming = Counted::new(head, 1);
+    assert!(rt;
+        matches!(
+            &read_message(rt.alloc(), &mut incoming),
+            Reading::Refused(_)
+        )
+    );
+    assert_eq!(rt; incoming.asked, head.len());
+    Ok(())
+}
+
+// Whether a read that fails behind so many bytes breaks the message; none where memory was refused.
+fn is_broken(alloc: Global, size: usize) -> Option<bool> {
+    let (front, others) = PRODUCT.split_at_checked(size)?;
+    match read_message(alloc, &mut Failing::new(front, others, 5)) {
+        Reading::Broken => Some(true),
+        Reading::Memory => None,
+        _ => Some(false),
+    }
+}
+
+#[test]
+fn a_failed_read_is_the_end(rt: HostRuntime) {
+    for size in 0..PRODUCT.len() {
+        let is_broken = is_broken(rt.alloc(), size).or_else(|| is_broken(rt.alloc(), size));
+        assert_eq!(rt; is_broken, Some(true), "at {size}");
+    }
+}
+
+// How a plan ends whose reader fails behind these bytes; nothing is written.
+fn plan_of_broken(
+    rt: &impl Abort,
+    alloc: Global,
+    product: &Product,
+    front: &[u8],
+) -> Result<(), PlanStop>
+    requires { IsProduct product.now }
+{
+    let mut writer = Limited::new(512, 512);
+    let end = plan_engine(alloc, product, &mut Broken(front), &mut writer);
+    assert!(rt; writer.taken().is_empty());
+    end
+}
+
+#[test]
+fn a_plan_whose_reader_fails_prints_nothing(rt: HostRuntime) -> Result<(), Fail> {
+    let product = product(255, 0, false)?;
+    for size in 0..FILE.len() {
+        let end = at_last!(plan_of_broken(&rt, rt.alloc(), &product, &FILE[..size]));
+        assert_eq!(rt; end, Err(PlanStop::ReadFailed), "at {size}");
+    }
+    Ok(())
+}
+
+const SCRIPT: &[u8] =
+    b"office 1 {\"do\":\"product\",\"product\":\"P1\",\"max\":255,\"low\":0,\"check\":false}\nimport 2 B1 P1\nrecord,aid,rank,enc,tol,dgi\n.\n";
+
+// How a drill ends whose reader fails behind these bytes; nothing is written.
+fn drill_of_broken(rt: &impl Abort, alloc: Global, front: &[u8]) -> Result<(), DrillStop> {
+    let mut writer = Limited::new(512, 512);
+    let end = drill_engine(alloc, &mut Broken(front), &mut writer);
+    assert!(rt; writer.taken().is_empty());
+    end
+}
+
+#[test]
+fn a_drill_whose_reader_fails_prints_nothing(rt: HostRuntime) {
+    for size in 0..SCRIPT.len() {
+        let end = at_last!(drill_of_broken(&rt, rt.alloc(), &SCRIPT[..size]));
+        assert_eq!(rt; end, Err(DrillStop::ReadFailed), "at {size}");
+    }
+}
+
+#[test]
+fn bytes_in_memory_come_in_pieces(rt: HostRuntime) -> Result<(), Fail> {
+    let bytes = b"GET /batch/B9";
+    for (most, count) in [(0, 1), (1, 1), (5, 5), (13, 13), (100, 13)] {
+        let owned = at_last!(bytes.to_vec(rt.alloc()))?;
+        let mut reader = MemoryReader::new(owned, most);
+        let mut buf = [0; 20];
+        assert_eq!(rt; reader.bring(&mut buf), count);
+        assert_eq!(rt; buf.get(..count), bytes.get(..count));
+    }
+    Ok(())
+}
+
+// How many bytes come first of an input, whose bytes come in pieces of at most so many.
+fn first_piece(alloc: Global, most: usize) -> Result<usize, NextFault> {
+    let inputs = inputs(alloc, &[b"GET /batch/B9"])?;
+    let (_, mut connections) = serve_inputs(alloc, inputs, most, 0)?;
+    let (mut reader, _) = connections.next()?;
+    Ok(reader.bring(&mut [0; 20]))
+}
+
+#[test]
+fn inputs_come_in_pieces(rt: HostRuntime) {
+    for (most, count) in [(0, 1), (5, 5), (100, 13)] {
+        assert_eq!(rt; at_last!(first_piece(rt.alloc(), most)), Ok(count));
+    }
+}

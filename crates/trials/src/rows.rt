@@ -1,0 +1,222 @@
+//! Worked examples, each on the public function that answers it.
+use crate::again::{MayWantMemory, at_last};
+use crate::batches::product;
+use crate::exchanges::{batch_account, blank_account, message, served, store_after, tell};
+use crate::failing_writers::{Limited, LimitedConnections};
+use crate::stories::{MADE_AGAIN, OPENED, OPENING, SET_UP, TURNS};
+use command_line::{End as ProgramEnd, Exit, Told, Words, WordsFault, exit_of, read_words};
+use list_store::ListStore;
+use plan_print::plan_engine;
+use server::{End, NextFault, Served, serve_all};
+use std::alloc::Global;
+use std::io::Cursor;
+use std::process::Abort;
+use std::test::Fail;
+
+// How the program ends with these words and this input, and what it writes.
+fn program(alloc: Global, words: &[&str], raw: &[u8]) -> Result<(Exit, Limited), Fail> {
+    let mut writer = Limited::new(512, 512);
+    let (max, low, check) = match at_last!(read_words(alloc, words)) {
+        Ok(Words::Plan { max, low, check }) => (max, low, check),
+        Err(WordsFault::Usage(_)) => return Ok((exit_of(ProgramEnd::Usage), writer)),
+        _ => return Err(Fail::new("no plan")),
+    };
+    let product = product(max, low, check)?;
+    let end = match at_last!(plan_engine(alloc, &product, &mut Cursor::new(raw), &mut writer)) {
+        Ok(()) => ProgramEnd::Done,
+        Err(stop) => ProgramEnd::Stopped(stop.into()),
+    };
+    Ok((exit_of(end), writer))
+}
+
+const SMALL: &[u8] = b"record,aid,rank,enc,tol,dgi\nR1,F00000000101,1,0,0,0101027000\n";
+
+const MARKED: &[u8] =
+    b"record,aid,rank,enc,tol,dgi\nR1,F00000000101,1,1,0,8000081122334455667788\nR1,F00000000101,2,0,0,0102027000\n";
+
+#[test]
+fn a_plan_is_printed_by_its_words(rt: HostRuntime) -> Result<(), Fail> {
+    let table: [(&[&str], &[u8], &str); 3] = [
+        (
+            &["persod", "plan"],
+            SMALL,
+            "record R1\n00A4040006F00000000101\n80E28000050101027000\n",
+        ),
+        (
+            &["persod", "plan"],
+            MARKED,
+            "record R1\n00A4040006F00000000101\n80E260000B8000081122334455667788\n80E28001050102027000\n",
+        ),
+        (
+            &["persod", "plan", "--low", "7"],
+            MARKED,
+            "record R1\n00A4040006F00000000101\n80E267000B8000081122334455667788\n80E28701050102027000\n",
+        ),
+    ];
+    for (words, raw, printed) in table {
+        let (exit, writer) = program(rt.alloc(), words, raw)?;
+        assert_eq!(rt; writer.taken(), printed.as_bytes(), "at {words:?}");
+        assert_eq!(rt; exit, exit_of(ProgramEnd::Done));
+    }
+    Ok(())
+}
+
+#[test]
+fn a_plan_is_refused_by_its_input_or_its_words(rt: HostRuntime) -> Result<(), Fail> {
+    let words = Some(Told::RefusedRow { number: 31, row: 1 });
+    let table: [(&[&str], Exit); 2] = [
+        (&["persod", "plan"], Exit { status: 1, words }),
+        (
+            &["persod", "plan", "--max", "15"],
+            Exit {
+                status: 2,
+                words: None,
+            },
+        ),
+    ];
+    for (words, wanted) in table {
+        let (exit, writer) = program(rt.alloc(), words, b"")?;
+        assert!(rt; writer.taken().is_empty());
+        assert_eq!(rt; exit, wanted, "at {words:?}");
+    }
+    Ok(())
+}
+
+const ONE_RUNS: &str =
+    r#"{"charged":1,"discarded":0,"free":2,"good":0,"lots":1,"product":"P1","running":1,"spoiled":0,"total":3}"#;
+
+// An opening that comes three times charges one blank. A word that is out of turn stays so when it comes again.
+#[test]
+fn a_repeat_is_told_the_same(rt: HostRuntime) -> Result<(), Fail> {
+    let alloc = rt.alloc();
+    let mut store = store_after(&rt, alloc, &SET_UP)?;
+    tell(&rt, alloc, &mut store, &[OPENING, OPENING, OPENING])?;
+    let account = blank_account(alloc, &mut store)?;
+    assert_eq!(rt; account.as_slice(), ONE_RUNS.as_bytes());
+    tell(&rt, alloc, &mut store, &TURNS)
+}
+
+#[test]
+fn a_spoiled_card_is_made_again(rt: HostRuntime) -> Result<(), Fail> {
+    let alloc = rt.alloc();
+    let mut store = store_after(&rt, alloc, MADE_AGAIN.before)?;
+    tell(&rt, alloc, &mut store, MADE_AGAIN.exchanges)?;
+    let account = batch_account(alloc, &mut store)?;
+    assert_eq!(rt;
+        account.as_slice(),
+        br#"{"batch":"B1","closed":false,"failed":0,"good":1,"product":"P1","records":1,"running":0,"sessions":2,"spoiled":1,"waiting":0,"withdrawn":0}"#.as_slice()
+    );
+    let account = blank_account(alloc, &mut store)?;
+    assert_eq!(rt;
+        account.as_slice(),
+        br#"{"charged":2,"discarded":0,"free":1,"good":1,"lots":1,"product":"P1","running":0,"spoiled":1,"total":3}"#.as_slice()
+    );
+    Ok(())
+}
+
+// Messages to a server that begins empty, and their replies.
+static MESSAGES: [(&str, &str); 4] = [
+    (
+        "GET /batch/B9 HTTP/1.1\r\nHost: localhost\r\n\r\n",
+        "HTTP/1.1 409 Conflict\r\nContent-Type: application/json\r\nContent-Length: 37\r\nConnection: close\r\n\r\n{\"code\":56,\"refused\":\"batch-unknown\"}",
+    ),
+    (
+        "DELETE /batch/B9 HTTP/1.1\r\nHost: localhost\r\n\r\n",
+        "HTTP/1.1 405 Method Not Allowed\r\nContent-Type: application/json\r\nContent-Length: 31\r\nConnection: close\r\nAllow: GET\r\n\r\n{\"code\":405,\"refused\":\"method\"}",
+    ),
+    (
+        "GET /batch/ HTTP/1.1\r\nHost: localhost\r\n\r\n",
+        "HTTP/1.1 404 Not Found\r\nContent-Type: application/json\r\nContent-Length: 33\r\nConnection: close\r\n\r\n{\"code\":404,\"refused\":\"no-route\"}",
+    ),
+    (
+        "GET /batch/B9 HTTP/1.1\r\nHost: localhost\r\nContent-Length: 1048577\r\n\r\n",
+        "HTTP/1.1 413 Payload Too Large\r\nContent-Type: application/json\r\nContent-Length: 34\r\nConnection: close\r\n\r\n{\"code\":413,\"refused\":\"too-large\"}",
+    ),
+];
+
+// These bytes are answered so, and nothing is decided.
+fn check_answered(rt: &impl Abort, alloc: Global, bytes: &[u8], reply: &str) {
+    let mut store = ListStore::new(alloc);
+    let (served, writer) = served(alloc, &mut store, bytes, Limited::new(512, 512));
+    assert_eq!(rt; writer.taken(), reply.as_bytes());
+    let (end, decided) = (End::Answered, false);
+    assert_eq!(rt; served, Served { end, decided });
+}
+
+#[test]
+fn messages_are_answered(rt: HostRuntime) {
+    for (message, reply) in MESSAGES {
+        check_answered(&rt, rt.alloc(), message.as_bytes(), reply);
+    }
+    // A head of 8,192 bytes without its end.
+    let mut head = [b'x'; 8192];
+    head[..24].copy_from_slice(b"GET /batch/B9 HTTP/1.1\r\n");
+    check_answered(
+        &rt,
+        rt.alloc(),
+        &head,
+        "HTTP/1.1 431 Request Header Fields Too Large\r\nContent-Type: application/json\r\nContent-Length: 39\r\nConnection: close\r\n\r\n{\"code\":431,\"refused\":\"head-too-large\"}",
+    );
+}
+
+const BLANKS: &[u8] = b"GET /blanks/P1 HTTP/1.1\r\n\r\n";
+
+// What becomes of an opening whose writer has room for 10 bytes, of its repeat, and of the account of blanks; all come in pieces of at
+// most so many bytes, and each writer takes one byte a call.
+fn opened_twice(
+    rt: &impl Abort,
+    alloc: Global,
+    most: usize,
+) -> Result<Result<Vec<(Limited, Served)>, NextFault>, Fail> {
+    let mut store = store_after(rt, alloc, &SET_UP)?;
+    let open = at_last!(message(alloc, &OPENING))?;
+    let inputs = [(open.as_slice(), 10), (open.as_slice(), 512), (BLANKS, 512)];
+    let mut connections = at_last!(LimitedConnections::new(
+        alloc,
+        &inputs,
+        most,
+        NextFault::Device
+    ))?;
+    let ended = serve_all(alloc, &mut store, &mut connections, 100);
+    assert_eq!(rt; ended, Err(NextFault::Device));
+    if connections
+        .replies
+        .iter()
+        .any(|r| r.0.taken().starts_with(b"HTTP/1.1 5"))
+    {
+        return Ok(Err(NextFault::Memory));
+    }
+    Ok(Ok(connections.replies))
+}
+
+// A reply of 200 with this body.
+fn reply(alloc: Global, body: &str) -> Result<Vec<u8>, Fail> {
+    let size = body.len();
+    let text = at_last!(format!(in alloc;
+        "HTTP/1.1 200 OK\r\nContent-Type: application/json\r\nContent-Length: {size}\r\nConnection: close\r\n\r\n{body}"
+    ))?;
+    Ok(text.into_bytes())
+}
+
+#[test]
+fn a_failed_write_leaves_what_was_decided(rt: HostRuntime) -> Result<(), Fail> {
+    let alloc = rt.alloc();
+    let (opened, one_runs) = (reply(alloc, OPENED)?, reply(alloc, ONE_RUNS)?);
+    for most in [1, 10_000] {
+        let mut replies = opened_twice(&rt, alloc, most)?;
+        if replies.is_err() {
+            replies = opened_twice(&rt, alloc, most)?;
+        }
+        let replies = replies?;
+        let [(cut, first), (whole, second), (blanks, third)] = replies.as_slice() else {
+            return Err(Fail::new("not three"));
+        };
+        assert_eq!(rt; Some(cut.taken()), opened.get(..10));
+        assert_eq!(rt; (first.end, first.decided), (End::WriteFailed, true));
+        assert_eq!(rt; whole.taken(), opened.as_slice());
+        assert_eq!(rt; (second.end, second.decided), (End::Answered, true));
+        assert_eq!(rt; blanks.taken(), one_runs.as_slice());
+        assert_eq!(rt; (third.end, third.decided), (End::Answered, false));
+    }
+    Ok(())
+}

@@ -1,0 +1,263 @@
+//! Writers that fail at each byte, that take one byte a call, and that fail to flush.
+ghost use Rattle.store_data.specs.Sequence.{IsProduct};
+
+use crate::again::{MayWantMemory, at_last};
+use crate::batches::{FILE, PRINTED, product};
+use crate::exchanges::{name, served, store_after, tell};
+use crate::failing_writers::Limited;
+use crate::stories::CLOSING;
+use drill::{DrillStop, drill_engine};
+use list_store::ListStore;
+use plan_print::{PlanStop, plan_engine};
+use reports::{AccountFault, close_report};
+use server::{End, Served};
+use std::alloc::Global;
+use std::io::{BufWriter, Cursor};
+use std::process::Abort;
+use std::test::Fail;
+use store_data::Product;
+use text_writer::{WriteFailed, write_text};
+
+const TEXT: &[u8] = b"record R1\n";
+
+// What is told where a writer has room for so many bytes of the text.
+fn told(room: usize) -> Result<(), WriteFailed> {
+    if room < TEXT.len() {
+        Err(WriteFailed)
+    } else {
+        Ok(())
+    }
+}
+
+#[test]
+fn a_text_has_its_beginning_where_a_writer_fails(rt: HostRuntime) {
+    for most in 0..=TEXT.len() {
+        for at_a_call in [1, 3, TEXT.len()] {
+            let mut writer = Limited::new(most, at_a_call);
+            let end = write_text(&mut writer, TEXT);
+            assert_eq!(rt; end, told(most), "at {most}");
+            assert_eq!(rt; writer.taken(), &TEXT[..most]);
+        }
+    }
+}
+
+// A slice that is full takes none, and doesn't fail.
+#[test]
+fn a_text_has_its_beginning_in_a_slice(rt: HostRuntime) {
+    for room in 0..=TEXT.len() {
+        let mut taken = [0; 10];
+        let mut writer = &mut taken[..room];
+        let end = write_text(&mut writer, TEXT);
+        assert_eq!(rt; end, told(room), "at {room}");
+        assert_eq!(rt; &taken[..room], &TEXT[..room]);
+    }
+}
+
+// How a plan ends whose writer has so much room, and takes one byte a call; the beginning is written where memory was not refused.
+fn plan_of_limited(
+    rt: &impl Abort,
+    alloc: Global,
+    product: &Product,
+    room: usize,
+) -> Result<(), PlanStop>
+    requires { IsProduct product.now }
+{
+    let mut writer = Limited::new(room, 1);
+    let end = plan_engine(alloc, product, &mut Cursor::new(FILE), &mut writer);
+    let wanted = if end == Err(PlanStop::Memory) {
+        0
+    } else {
+        room
+    };
+    assert_eq!(rt;
+        Some(writer.taken()),
+        PRINTED.as_bytes().get(..wanted),
+        "at {room}"
+    );
+    end
+}
+
+#[test]
+fn a_plan_has_its_beginning_where_a_writer_fails(rt: HostRuntime) -> Result<(), Fail> {
+    let product = product(255, 0, false)?;
+    for room in 0..PRINTED.len() {
+        let end = at_last!(plan_of_limited(&rt, rt.alloc(), &product, room));
+        assert_eq!(rt; end, Err(PlanStop::WriteFailed), "at {room}");
+    }
+    let end = at_last!(plan_of_limited(&rt, rt.alloc(), &product, PRINTED.len()));
+    assert_eq!(rt; end, Ok(()));
+    Ok(())
+}
+
+// How a plan ends whose writer fails to flush.
+fn plan_that_fails_to_flush(
+    rt: &impl Abort,
+    alloc: Global,
+    product: &Product,
+) -> Result<(), PlanStop>
+    requires { IsProduct product.now }
+{
+    let mut writer = Limited::that_fails_to_flush();
+    let end = plan_engine(alloc, product, &mut Cursor::new(FILE), &mut writer);
+    if end != Err(PlanStop::Memory) {
+        assert_eq!(rt; writer.taken(), PRINTED.as_bytes());
+    }
+    end
+}
+
+// How a plan ends whose writer has no room, and a buffer before it, so that the flush is the first to fail.
+fn plan_behind_a_buffer(alloc: Global, product: &Product) -> Result<(), PlanStop>
+    requires { IsProduct product.now }
+{
+    let Ok(mut writer) = BufWriter::new(alloc, Limited::new(0, 512)) else {
+        return Err(PlanStop::Memory);
+    };
+    plan_engine(alloc, product, &mut Cursor::new(FILE), &mut writer)
+}
+
+#[test]
+fn a_failed_flush_is_a_failed_write(rt: HostRuntime) -> Result<(), Fail> {
+    let product = product(255, 0, false)?;
+    let end = at_last!(plan_that_fails_to_flush(&rt, rt.alloc(), &product));
+    assert_eq!(rt; end, Err(PlanStop::WriteFailed));
+    let end = at_last!(plan_behind_a_buffer(rt.alloc(), &product));
+    assert_eq!(rt; end, Err(PlanStop::WriteFailed));
+    Ok(())
+}
+
+const REPORT: &str = "batch B1
+product P1
+state closed
+record R1 withdrawn 1 -
+records            1
+waiting            0
+running            0
+failed             0
+withdrawn          1
+good               0
+sessions           1
+spoiled            1
+";
+
+// How a report ends whose writer has so much room, and takes so many bytes a call.
+fn report_of_limited(
+    rt: &impl Abort,
+    alloc: Global,
+    store: &mut ListStore,
+    room: usize,
+    at_a_call: usize,
+) -> Result<Result<(), AccountFault>, Fail> {
+    let batch = name("B1")?;
+    let mut writer = Limited::new(room, at_a_call);
+    let end = at_last!(close_report(alloc, store, &batch, &mut writer));
+    assert_eq!(rt;
+        Some(writer.taken()),
+        REPORT.as_bytes().get(..room),
+        "at {room}"
+    );
+    Ok(end)
+}
+
+#[test]
+fn a_report_has_its_beginning_where_a_writer_fails(rt: HostRuntime) -> Result<(), Fail> {
+    let alloc = rt.alloc();
+    let mut store = store_after(&rt, alloc, CLOSING.before)?;
+    tell(&rt, alloc, &mut store, CLOSING.exchanges)?;
+    for room in 0..REPORT.len() {
+        let end = report_of_limited(&rt, alloc, &mut store, room, 1)?;
+        assert_eq!(rt; end, Err(AccountFault::Write), "at {room}");
+    }
+    for at_a_call in [1, 7, 512] {
+        let end = report_of_limited(&rt, alloc, &mut store, REPORT.len(), at_a_call)?;
+        assert_eq!(rt; end, Ok(()));
+    }
+    // A slice that is full takes none.
+    let mut room = [0; 100];
+    let mut writer = room.as_mut_slice();
+    let end = at_last!(close_report(alloc, &mut store, &name("B1")?, &mut writer));
+    assert_eq!(rt; end, Err(AccountFault::Write));
+    assert!(rt; REPORT.as_bytes().starts_with(&room));
+    Ok(())
+}
+
+const PRODUCT: &[u8] =
+    b"POST /c/office/1 HTTP/1.1\r\nContent-Length: 63\r\n\r\n{\"do\":\"product\",\"product\":\"P1\",\"max\":255,\"low\":0,\"check\":false}";
+
+const CREATED: &[u8] =
+    b"HTTP/1.1 200 OK\r\nContent-Type: application/json\r\nContent-Length: 35\r\nConnection: close\r\n\r\n{\"product\":\"P1\",\"result\":\"created\"}";
+
+// The product's reply is told up to the room of its writer, and whole where the product comes again.
+fn check_told_again(rt: &impl Abort, alloc: Global, room: usize, at_a_call: usize) {
+    let mut store = ListStore::new(alloc);
+    let (first, writer) = served(alloc, &mut store, PRODUCT, Limited::new(room, at_a_call));
+    let end = if room < CREATED.len() {
+        End::WriteFailed
+    } else {
+        End::Answered
+    };
+    let decided = true;
+    assert_eq!(rt; first, Served { end, decided }, "at {room}");
+    assert_eq!(rt; Some(writer.taken()), CREATED.get(..room), "at {room}");
+    let (again, writer) = served(alloc, &mut store, PRODUCT, Limited::new(512, at_a_call));
+    let end = End::Answered;
+    assert_eq!(rt; again, Served { end, decided }, "at {room}");
+    assert_eq!(rt; writer.taken(), CREATED, "at {room}");
+}
+
+#[test]
+fn a_failed_reply_is_told_again(rt: HostRuntime) {
+    for room in 0..=CREATED.len() {
+        check_told_again(&rt, rt.alloc(), room, 1 + room % 8);
+    }
+    check_told_again(&rt, rt.alloc(), CREATED.len(), 512);
+}
+
+// Two replies, and a line that is none of a script.
+const SCRIPT: &[u8] = b"office 1 {\"do\":\"reset\"}\nget /batch/B9\nsend m1\n";
+
+const TOLD: &str =
+    "200 {\"result\":\"reset\",\"session\":0}\n409 {\"code\":56,\"refused\":\"batch-unknown\"}\n";
+
+// The same where memory was refused to one of the two.
+static UNAVAILABLE: [&str; 2] = [
+    "503 {\"code\":503,\"refused\":\"storage\"}\n409 {\"code\":56,\"refused\":\"batch-unknown\"}\n",
+    "200 {\"result\":\"reset\",\"session\":0}\n503 {\"code\":503,\"refused\":\"storage\"}\n",
+];
+
+fn is_unavailable(taken: &[u8]) -> bool {
+    !TOLD.as_bytes().starts_with(taken)
+        && UNAVAILABLE
+            .iter()
+            .any(|text| text.as_bytes().starts_with(taken))
+}
+
+// How a drill ends whose writer has so much room, and takes one byte a call; the beginning is written where memory was not refused.
+fn drill_of_limited(rt: &impl Abort, alloc: Global, room: usize) -> Result<(), DrillStop> {
+    let mut writer = Limited::new(room, 1);
+    let end = drill_engine(alloc, &mut Cursor::new(SCRIPT), &mut writer);
+    if is_unavailable(writer.taken()) {
+        return Err(DrillStop::Memory);
+    }
+    let wanted = if end == Err(DrillStop::Memory) {
+        0
+    } else {
+        room
+    };
+    assert_eq!(rt;
+        Some(writer.taken()),
+        TOLD.as_bytes().get(..wanted),
+        "at {room}"
+    );
+    end
+}
+
+// A failed write is told before a bad line.
+#[test]
+fn a_drill_has_its_beginning_where_a_writer_fails(rt: HostRuntime) {
+    for room in 0..TOLD.len() {
+        let end = at_last!(drill_of_limited(&rt, rt.alloc(), room));
+        assert_eq!(rt; end, Err(DrillStop::WriteFailed), "at {room}");
+    }
+    let end = at_last!(drill_of_limited(&rt, rt.alloc(), TOLD.len()));
+    assert_eq!(rt; end, Err(DrillStop::BadLine(3)));
+}
