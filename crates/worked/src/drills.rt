@@ -1,7 +1,6 @@
 //! Scripts of drills, and what is printed.
-use crate::fault::CaseFault;
-use crate::text::{Case, Line};
 use crate::ways::check_bytes;
+use case_files::{Case, CaseFault, Line};
 use drill::{DrillStop, drill_engine};
 use std::alloc::{AllocError, Global};
 

@@ -1,10 +1,7 @@
 //! Asks and their replies.
-use crate::fault::CaseFault;
-use crate::message::{get, post};
-use crate::reply::wanted_of;
-use crate::text::{Case, Line, Repeats, cases};
 use crate::typed::{check_handled, check_parsed, check_run, written_anew};
 use crate::ways::{Exchange, Fresh, Way, check_bytes, check_same, check_wanted, connected, served};
+use case_files::{Case, CaseFault, Line, Repeats, cases, get, post, wanted_of};
 use drill::drill_engine;
 use server::Replied;
 use std::alloc::{AllocError, Global};

@@ -1,9 +1,8 @@
 //! A machine that makes every card of a batch.
-use crate::fault::CaseFault;
-use crate::message::post;
 use crate::typed::reply_to;
 use crate::walks::{put_command, put_name};
 use crate::ways::Fresh;
+use case_files::{CaseFault, post};
 use job_core::{JobStore, Reply};
 use std::alloc::Global;
 use store_data::Product;

@@ -3,21 +3,17 @@
 
 mod drills;
 mod exchanges;
-mod fault;
 mod machine;
-mod message;
 mod messages;
 mod plans;
-mod reply;
 mod tables;
-mod text;
 mod typed;
 mod walks;
 mod ways;
 
+use case_files::{Case, CaseFault, Repeats, cases};
 use drills::check_script;
 use exchanges::check_exchanges;
-use fault::CaseFault;
 use list_store::ListStore;
 use messages::check_messages;
 use plans::check_plan;
@@ -25,7 +21,6 @@ use std::alloc::Global;
 use std::process::ExitCode;
 use std::{env, fs, io};
 use tables::{Table, check_table};
-use text::{Case, Repeats, cases};
 
 const USAGE: &str =
     "usage: worked FILE.. (.plan, .exchange, .message, .drill, .grouping, .record, .word)";
@@ -90,8 +85,8 @@ fn kind_of(name: &str) -> Option<Kind> {
 
 fn repeats_of(kind: Kind) -> Repeats {
     match kind {
-        Kind::Exchange | Kind::Message => Repeats::WithAnswers,
-        Kind::Plan | Kind::Drill | Kind::Table(_) => Repeats::Alone,
+        Kind::Exchange | Kind::Message | Kind::Table(_) => Repeats::WithAnswers,
+        Kind::Plan | Kind::Drill => Repeats::Alone,
     }
 }
 

@@ -1,9 +1,7 @@
 //! Messages as bytes, and the bytes that answer them.
 use crate::exchanges::exchange;
-use crate::fault::CaseFault;
-use crate::reply::Wanted;
-use crate::text::{Case, Line, put_bytes};
 use crate::ways::{Exchange, Fresh, Way, check_bytes, check_same, check_wanted, connected, served};
+use case_files::{Case, CaseFault, Line, Wanted, put_bytes};
 use std::alloc::Global;
 
 const WHOLE: Way = Way {

@@ -2,12 +2,11 @@
 ghost use Rattle.std.specs.Prelude.{All, IfOk, IfSome};
 ghost use Rattle.store_data.specs.Sequence.{AreRows, IsProduct};
 
-use crate::fault::CaseFault;
 use crate::machine::handed_out;
-use crate::text::{Case, Line, put_bytes};
 use crate::walks::text_of;
 use crate::ways::{Fresh, check_bytes};
 use batch_import::{ImportFault, RowFault, check_batch, read_batch, rows};
+use case_files::{Case, CaseFault, Line, put_bytes};
 use plan_print::{PlanStop, plan_engine};
 use std::alloc::{AllocError, Global};
 use store_data::{Name, Product, Row, grouped};
@@ -103,12 +102,17 @@ fn product_with(max: u8, low: u8, check: bool) -> Option<Product>
 // The bytes of the file.
 fn file_of(alloc: Global, is_bytes: bool, lines: &[Line]) -> Result<Option<Vec<u8>>, AllocError> {
     let mut bytes = Vec::new(alloc);
+    let mut is_over = false;
     for line in lines {
         let text = line.text.as_str();
         if line.is_answer {
-            break;
-        }
-        if !is_bytes {
+            is_over = true;
+        } else if is_over {
+            // A file has no line behind what must come out.
+            if !text.is_empty() {
+                return Ok(None);
+            }
+        } else if !is_bytes {
             bytes.extend_from_slice(text.as_bytes())?;
             bytes.push(b'\n')?;
         } else if !put_bytes(&mut bytes, text)? {

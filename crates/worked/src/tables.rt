@@ -2,10 +2,9 @@
 ghost use Rattle.std.specs.Prelude.{◌≤◌, length};
 ghost use Rattle.store_data.specs.Sequence.{IsProduct};
 
-use crate::fault::CaseFault;
-use crate::text::{Case, Line};
 use crate::ways::check_bytes;
 use batch_import::{ImportFault, Kind, RowFault, check_batch};
+use case_files::{Case, CaseFault, Line};
 use dgi::{
     DgiFault, Grouping, MAX_BODY, coded_len, from_hex_text, read_one, read_whole, write_coded,
 };
@@ -24,12 +23,14 @@ pub enum Table {
 /// Each row of a case has its answer, the line behind it.
 pub fn check_table(alloc: Global, table: Table, case: &Case) -> Result<(), CaseFault> {
     for (i, line) in case.lines.iter().enumerate() {
-        let Some(answer) = case.lines.get(i.saturating_add(1)) else {
-            continue;
-        };
-        if line.is_answer || !answer.is_answer {
+        if line.is_answer {
             continue;
         }
+        let answer = match case.lines.get(i.saturating_add(1)) {
+            Some(answer) if answer.is_answer => answer,
+            _ if line.text.is_empty() => continue,
+            _ => return Err(CaseFault::Form { line: line.number }),
+        };
         let came = match table {
             Table::Groupings => grouping(alloc, line)?,
             Table::Records => record(alloc, line)?,

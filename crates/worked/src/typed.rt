@@ -4,9 +4,8 @@ ghost use Rattle.job_core.specs.Requests.{IsArrival, IsRequest};
 ghost use Rattle.wire.specs.Asks.{IsInRange};
 ghost use Rattle.wire.specs.Sending.{IsSendable};
 
-use crate::fault::CaseFault;
-use crate::reply::{JSON, TEXT, reply_bytes};
 use crate::ways::{Exchange, Fresh, check_bytes};
+use case_files::{CaseFault, JSON, TEXT, reply_bytes};
 use job_core::{Arrival, JobStore, Refusal, Reply, Request};
 use reply_store::{body_of, handle, run, status_of};
 use reports::{AccountFault, batch_counts, blank_counts, close_report};

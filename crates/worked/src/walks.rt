@@ -2,7 +2,7 @@
 ghost use Rattle.std.specs.Prelude.{All};
 ghost use Rattle.store_data.specs.Sequence.{AreRows, IsProduct};
 
-use crate::fault::CaseFault;
+use case_files::CaseFault;
 use std::alloc::{AllocError, Global};
 use store_data::{Cursor, PlanFault, Product, RecordPlan, Row, count, list, plan};
 

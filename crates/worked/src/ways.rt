@@ -1,6 +1,5 @@
 //! Connections in memory, and what comes out of them.
-use crate::fault::CaseFault;
-use crate::reply::Wanted;
+use case_files::{CaseFault, Wanted};
 use job_core::JobStore;
 use list_store::ListStore;
 use server::{End, MemoryConnections, Replied, serve_all};
