@@ -50,6 +50,9 @@ class Draw(random.Random):
             made[self.name()] = None
         return list(made)
 
+    def names_of_32(self, count: int) -> list[str]:
+        return [f"{k:04}" + "".join(self.choices(LETTERS, k=28)) for k in range(count)]
+
     def filled(self, size: int) -> bytes:
         """Some bytes of all kinds, and then one kind."""
         front = self.randbytes(min(size, self.size(0, 64)))

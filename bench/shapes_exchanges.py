@@ -4,7 +4,7 @@ from typing import NamedTuple
 
 from shapes_batches import (FAULTS, SELDOM, SMALL, Plan, Product, Row, Shape, application, by_record, lines_of, measured, some_product,
                             some_rows, text_of, whole_file, with_fault)
-from shapes_draw import COUNTS, LETTERS, MOST_FILE, MOST_RECORDS, MOST_SERIAL, Case, Draw, largest, packed
+from shapes_draw import COUNTS, MOST_FILE, MOST_RECORDS, MOST_SERIAL, Case, Draw, largest, packed
 from shapes_machine import Books, refused
 
 # Requests as JSON, sound and malformed.
@@ -150,7 +150,8 @@ class Talk:
         draw, lots = self.draw, self.books.lots
         if lots and draw.chance(0.1):
             name, (product, first, count) = draw.choice(list(lots.items()))
-            return {"lot": name, "product": product, "first": first, "count": count if draw.chance(0.5) else draw.size(1, 1000)}
+            count = count if draw.chance(0.5) else min(draw.size(1, 1000), MOST_SERIAL - first + 1)
+            return {"lot": name, "product": product, "first": first, "count": count}
         ends = [0, MOST_SERIAL, *(first + count for _, first, count in lots.values())]
         first = min(draw.choice(ends) if draw.chance(0.3) else draw.size(0, MOST_SERIAL), MOST_SERIAL)
         count = min(draw.size(1, 1_000_000), MOST_SERIAL - first + 1)
@@ -206,8 +207,22 @@ class Talk:
 
     def case(self, title: str) -> Case:
         COUNTS.update(self.labels)
-        text = "".join(ask + "\n" + "".join(f"  {line}\n" for line in wanted.splitlines()) for ask, wanted in self.lines)
+        text = "".join(f"{ask}\n{answer_of(wanted)}" for ask, wanted in self.lines)
         return Case("exchange", f"== {title}\n{text}", len(self.lines))
+
+    def script(self) -> tuple[str, str]:
+        """The same for a drill, whose client is the office alone, and what it prints."""
+        asks = "".join(ask.replace("import office ", "import ", 1) + "\n" for ask, _ in self.lines)
+        return asks, "".join(wanted + "\n" * (not wanted.endswith("\n")) for _, wanted in self.lines)
+
+    def drill(self, title: str) -> Case:
+        COUNTS.update(self.labels)
+        asks, printed = self.script()
+        return Case("drill", f"== {title}\n{asks}{answer_of(printed)}", len(self.lines))
+
+
+def answer_of(wanted: str) -> str:
+    return "".join(f"  {line}\n" for line in wanted.splitlines())
 
 
 def packed_lines(raw: bytes) -> str:
@@ -254,27 +269,27 @@ def drive(talk: Talk, client: str, batch: str, blank: int, most: int = 10_000) -
         most -= 1
 
 
-def stocked(draw: Draw, product: Product, plan: Plan, first: int) -> Talk:
+def stocked(draw: Draw, product: Product, plan: Plan, first: int, batch: str = "B1", code: str = "P1") -> Talk:
     """A batch with blanks for its records."""
     measured(plan)
     talk = Talk(draw, ["m1"])
-    talk.ask("office", "product", product="P1", **product._asdict())
-    talk.ask("office", "lot", lot="L1", product="P1", first=first, count=2000)
-    talk.ask("office", "import", batch="B1", product="P1", plan=plan)
+    talk.ask("office", "product", product=code, **product._asdict())
+    talk.ask("office", "lot", lot="L1", product=code, first=first, count=2000)
+    talk.ask("office", "import", batch=batch, product=code, plan=plan)
     return talk
 
 
-def long_report(draw: Draw, made: int) -> Talk:
-    """The most records with the longest names, of which so many are made on blanks with the longest serials."""
-    names = [f"{k:04}".join(("".join(draw.choices(LETTERS, k=14)), "".join(draw.choices(LETTERS, k=14)))) for k in range(MOST_RECORDS)]
-    product = Product(255, 0, False)
+def long_report(draw: Draw, client: str, made: int, withdrawn: int) -> Talk:
+    """The most records with the longest names; so many are made on blanks with the longest serials, and as many more withdrawn."""
+    names = draw.names_of_32(MOST_RECORDS)
+    product, batch, code = Product(255, 0, False), *draw.names_of_32(2)
     rows = [Row(name, b"A0000", 1, 0, 0, 0x8000, b"") for name in names]
-    plan = Plan(product, text_of(lines_of(draw, rows)), None, rows)
-    talk = stocked(draw, product, plan, MOST_SERIAL - 1999)
+    talk = stocked(draw, product, Plan(product, text_of(lines_of(draw, rows)), None, rows), MOST_SERIAL - 1999, batch, code)
     for k in range(made):
-        drive(talk, f"m{k % 3}", "B1", MOST_SERIAL - k)
-        if k in (made // 2, made - 1):
-            talk.accounts("B1", "P1")
+        drive(talk, client, batch, MOST_SERIAL - k)
+    for name in names[made:made + withdrawn]:
+        talk.ask("office", "withdraw", batch=batch, record=name)
+    talk.accounts(batch, code)
     return talk
 
 
@@ -344,7 +359,7 @@ def many_things(draw: Draw, products: int, lots: int, batches: int) -> Talk:
         product = Product(16 + k % 3, k % 3, False)
         plan = Plan(product, text_of(lines_of(draw, rows)), None, rows)
         talk.ask("office", "import", batch=f"B{k}", product=f"P{k % 3}", plan=plan)
-    for k in range(batches):
+    for k in range(0, batches, 97):
         drive(talk, "m1", f"B{k}", 1000 * k)
     talk.accounts("B1", "P1")
     largest(products=len(talk.books.products), lots=len(talk.books.lots), batches=len(talk.books.batches))
@@ -353,8 +368,8 @@ def many_things(draw: Draw, products: int, lots: int, batches: int) -> Talk:
 
 def long_talks(draw: Draw) -> list[Talk]:
     return [
-        long_report(draw, 880),
-        many_things(draw, 260, 300, 40),
+        long_report(draw, "m1", 8, 1000),
+        many_things(draw, 260, 4100, 4100),
         *(long_file(draw, size) for size in (MOST_FILE, MOST_FILE, draw.randint(1_000_001, MOST_FILE), draw.size(65_537, 1_000_000))),
         *long_sessions(draw),
         *(long_bodies(draw) for _ in range(3)),

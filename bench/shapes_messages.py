@@ -4,7 +4,7 @@ from typing import Callable, NamedTuple
 
 from shapes_batches import SMALL, measured, some_plan
 from shapes_draw import COUNTS, MOST_FILE, MOST_HEAD, MOST_SERIAL, Case, Draw, changed, largest, spelt
-from shapes_exchanges import TURNS, Sent, Talk, dumped, import_plan, malformed, spelt_json
+from shapes_exchanges import TURNS, Sent, Talk, answer_of, dumped, import_plan, malformed, spelt_json
 
 NO_ROUTES = ("*", "http://localhost/batch/B1", "batch/B1", "/", "//", "/batch", "/batch/", "/batch//report", "/batch/B1/", "/batch/B1/reports",
              "/c", "/c/m1", "/c/m1/", "/c/m1/1/", "/c/m1/1/batch/B1", "/c/m1/1/batch/B1/P1/x", "/blanks", "/blanks/", "/blanks/P1/P1")
@@ -138,7 +138,7 @@ def message_cases(draw: Draw, count: int) -> list[Case]:
             raw, wanted = message(draw, it, draw.choice(HEAD_FAULTS) if not stock and draw.chance(0.3) else "")
             raw, wanted = (changed(draw, raw, 2 * MOST_FILE), "any") if is_any else (raw, wanted)
             if raw:
-                made.append("\n".join(spelt(raw)) + "\n" + "".join(f"  {line}\n" for line in wanted.splitlines()))
+                made.append("\n".join(spelt(raw)) + "\n" + answer_of(wanted))
                 COUNTS["message, " + (wanted[:3] if wanted[:3] in ("200", "409") else wanted)] += 1
         cases.append(Case("message", f"== messages {len(cases)}\n{''.join(made)}", most))
     return cases
