@@ -184,23 +184,18 @@ def run_persod(runs: list[Run], jobs: int) -> list[Run]:
 
 
 def tried_persod(runs: list[Run]) -> list[Run]:
-    """`rt try` runs the program on each file of a folder, and compares what it writes."""
+    """`rt try` runs the program on each file of a folder. What a run writes stands behind its name, what it tells before its end."""
     with tempfile.TemporaryDirectory() as folder:
         for run in runs:
             path = pathlib.Path(folder) / run.name
             path.write_bytes(run.given)
             path.with_suffix(".args").write_text("\n".join(run.words) + "\n")
-            if run.out is not None:
-                path.with_suffix(".stdout").write_text(run.out)
-        _, _, told = outcome(["rt", "try", "--cases", folder], CRATES / "persod")
-    said = re.split(r"^case=(\S+) (.*)\n", told, flags=re.M)
-    ended = {name: (how, before) for before, name, how in zip(said[::3], said[1::3], said[2::3])}
-    return [run for run in runs if not is_tried_right(run, *ended.get(run.name, ("", "")))]
-
-
-def is_tried_right(run: Run, how: str, before: str) -> bool:
-    statuses = {run.status} if run.out is not None else {0, 1}
-    return "differs" not in how and any(f"run=ended status={status} " in how for status in statuses) and run.err in before
+        _, out, err = outcome(["rt", "try", "--seconds", str(SECONDS), "--cases", folder], CRATES / "persod")
+    _, *names_and_texts = re.split(r"^== (\S+)\n", out, flags=re.M)
+    written = dict(zip(names_and_texts[::2], names_and_texts[1::2]))
+    ends = re.findall(r"((?:^(?!case=).*\n)*)^case=(\S+) run=ended status=(\d+)", err, flags=re.M)
+    ended = {name: (int(status), written.get(name, ""), told) for told, name, status in ends}
+    return [run for run in runs if not is_right(run, *ended.get(run.name, (-1, "", "")))]
 
 
 def print_figures(seconds: float) -> None:

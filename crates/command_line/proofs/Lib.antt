@@ -1,3 +1,2 @@
+mod FlushLemmas
 mod NumberLemmas
-mod PlanLemmas
-mod TakenLemmas

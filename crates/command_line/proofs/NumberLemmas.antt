@@ -1,40 +1,65 @@
 -- What a reader gets of an option that has a number, and of a flag.
-use Rattle.std.proofs.Common.{◌≡◌, ◌∙◌, ◌<◌, ◌≤◌, ◌^◌, ℕ, Bool, true, false, codes, List, Option, Some, sym, subst, ap}
-use Rattle.std.specs.Prelude.{Result, Ok, option_map}
-use Rattle.std.specs.Str.Parse.{ParsesUnsigned, digits_value, without_leading_plus}
-use Rattle.clap.specs.Words.{Row, Text, one_of, one_text, rows_of, without_minus}
+use Rattle.std.proofs.Common.{◌≡◌, ◌∙◌, ◌<◌, ◌^◌, ◌↔◌, ℕ, Bool, true, false, codes, Option, None, Some, refl, sym, ap}
+use Rattle.std.specs.Prelude.{Result, Ok, Err}
+use Rattle.std.specs.Str.Parse.{ParsesBool, ParsesUnsigned}
+use Rattle.clap.specs.Words.{Text, one_of, one_text, rows_of}
 use Rattle.clap.specs.Matches.{ReadsOne}
 use Rattle.clap.specs.declared.parser.matches.Found.{Found}
-use Rattle.clap.proofs.CallerReads.{signed_reads}
 use Rattle.clap.proofs.WalkLemmas.{one_text-rows}
-use Rattle.command_line.specs.Words.{HasNumber, IsFlag, number_of}
+use Rattle.command_line.specs.Words.{IsFlag, IsNumber}
 
--- a getter of a type of k bits reads the number, which lies between the ends
-pub number_read : (E : Type 0) (G : Text → Result ℕ E → Type 0) (k low high : ℕ) (name : Text) (f : Found) (rows : List Row) (r : Option ℕ)
-    → ((u : Text) (x : Result ℕ E) → G u x → ParsesUnsigned k 10 u x) → high < 2 ^ k → rows_of f ≡ rows → HasNumber name low high rows
-    → ((t : Text) → one_text f name ≡ Some t → ReadsOne G t r)
-    → (n : ℕ) × (r ≡ Some n) × (low ≤ n) × (n ≤ high) × (number_of name rows ≡ Some n)
-number_read E G k low high name f rows r only fits same has reads =
-    let read : ReadsOne G (without_minus has.0) r = reads (without_minus has.0) (one_text-rows f name ∙ ap (one_of name) same ∙ has.1) in
-    let got = signed_reads E G k low high has.0 r read only fits has.2 in
-    let parsed : ParsesUnsigned {E = E} k 10 (without_minus has.0) (Ok got.0) = only _ _ (subst (ReadsOne G (without_minus has.0)) got.1 read) in
-    (got.0, got.1, got.2, got.3, ap (option_map (λ t. digits_value 10 (without_leading_plus t))) has.1 ∙ ap Some (sym parsed.1))
+-- a getter of an unsigned type of k bits reads the number, if the type has it
+pub number_read : (E : Type 0) (G : Text → Result ℕ E → Type 0) (k : ℕ) (name : Text) (f : Found) (r : Option ℕ)
+    → ((u : Text) (x : Result ℕ E) → G u x → ParsesUnsigned k 10 u x)
+    → (one_text f name ≡ None → r ≡ None) → ((t : Text) → one_text f name ≡ Some t → ReadsOne G t r)
+    → (n : ℕ) → (r ≡ Some n) ↔ (IsNumber name (rows_of f) n × (n < 2 ^ k))
+number_read E G k name f r only none some n = at (one_text f name) refl r none some
+  where
+    at : (o : Option Text) → one_text f name ≡ o → (r : Option ℕ) → (one_text f name ≡ None → r ≡ None)
+        → ((t : Text) → one_text f name ≡ Some t → ReadsOne G t r) → (r ≡ Some n) ↔ (IsNumber name (rows_of f) n × (n < 2 ^ k))
+    at None is r none some = (
+      (λ read. let gone = none is in cc),
+      (λ has. let bad : Some has.0.0 ≡ None = sym has.0.1 ∙ sym (one_text-rows f name) ∙ is in cc),
+    )
+    at (Some t) is (Some v) none some =
+        let parsed : ParsesUnsigned {E = E} k 10 t (Ok v) = only t (Ok v) (some t is) in (
+          (λ read.
+              let same : v ≡ n = cc in
+              ((t, sym (one_text-rows f name) ∙ is, parsed.0.0, sym parsed.1 ∙ same), rw (← same, parsed.1) parsed.0.1)),
+          (λ has.
+              let text : Some has.0.0 ≡ Some t = sym has.0.1 ∙ sym (one_text-rows f name) ∙ is in
+              let same : has.0.0 ≡ t = cc in
+              ap Some (parsed.1 ∙ rw (← same) has.0.3)),
+        )
+    at (Some t) is None none some =
+        let failed = some t is in (
+          (λ read. cc),
+          (λ has.
+              let text : Some has.0.0 ≡ Some t = sym has.0.1 ∙ sym (one_text-rows f name) ∙ is in
+              let same : has.0.0 ≡ t = cc in
+              absurd (only t (Err failed.0) failed.1 (rw (← same) has.0.2, rw (← same, has.0.3) has.1))),
+        )
 
--- so of the value that it gave
-pub number_given : (E : Type 0) (G : Text → Result ℕ E → Type 0) (k low high : ℕ) (name : Text) (f : Found) (rows : List Row) (r : Option ℕ) (v : ℕ)
-    → ((u : Text) (x : Result ℕ E) → G u x → ParsesUnsigned k 10 u x) → high < 2 ^ k → rows_of f ≡ rows → HasNumber name low high rows
-    → ((t : Text) → one_text f name ≡ Some t → ReadsOne G t r) → r ≡ Some v
-    → (low ≤ v) × (v ≤ high) × (number_of name rows ≡ Some v)
-number_given E G k low high name f rows r v only fits same has reads is =
-    let got = number_read E G k low high name f rows r only fits same has reads in
-    let some : Some got.0 ≡ Some v = sym got.1 ∙ is in
-    let n : got.0 ≡ v = cc in
-    (subst (λ m. low ≤ m) n got.2, subst (λ m. m ≤ high) n got.3, got.4 ∙ ap Some n)
+-- the getter of a flag reads whether it is on or off, if its text says either
+pub flag_read : (E : Type 0) (name : Text) (f : Found) (r : Option Bool) → (one_text f name ≡ None → r ≡ None)
+    → ((t : Text) → one_text f name ≡ Some t → ReadsOne (ParsesBool {E = E}) t r)
+    → (on : Bool) → (r ≡ Some on) ↔ IsFlag name (rows_of f) on
+flag_read E name f r none some on = at (one_text f name) refl r none some on
+  where
+    same_text : (t u : Text) → one_text f name ≡ Some t → one_of name (rows_of f) ≡ Some u → u ≡ t
+    same_text t u is has = let same : Some u ≡ Some t = sym has ∙ sym (one_text-rows f name) ∙ is in cc
 
--- the getter of flags gives whether the flag is on
-pub flag_given : (name : Text) (f : Found) (rows : List Row) (r on : Bool) → rows_of f ≡ rows → IsFlag name rows on
-    → (one_text f name ≡ Some (codes "true") → r ≡ true) → (one_text f name ≡ Some (codes "false") → r ≡ false) → IsFlag name rows r
-flag_given name f rows r true same has say_on say_off =
-    subst (IsFlag name rows) (sym (say_on (one_text-rows f name ∙ ap (one_of name) same ∙ has))) has
-flag_given name f rows r false same has say_on say_off =
-    subst (IsFlag name rows) (sym (say_off (one_text-rows f name ∙ ap (one_of name) same ∙ has))) has
+    at : (o : Option Text) → one_text f name ≡ o → (r : Option Bool) → (one_text f name ≡ None → r ≡ None)
+        → ((t : Text) → one_text f name ≡ Some t → ReadsOne (ParsesBool {E = E}) t r) → (on : Bool) → (r ≡ Some on) ↔ IsFlag name (rows_of f) on
+    at None is r none some on = (
+      (λ read. let gone = none is in cc),
+      (λ has. let bad = sym has ∙ sym (one_text-rows f name) ∙ is in cc),
+    )
+    at (Some t) is (Some true) none some true = ((λ read. sym (one_text-rows f name) ∙ is ∙ ap Some (some t is)), (λ has. refl))
+    at (Some t) is (Some false) none some false = ((λ read. sym (one_text-rows f name) ∙ is ∙ ap Some (some t is)), (λ has. refl))
+    at (Some t) is (Some true) none some false =
+        ((λ read. cc), (λ has. let bad : codes "false" ≡ codes "true" = same_text t _ is has ∙ some t is in cc))
+    at (Some t) is (Some false) none some true =
+        ((λ read. cc), (λ has. let bad : codes "true" ≡ codes "false" = same_text t _ is has ∙ some t is in cc))
+    at (Some t) is None none some true = ((λ read. cc), (λ has. absurd ((some t is).1.0 (sym (same_text t _ is has)))))
+    at (Some t) is None none some false = ((λ read. cc), (λ has. absurd ((some t is).1.1 (sym (same_text t _ is has)))))

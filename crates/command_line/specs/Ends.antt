@@ -1,40 +1,72 @@
--- How the program ends: its exit status, and its words on standard error.
-use Rattle.std.specs.Prelude.{ℕ, None, Some}
+-- How the program ends: its exit status, and its words on standard error (this project's profile).
+use Rattle.std.specs.Prelude.{ℕ, Bool, List, ◌++◌, codes, if◌then◌else◌, None, Some}
+use Rattle.std.specs.Prelude.{Result, Ok, Err}
+use Rattle.std.specs.Fmt.{decimal}
 use Rattle.batch_import.specs.Kinds.{code_of}
 use Rattle.drill.specs.declared.DrillStop.{DrillStop}
 use Rattle.drill.specs.declared.DrillStop.TheVariants as drill
 use Rattle.command_line.specs.declared.end.End.{End}
-use Rattle.command_line.specs.declared.end.End.TheVariants.{Done, Usage, Stopped}
+use Rattle.command_line.specs.declared.end.End.TheVariants as end
 use Rattle.command_line.specs.declared.end.Exit.{Exit}
 use Rattle.command_line.specs.declared.end.Told.{Told}
-use Rattle.command_line.specs.declared.end.Told.TheVariants.{Refused, RefusedRow, BadLine, Device, Memory}
+use Rattle.command_line.specs.declared.end.Told.TheVariants as told
+use Rattle.command_line.specs.declared.words.WordsFault.{WordsFault}
+use Rattle.command_line.specs.declared.words.WordsFault.TheVariants as words
 use Rattle.plan_print.specs.declared.plan.PlanStop.{PlanStop}
 use Rattle.plan_print.specs.declared.plan.PlanStop.TheVariants as stop
 
--- a refusal or a bad line ends with 1, a fault of a device or of memory with 3
-abbrev pub status_of : Told → ℕ
-status_of (Refused number) = 1
-status_of (RefusedRow number row) = 1
-status_of (BadLine line) = 1
-status_of Device = 3
-status_of Memory = 3
-
--- done ends with 0, a usage fault with 2; neither has words of the program's own
+-- done and help end with 0, a refusal or a bad line with 1, a usage fault with 2, and a fault of a
+-- device or of memory with 3; a fault is told by its number and row, an input that is too large by
+-- 413 alone, and a usage fault has no words of the program's own
 abbrev pub exit_of : End → Exit
-exit_of Done = record { status = 0; words = None }
-exit_of Usage = record { status = 2; words = None }
-exit_of (Stopped told) = record { status = status_of told; words = Some told }
+exit_of end.Done = record { status = 0; words = None }
+exit_of end.Helped = record { status = 0; words = None }
+exit_of end.Usage = record { status = 2; words = None }
+exit_of (end.Refused fault) =
+    record { status = 1; words = Some (told.RefusedRow (code_of fault.kind) fault.row) }
+exit_of end.TooLarge = record { status = 1; words = Some (told.Refused 413) }
+exit_of (end.BadLine line) = record { status = 1; words = Some (told.BadLine line) }
+exit_of end.ReadFailed = record { status = 3; words = Some told.Device }
+exit_of end.WriteFailed = record { status = 3; words = Some told.Device }
+exit_of end.Memory = record { status = 3; words = Some told.Memory }
 
--- a fault is told by its number and row, an input that is too large by 413 alone
-abbrev pub told_of : PlanStop → Told
-told_of (stop.Refused fault) = RefusedRow (code_of fault.kind) fault.row
-told_of stop.TooLarge = Refused 413
-told_of stop.ReadFailed = Device
-told_of stop.WriteFailed = Device
-told_of stop.Memory = Memory
+-- the text of the words
+abbrev pub told_text : Told → List ℕ
+told_text (told.Refused number) = codes "refused " ++ decimal number
+told_text (told.RefusedRow number row) =
+    codes "refused " ++ (decimal number ++ (codes " row " ++ decimal row))
+told_text (told.BadLine line) = codes "bad line " ++ decimal line
+told_text told.Device = codes "device"
+told_text told.Memory = codes "memory"
 
-abbrev pub drill_told : DrillStop → Told
-drill_told (drill.BadLine line) = BadLine line
-drill_told drill.ReadFailed = Device
-drill_told drill.WriteFailed = Device
-drill_told drill.Memory = Memory
+-- ---- which end it is
+
+abbrev pub end_of_plan_stop : PlanStop → End
+end_of_plan_stop (stop.Refused fault) = end.Refused fault
+end_of_plan_stop stop.TooLarge = end.TooLarge
+end_of_plan_stop stop.ReadFailed = end.ReadFailed
+end_of_plan_stop stop.WriteFailed = end.WriteFailed
+end_of_plan_stop stop.Memory = end.Memory
+
+-- of `plan`
+abbrev pub end_of_plan : Result (Unit {0}) PlanStop → End
+end_of_plan (Ok u) = end.Done
+end_of_plan (Err stop) = end_of_plan_stop stop
+
+abbrev pub end_of_drill_stop : DrillStop → End
+end_of_drill_stop (drill.BadLine line) = end.BadLine line
+end_of_drill_stop drill.ReadFailed = end.ReadFailed
+end_of_drill_stop drill.WriteFailed = end.WriteFailed
+end_of_drill_stop drill.Memory = end.Memory
+
+-- of `drill`
+abbrev pub end_of_drill : Result (Unit {0}) DrillStop → End
+end_of_drill (Ok u) = end.Done
+end_of_drill (Err stop) = end_of_drill_stop stop
+
+-- of words that give no subcommand, by whether what they are told was written
+abbrev pub told_end : WordsFault → Bool → End
+told_end (words.Help text) is_written = if is_written then end.Helped else end.WriteFailed
+told_end (words.Usage text) is_written = end.Usage
+told_end words.NotText is_written = end.Usage
+told_end words.Memory is_written = end.Memory

@@ -1,19 +1,21 @@
 -- What the words of the program mean: this project's profile, as a command of `clap`.
-use Rattle.std.specs.Prelude.{◌≡◌, ◌≢◌, ◌≤◌, ◌⊎◌, ⊤, ℕ, Bool, List, [], ◌∷◌, Option, Some, true, codes}
-use Rattle.std.specs.Prelude.{option_map, pos}
-use Rattle.std.specs.Str.Parse.{digits_value, without_leading_plus}
-use Rattle.clap.specs.Words.{App, IsAmong, IsSignedIn, Kinds, Row, Rule, Text, new_app, new_rule}
-use Rattle.clap.specs.Words.{one_of, subcommand_of, with_rule, with_subcommand, without_minus}
+use Rattle.std.specs.Prelude.{◌≡◌, ◌≢◌, ◌≤◌, ◌⊎◌, ⊤, ℕ, Bool, List, [], ◌∷◌, codes}
+use Rattle.std.specs.Prelude.{Option, Some, pos, true}
+use Rattle.std.specs.Str.Parse.{IsNumeral, digits_value, without_leading_plus}
+use Rattle.clap.specs.Words.{App, IsAmong, Kinds, Row, Rule, Text, new_app, new_rule}
+use Rattle.clap.specs.Words.{one_of, subcommand_of, with_rule, with_subcommand, fault_of}
 use Rattle.clap.specs.Values.{bool_text}
 use Rattle.clap.specs.declared.builder.action.ArgAction.TheVariants.{SetTrue}
 use Rattle.clap.specs.declared.builder.value_parser.ValueParser.{ValueParser}
 use Rattle.clap.specs.declared.builder.value_parser.ValueParser.TheVariants.{Signed}
 use Rattle.clap.specs.declared.error.kind.ErrorKind.{ErrorKind}
 use Rattle.clap.specs.declared.error.kind.ErrorKind.TheVariants.{DisplayHelp}
+use Rattle.std.specs.declared.io.ErrorKind.{ErrorKind as IoKind}
+use Rattle.std.specs.declared.io.ErrorKind.TheVariants as io
 use Rattle.command_line.specs.declared.words.Words.{Words}
 use Rattle.command_line.specs.declared.words.Words.TheVariants.{Plan, Drill}
 use Rattle.command_line.specs.declared.words.WordsFault.{WordsFault}
-use Rattle.command_line.specs.declared.words.WordsFault.TheVariants.{Help, Usage, Memory}
+use Rattle.command_line.specs.declared.words.WordsFault.TheVariants.{Help, Usage, NotText, Memory}
 
 -- ---- the command
 
@@ -63,10 +65,11 @@ abbrev pub InRange : Words → Type 0
 InRange (Plan max low check) = (16 ≤ max) × (max ≤ 255) × (low ≤ 31)
 InRange Drill = ⊤
 
--- the number that an option has, by the words or by default: what its text says in decimal digits
-abbrev pub number_of : Text → List Row → Option ℕ
-number_of name rows =
-    option_map (λ t. digits_value 10 (without_leading_plus t)) (one_of name rows)
+-- an option has this number, by the words or by default: its text is its decimal digits, before
+-- which a plus may stand
+abbrev pub IsNumber : Text → List Row → ℕ → Type 0
+IsNumber name rows n = (t : Text) × (one_of name rows ≡ Some t)
+    × IsNumeral 10 (without_leading_plus t) × (digits_value 10 (without_leading_plus t) ≡ n)
 
 -- the flag is on or off, by the words or by default
 abbrev pub IsFlag : Text → List Row → Bool → Type 0
@@ -76,37 +79,42 @@ IsFlag name rows on = one_of name rows ≡ Some (bool_text on)
 abbrev pub IsDrill : Option (Text × List Row) → Type 0
 IsDrill sub = (rows : List Row) × (sub ≡ Some (codes "drill", rows))
 
+-- the options of `plan` are read as this answer
+abbrev pub ReadsPlan : List Row → Words → Type 0
+ReadsPlan rows (Plan max low check) = IsNumber (codes "max") rows max
+    × IsNumber (codes "low") rows low × IsFlag (codes "check") rows check
+ReadsPlan rows Drill = ⊥
+
 -- a subcommand with its options is read as this answer
 abbrev pub ReadsAs : Option (Text × List Row) → Words → Type 0
-ReadsAs sub (Plan max low check) = (rows : List Row) × (sub ≡ Some (codes "plan", rows))
-    × (number_of (codes "max") rows ≡ Some max) × (number_of (codes "low") rows ≡ Some low)
-    × IsFlag (codes "check") rows check
+ReadsAs sub (Plan max low check) =
+    (rows : List Row) × (sub ≡ Some (codes "plan", rows)) × ReadsPlan rows (Plan max low check)
 ReadsAs sub Drill = IsDrill sub
 
 -- the words ask for this: it is how clap's subcommand of the words reads
 abbrev pub Means : List Text → Words → Type 0
 Means words = ReadsAs (subcommand_of program words)
 
--- clap answers so, by one of the kinds: help where that is help, a usage fault where it is another;
--- memory needs no cause
-abbrev pub IsRefusal : Kinds → WordsFault → Type 0
-IsRefusal kinds (Help text) = IsAmong DisplayHelp kinds
-IsRefusal kinds (Usage text) = (k : ErrorKind) × IsAmong k kinds × (k ≢ DisplayHelp)
-IsRefusal kinds Memory = ⊤
+-- the words ask for nothing in range
+abbrev pub MeanNothing : List Text → Type 0
+MeanNothing words = (w : Words) → InRange w → ¬ Means words w
 
--- ---- what the reader knows once clap took the words
+-- help where that is among clap's kinds, a usage fault where another is; memory needs no cause
+abbrev pub IsRefusedBy : Kinds → WordsFault → Type 0
+IsRefusedBy kinds (Help text) = IsAmong DisplayHelp kinds
+IsRefusedBy kinds (Usage text) = (k : ErrorKind) × IsAmong k kinds × (k ≢ DisplayHelp)
+IsRefusedBy kinds NotText = ⊥
+IsRefusedBy kinds Memory = ⊤
 
--- the option has a number from low to high
-abbrev pub HasNumber : Text → ℕ → ℕ → List Row → Type 0
-HasNumber name low high rows = (t : Text) × (one_of name rows ≡ Some (without_minus t))
-    × IsSignedIn (pos low) (pos high) t
+-- clap refuses the words so, or it takes them and they are a usage fault, since they ask for nothing
+abbrev pub IsRefusal : List Text → WordsFault → Type 0
+IsRefusal words (Help text) = IsRefusedBy (fault_of program words) (Help text)
+IsRefusal words (Usage text) = IsRefusedBy (fault_of program words) (Usage text)
+    ⊎ ((fault_of program words ≡ []) × MeanNothing words)
+IsRefusal words NotText = ⊥
+IsRefusal words Memory = ⊤
 
--- the subcommand is `plan`, with a number for each option, and its flag on or off
-abbrev pub IsPlan : Option (Text × List Row) → Type 0
-IsPlan sub = (rows : List Row) × (sub ≡ Some (codes "plan", rows))
-    × HasNumber (codes "max") 16 255 rows × HasNumber (codes "low") 0 31 rows
-    × ((on : Bool) × IsFlag (codes "check") rows on)
-
--- the subcommand is `plan` as above, or `drill`
-abbrev pub IsSubcommand : Option (Text × List Row) → Type 0
-IsSubcommand sub = IsPlan sub ⊎ IsDrill sub
+-- why the process gives no words, by the kind of the error
+abbrev pub unread : IoKind → WordsFault
+unread io.OutOfMemory = Memory
+unread _ = NotText

@@ -1,104 +1,141 @@
-//! How the program ends: its exit status, and its words on standard error.
+//! How the program ends: what a run came to, its exit status, and its words on standard error.
 ghost use Rattle.std.specs.Prelude.{◌≡◌};
-ghost use Rattle.command_line.specs.Ends.{drill_told, exit_of, status_of, told_of};
+ghost use Rattle.command_line.specs.Ends.{end_of_drill_stop, end_of_plan_stop, exit_of, told_end};
 
+use crate::words::WordsFault;
+use batch_import::RowFault;
 use drill::DrillStop;
 use plan_print::PlanStop;
-use thiserror::Error;
+use std::error::Error;
+use std::fmt;
 
 /// What a run came to.
 #[derive(Clone, Copy, Debug, PartialEq, Eq)]
 pub enum End {
-    /// The subcommand did its work, or told its help.
+    /// The subcommand did its work.
     Done,
+    /// The words ask for help, and it was told.
+    Helped,
     /// The words are no use of the program.
     Usage,
-    /// The subcommand stopped.
-    Stopped(Told),
-}
-
-/// Why a subcommand stopped, as standard error tells it.
-#[derive(Clone, Copy, Debug, PartialEq, Eq, Error)]
-pub enum Told {
-    /// A refusal by its number.
-    #[error("refused {number}")]
-    Refused { number: u16 },
-    /// A refusal by its number, and the row that it is told with.
-    #[error("refused {number} row {row}")]
-    RefusedRow { number: u16, row: u32 },
-    /// The first line of a script that has none of its forms.
-    #[error("bad line {line}")]
-    BadLine { line: u64 },
-    /// A read or a write failed.
-    #[error("device")]
-    Device,
+    /// The batch has this fault first.
+    Refused(RowFault),
+    /// The input has over 1,048,576 bytes.
+    TooLarge,
+    /// The first line of a script that has none of its forms; a script's first line is 1.
+    BadLine(u64),
+    /// A read failed.
+    ReadFailed,
+    /// A write or a flush failed, or a write took nothing.
+    WriteFailed,
     /// Memory was refused.
-    #[error("memory")]
     Memory,
 }
 
-impl From<PlanStop> for Told {
-    ghost from_gives = { λ stop told. told ≡ told_of stop };
+impl From<PlanStop> for End {
+    ghost from_gives = { λ stop end. end ≡ end_of_plan_stop stop };
 
-    fn from(stop: PlanStop) -> Told {
+    fn from(stop: PlanStop) -> End {
         match stop {
-            PlanStop::Refused(fault) => Told::RefusedRow {
-                number: u16::from(fault.kind.code()),
-                row: fault.row,
-            },
-            PlanStop::TooLarge => Told::Refused { number: 413 },
-            PlanStop::ReadFailed | PlanStop::WriteFailed => Told::Device,
-            PlanStop::Memory => Told::Memory,
+            PlanStop::Refused(fault) => End::Refused(fault),
+            PlanStop::TooLarge => End::TooLarge,
+            PlanStop::ReadFailed => End::ReadFailed,
+            PlanStop::WriteFailed => End::WriteFailed,
+            PlanStop::Memory => End::Memory,
         }
     }
 }
 
-impl From<DrillStop> for Told {
-    ghost from_gives = { λ stop told. told ≡ drill_told stop };
+impl From<DrillStop> for End {
+    ghost from_gives = { λ stop end. end ≡ end_of_drill_stop stop };
 
-    fn from(stop: DrillStop) -> Told {
+    fn from(stop: DrillStop) -> End {
         match stop {
-            DrillStop::BadLine(line) => Told::BadLine { line },
-            DrillStop::ReadFailed | DrillStop::WriteFailed => Told::Device,
-            DrillStop::Memory => Told::Memory,
+            DrillStop::BadLine(line) => End::BadLine(line),
+            DrillStop::ReadFailed => End::ReadFailed,
+            DrillStop::WriteFailed => End::WriteFailed,
+            DrillStop::Memory => End::Memory,
         }
     }
 }
+
+/// The end of a run whose words give no subcommand, by whether what they are told was written:
+/// a usage fault stands where standard error takes no text.
+pub fn told_end(fault: &WordsFault, is_written: bool) -> End
+    ensures { result ≡ told_end fault.now is_written }
+{
+    match fault {
+        WordsFault::Help(_) => {
+            if is_written {
+                End::Helped
+            } else {
+                End::WriteFailed
+            }
+        }
+        WordsFault::Usage(_) | WordsFault::NotText => End::Usage,
+        WordsFault::Memory => End::Memory,
+    }
+}
+
+/// Why a run stopped, as standard error tells it.
+#[derive(Clone, Copy, Debug, PartialEq, Eq)]
+pub enum Told {
+    /// A refusal by its number.
+    Refused { number: u16 },
+    /// A refusal by its number, and the row that it is told with.
+    RefusedRow { number: u16, row: u32 },
+    /// The first line of a script that has none of its forms.
+    BadLine { line: u64 },
+    /// A read or a write failed.
+    Device,
+    /// Memory was refused.
+    Memory,
+}
+
+impl fmt::Display for Told {
+    ghost use Rattle.std.specs.Prelude.{Some};
+    ghost use Rattle.command_line.specs.Ends.{told_text};
+
+    ghost output = { λ told. Some (told_text told) };
+
+    fn fmt<W: fmt::Write>(&self, f: &mut fmt::Formatter<W>) -> fmt::Result {
+        match self {
+            Told::Refused { number } => write!(f, "refused {number}"),
+            Told::RefusedRow { number, row } => write!(f, "refused {number} row {row}"),
+            Told::BadLine { line } => write!(f, "bad line {line}"),
+            Told::Device => f.write_str("device"),
+            Told::Memory => f.write_str("memory"),
+        }
+    }
+}
+
+impl Error for Told {}
 
 /// The status of the program, and its words for standard error.
 #[derive(Clone, Copy, Debug, PartialEq, Eq)]
 pub struct Exit {
     /// 0 done, 1 refused, 2 usage, 3 device or memory.
     pub status: u8,
-    /// The words, as they are displayed. A usage fault has `clap`'s.
+    /// The words, as they are displayed. A usage fault has `clap`'s, which were told.
     pub words: Option<Told>,
 }
 
-/// The status and the words that an end has.
+/// The status and the words that an end has (this project's profile).
 pub fn exit_of(end: End) -> Exit
     ensures { result ≡ exit_of end }
 {
-    match end {
-        End::Done => Exit {
-            status: 0,
-            words: None,
-        },
-        End::Usage => Exit {
-            status: 2,
-            words: None,
-        },
-        End::Stopped(told) => Exit {
-            status: status_of(told),
-            words: Some(told),
-        },
-    }
-}
-
-fn status_of(told: Told) -> u8
-    ensures { result ≡ status_of told }
-{
-    match told {
-        Told::Refused { .. } | Told::RefusedRow { .. } | Told::BadLine { .. } => 1,
-        Told::Device | Told::Memory => 3,
-    }
+    let (status, words) = match end {
+        End::Done | End::Helped => (0, None),
+        End::Usage => (2, None),
+        End::Refused(fault) => {
+            let number = u16::from(fault.kind.code());
+            let row = fault.row;
+            (1, Some(Told::RefusedRow { number, row }))
+        }
+        End::TooLarge => (1, Some(Told::Refused { number: 413 })),
+        End::BadLine(line) => (1, Some(Told::BadLine { line })),
+        End::ReadFailed | End::WriteFailed => (3, Some(Told::Device)),
+        End::Memory => (3, Some(Told::Memory)),
+    };
+    Exit { status, words }
 }

@@ -1,10 +1,11 @@
 //! The program's words: the subcommand that they ask for, each of its values in its range.
-ghost use Rattle.std.specs.Prelude.{◌≡◌, [], IfOk, IfErr, false, map};
+ghost use Rattle.std.specs.Prelude.{◌≡◌, ◌≤◌, ℕ, [], IfOk, IfErr, IfSome, None, false, map};
 ghost use Rattle.clap.specs.Words.{HasKind, Kinds, app_of, fault_of, rule_of};
 ghost use Rattle.clap.specs.declared.builder.command.Command.TheViews.{out-Command as fields_of};
-ghost use Rattle.clap.specs.Words.{subcommand_rows_of};
-ghost use Rattle.command_line.specs.Words.{InRange, IsRefusal, IsSubcommand, Means, ReadsAs};
-ghost use Rattle.command_line.specs.Words.{drill_command, flag, number_option, plan_command, program};
+ghost use Rattle.clap.specs.Words.{found_of, rows_of, subcommand_rows_of};
+ghost use Rattle.command_line.specs.Words.{InRange, IsNumber, IsRefusal, IsRefusedBy, Means};
+ghost use Rattle.command_line.specs.Words.{ReadsAs, ReadsPlan, drill_command, flag};
+ghost use Rattle.command_line.specs.Words.{number_option, plan_command, program};
 ghost use Rattle.command_line.specs.declared.words.WordsFault.TheVariants.{Memory};
 
 use clap::builder::ValueParser;
@@ -12,6 +13,10 @@ use clap::error::ErrorKind;
 use clap::{Arg, ArgAction, ArgMatches, Command, Error, value_parser};
 use std::alloc::{AllocError, Global};
 use std::convert::AsStr;
+use std::io;
+
+/// What is told of words that clap takes and that ask for nothing: none do.
+const OUT_OF_RANGE: &str = "error: a value is out of its range\n";
 
 /// A subcommand of the program, each value in its range.
 #[derive(Clone, Copy, Debug, PartialEq, Eq)]
@@ -30,8 +35,25 @@ pub enum WordsFault {
     Help(String),
     /// They are no use of the program: the text is for standard error, and the exit status is 2.
     Usage(String),
+    /// A word isn't UTF-8: they are no use of the program.
+    NotText,
     /// Memory ran out.
     Memory,
+}
+
+impl From<io::Error> for WordsFault {
+    ghost use Rattle.std.specs.IoError.{error_kind};
+    ghost use Rattle.command_line.specs.Words.{unread};
+
+    ghost from_gives = { λ error fault. fault ≡ unread (error_kind error) };
+
+    fn from(error: io::Error) -> WordsFault {
+        if error.kind() == io::ErrorKind::OutOfMemory {
+            WordsFault::Memory
+        } else {
+            WordsFault::NotText
+        }
+    }
 }
 
 impl From<AllocError> for WordsFault {
@@ -44,15 +66,19 @@ impl From<AllocError> for WordsFault {
 
 /// What the words ask for. The first is the program's own name, as `env::args` gives them.
 ///
-/// `Help` and `Usage` come only where `clap` refuses the words, with `clap`'s text.
+/// `Help` comes only where `clap` refuses the words, with `clap`'s text, and so does `Usage`, or
+/// where they ask for nothing in range.
 pub fn read_words<S: AsStr>(alloc: Global, words: &[S]) -> Result<Words, WordsFault>
     ensures ranges { IfOk result InRange }
     ensures meaning { IfOk result (Means (map S.text words.now)) }
     ensures taken { IfOk result (λ _. fault_of program (map S.text words.now) ≡ []) }
-    ensures refusal { IfErr result (IsRefusal (fault_of program (map S.text words.now))) }
+    ensures refusal { IfErr result (IsRefusal (map S.text words.now)) }
 {
     match program(alloc)?.try_get_matches_from(words) {
-        Ok(matches) => Ok(words_of(&matches)),
+        Ok(matches) => match words_of(&matches) {
+            Some(words) => Ok(words),
+            None => Err(WordsFault::Usage(String::from_str(alloc, OUT_OF_RANGE)?)),
+        },
         Err(error) => Err(refusal_of(alloc, &error)?),
     }
 }
@@ -119,25 +145,53 @@ fn flag<'a>(alloc: Global, name: &'a str) -> Arg<'a>
     Arg::new(alloc, name).long(name).action(ArgAction::SetTrue)
 }
 
-fn words_of(matches: &ArgMatches<'_>) -> Words
-    requires { IsSubcommand (subcommand_rows_of matches.now) }
-    ensures ranges { InRange result }
-    ensures meaning { ReadsAs (subcommand_rows_of matches.now) result }
+// The subcommand, if it is one of the program's and each of its values is there, in its range.
+fn words_of(matches: &ArgMatches<'_>) -> Option<Words>
+    ensures ranges { IfSome result InRange }
+    ensures meaning { IfSome result (ReadsAs (subcommand_rows_of matches.now)) }
+    ensures nothing { result ≡ None → (w : Words) → InRange w
+        → ¬ ReadsAs (subcommand_rows_of matches.now) w }
 {
-    match matches.subcommand() {
-        Some(("plan", plan)) => Words::Plan {
-            max: plan.get_one("max").unwrap(),
-            low: plan.get_one("low").unwrap(),
-            check: plan.get_flag("check"),
-        },
-        Some(("drill", _)) => Words::Drill,
-        _ => unreachable!(),
+    let (name, values) = matches.subcommand()?;
+    match name {
+        "plan" => plan_of(values),
+        "drill" => Some(Words::Drill),
+        _ => None,
+    }
+}
+
+// The values of `plan`, if each is there, in its range.
+fn plan_of(values: &ArgMatches<'_>) -> Option<Words>
+    ensures ranges { IfSome result InRange }
+    ensures values { IfSome result (ReadsPlan (rows_of (found_of values.now))) }
+    ensures nothing { result ≡ None → (w : Words) → InRange w
+        → ¬ ReadsPlan (rows_of (found_of values.now)) w }
+{
+    Some(Words::Plan {
+        max: number(values, "max", 16, 255)?,
+        low: number(values, "low", 0, 31)?,
+        check: values.get_one("check")?,
+    })
+}
+
+// The number of an option, if it has one from `low` to `high`.
+fn number(values: &ArgMatches<'_>, name: &str, low: u8, high: u8) -> Option<u8>
+    ensures some { IfSome result (λ n.
+        IsNumber name.now (rows_of (found_of values.now)) n × (low ≤ n) × (n ≤ high)) }
+    ensures none { result ≡ None → (n : ℕ) → (low ≤ n) → (n ≤ high)
+        → ¬ IsNumber name.now (rows_of (found_of values.now)) n }
+{
+    let number = values.get_one(name)?;
+    if low <= number && number <= high {
+        Some(number)
+    } else {
+        None
     }
 }
 
 fn refusal_of(alloc: Global, error: &Error) -> Result<WordsFault, AllocError>
     ensures { IfOk result (λ fault. (kinds : Kinds) → HasKind kinds error.now
-        → IsRefusal kinds fault) }
+        → IsRefusedBy kinds fault) }
 {
     let kind = error.kind();
     if kind == ErrorKind::OutOfMemory {

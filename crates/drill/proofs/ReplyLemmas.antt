@@ -9,7 +9,7 @@ use Rattle.std.specs.Prelude.{Vec}
 use Rattle.std.specs.Global.{Global}
 use Rattle.store_data.proofs.FaultLemmas.{All-from_map}
 use Rattle.job_core.specs.Store.{Contents}
-use Rattle.wire.specs.Parts.{body_behind, status_in}
+use Rattle.wire.specs.ReplyParts.{body_behind, status_in}
 use Rattle.server.specs.declared.memory.Replied.{Replied}
 use Rattle.server.specs.declared.served.End.TheVariants.{Answered}
 use Rattle.server.specs.Exchanges.{Entry, Exchange, IsServed, shown}

@@ -5,7 +5,7 @@ use Rattle.std.specs.List.{flat_map, prefix_len, position_or_len}
 use Rattle.std.proofs.lemmas.List.{drop-drop, drop-map, drop_all, drop_more, length-drop, length-map, take_all, take-map}
 use Rattle.std.proofs.lemmas.List.Folds.{flat_map-map}
 use Rattle.drill.specs.Scripts.{Asks, Import, asked, IsScript, asked_by, lines, post, step_of}
-use Rattle.text_writer.specs.Written.{line}
+use Rattle.text_io.specs.Written.{line}
 use Rattle.wire.specs.Asks.{import_tail}
 
 abbrev text_of : Bor (List ℕ) → List ℕ

@@ -1,12 +1,14 @@
 -- What `persod drill` prints, and how it ends.
-use Rattle.std.specs.Prelude.{◌≡◌, ℕ, nat_eq, All, List, ◌∷◌, ◌++◌, codes, if◌then◌else◌, Option, None, Some, Result, Ok, Err, Vec, ⊤}
-use Rattle.std.specs.Global.{Global}
+use Rattle.std.specs.Prelude.{◌≡◌, ℕ, nat_eq, All, List, ◌∷◌, ◌++◌, codes, if◌then◌else◌, Option, None, Some, Result, Ok, Err}
+use Rattle.std.specs.Fmt.{decimal}
 use Rattle.std.specs.List.{ends_with, flat_map}
 use Rattle.std.specs.Io.KnownBytes.{Appends, Keeps}
 use Rattle.job_core.specs.Store.{Contents}
-use Rattle.text_writer.specs.Written.{AppendsBeginning, line}
-use Rattle.wire.specs.Messages.{Tells}
-use Rattle.wire.specs.Parts.{body_behind, status_in}
+use Rattle.text_io.specs.Inputs.{Tells}
+use Rattle.text_io.specs.Written.{AppendsBeginning, line}
+use Rattle.text_io.specs.declared.reading.ReadFault.{ReadFault}
+use Rattle.text_io.specs.declared.reading.ReadFault.TheVariants as read
+use Rattle.wire.specs.ReplyParts.{body_behind, status_in}
 use Rattle.server.specs.declared.served.End.TheVariants.{Answered}
 use Rattle.server.specs.Exchanges.{Entry, Exchange, IsServed}
 use Rattle.drill.specs.Scripts.{IsScript}
@@ -39,12 +41,15 @@ DrillEnds known before after (Err stop.WriteFailed) = (bad : Option ℕ) × (tex
 DrillEnds known before after (Err stop.ReadFailed) = Keeps before after
 DrillEnds known before after (Err stop.Memory) = Keeps before after
 
+-- the words of an end that is told
+abbrev pub stop_text : DrillStop → List ℕ
+stop_text (stop.BadLine n) = codes "bad line " ++ decimal n
+stop_text stop.ReadFailed = codes "the reader failed"
+stop_text stop.WriteFailed = codes "the writer failed"
+stop_text stop.Memory = codes "memory was refused"
+
 -- ---- the steps on the way
 
--- the script was read
-abbrev pub ReadsScript : Option (List ℕ) → Result (Vec ℕ Global) DrillStop → Type 0
-ReadsScript known (Ok v) = Tells known v.items
-ReadsScript known (Err stop.ReadFailed) = ⊤
-ReadsScript known (Err stop.Memory) = ⊤
-ReadsScript known (Err stop.WriteFailed) = ⊥
-ReadsScript known (Err (stop.BadLine n)) = ⊥
+abbrev pub unread : ReadFault → DrillStop
+unread read.Failed = stop.ReadFailed
+unread read.Memory = stop.Memory

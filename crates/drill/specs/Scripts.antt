@@ -3,8 +3,8 @@ use Rattle.std.specs.Prelude.{◌≡◌, ℕ, ◌+◌, ◌-◌, ◌==◌, ◌&&�
 use Rattle.std.specs.List.{ends_with, flat_map, list_any, slice_split}
 use Rattle.store_data.specs.Name.{is_name}
 use Rattle.wire.specs.Asks.{import_tail, is_number}
-use Rattle.wire.specs.Sending.{sending_head}
-use Rattle.text_writer.specs.Written.{line}
+use Rattle.text_io.specs.Written.{line}
+use Rattle.wire.specs.RequestHeads.{request_head}
 use Rattle.drill.specs.declared.script.Step.{Step as Parsed}
 use Rattle.drill.specs.declared.script.Step.TheVariants as parsed
 
@@ -66,7 +66,7 @@ step_of text = option_and_then (λ p. step_by p.0 p.1) (word_of text)
 
 -- of the client `office`, by what follows it in the target
 abbrev pub post : List ℕ → List ℕ → List ℕ
-post target body = sending_head (codes "/c/office/" ++ target) (length body) ++ body
+post target body = request_head (codes "/c/office/" ++ target) (length body) ++ body
 
 abbrev pub get : List ℕ → List ℕ
 get target = codes "GET " ++ target ++ codes " HTTP/1.1\r\nHost: localhost\r\n\r\n"

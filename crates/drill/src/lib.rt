@@ -3,33 +3,63 @@
 
 ghost use Rattle.std.specs.Prelude.{◌≡◌, ◌++◌, IfErr, IfOk, OnOk, map};
 ghost use Rattle.drill.specs.declared.DrillStop.TheVariants.{Memory};
-ghost use Rattle.drill.specs.Ends.{AreServed, DrillEnds, ReadsScript, reply_line};
+ghost use Rattle.drill.specs.Ends.{AreServed, DrillEnds, reply_line};
 
+mod inputs;
 mod script;
 
+pub use inputs::serve_inputs;
 use script::read_script;
-use server::{End, serve_inputs};
+use server::End;
 use std::alloc::{AllocError, Global};
-use std::io::{ErrorKind, Read, Write};
-use text_writer::{WriteFailed, write_text};
-use thiserror::Error;
+use std::error::Error;
+use std::fmt;
+use std::io::{Read, Write};
+use text_io::{ReadFault, WriteFailed, read_whole, write_text};
 use wire::reply_parts;
 
 /// Why a drill stopped.
-#[derive(Clone, Copy, Debug, PartialEq, Eq, Error)]
+#[derive(Clone, Copy, Debug, PartialEq, Eq)]
 pub enum DrillStop {
     /// A line has no form of the drill's; the first is 1.
-    #[error("bad line {0}")]
     BadLine(u64),
     /// A read failed.
-    #[error("the reader failed")]
     ReadFailed,
     /// A write failed, or took nothing.
-    #[error("the writer failed")]
     WriteFailed,
     /// Memory was refused.
-    #[error("memory was refused")]
     Memory,
+}
+
+impl fmt::Display for DrillStop {
+    ghost use Rattle.std.specs.Prelude.{Some};
+    ghost use Rattle.drill.specs.Ends.{stop_text};
+
+    ghost output = { λ stop. Some (stop_text stop) };
+
+    fn fmt<W: fmt::Write>(&self, f: &mut fmt::Formatter<W>) -> fmt::Result {
+        match self {
+            DrillStop::BadLine(line) => write!(f, "bad line {line}"),
+            DrillStop::ReadFailed => f.write_str("the reader failed"),
+            DrillStop::WriteFailed => f.write_str("the writer failed"),
+            DrillStop::Memory => f.write_str("memory was refused"),
+        }
+    }
+}
+
+impl Error for DrillStop {}
+
+impl From<ReadFault> for DrillStop {
+    ghost use Rattle.drill.specs.Ends.{unread};
+
+    ghost from_gives = { λ fault stop. stop ≡ unread fault };
+
+    fn from(fault: ReadFault) -> DrillStop {
+        match fault {
+            ReadFault::Failed => DrillStop::ReadFailed,
+            ReadFault::Memory => DrillStop::Memory,
+        }
+    }
 }
 
 impl From<AllocError> for DrillStop {
@@ -52,10 +82,14 @@ impl From<WriteFailed> for DrillStop {
     }
 }
 
-/// Serves the lines of a script in turn, over a store in memory that begins empty, and prints what each is answered: the status,
-/// a space and the body, which ends its line. The lines are `office N JSON`, `import N BATCH PRODUCT` with the lines of a batch
-/// file up to a line `.`, and `get TARGET`. Errors: the first line of another form, before which all is served and printed; a read
-/// or a write that fails; refused memory. It writes only after all was served. A request for which memory was refused is told as 503.
+/// Serves the lines of a script in turn, over a store in memory that begins empty, and prints what
+/// each is answered: the status, a space and the body, which ends its line. The lines are
+/// `office N JSON`, `import N BATCH PRODUCT` with the lines of a batch file up to a line `.`, and
+/// `get TARGET` (this project's profile).
+///
+/// It writes only after all was served, and leaves it to the caller to flush. Errors: the first line
+/// of another form, before which all is served and printed; a read or a write that fails; refused
+/// memory. A request for which memory was refused is told as 503.
 pub fn drill_engine<R: Read, W: Write>(
     alloc: Global,
     reader: &mut R,
@@ -63,7 +97,7 @@ pub fn drill_engine<R: Read, W: Write>(
 ) -> Result<(), DrillStop>
     ensures { DrillEnds (R.remaining reader.old) (W.contents writer.old) (W.contents writer.new) result }
 {
-    let raw = input(alloc, reader)?;
+    let raw = read_whole(alloc, reader)?;
     let script = read_script(alloc, raw.as_slice())?;
     let bad_line = script.bad_line;
     let text = served(alloc, script.messages)?;
@@ -71,18 +105,6 @@ pub fn drill_engine<R: Read, W: Write>(
     match bad_line {
         Some(line) => Err(DrillStop::BadLine(line)),
         None => Ok(()),
-    }
-}
-
-// The bytes of a script.
-fn input<R: Read>(alloc: Global, reader: &mut R) -> Result<Vec<u8>, DrillStop>
-    ensures { ReadsScript (R.remaining reader.old) result }
-{
-    let mut raw = Vec::new(alloc);
-    match reader.read_to_end(&mut raw) {
-        Ok(_) => Ok(raw),
-        Err(error) if error.kind() == ErrorKind::OutOfMemory => Err(DrillStop::Memory),
-        Err(_) => Err(DrillStop::ReadFailed),
     }
 }
 

@@ -2,7 +2,7 @@
 ghost use Rattle.std.specs.Prelude.{◌≡◌, ◌++◌, ◌==◌, ◌≤◌, IfOk, IfSome, bytes_eq, codes, drop, length, map, option_map, position};
 ghost use Rattle.std.specs.List.{flat_map};
 ghost use Rattle.wire.specs.Asks.{import_tail};
-ghost use Rattle.text_writer.specs.Written.{line};
+ghost use Rattle.text_io.specs.Written.{line};
 ghost use Rattle.drill.specs.Scripts.{IsScript, asked, get, import_of, lines, numbered, office_of, post, shown, step_by, step_of, target_of, without_end, word_of};
 
 use itoa::Buffer;

@@ -1,7 +1,7 @@
+pub mod Lists
 pub mod HandingLemmas
-pub mod DecisionLemmas
-pub mod NamedLemmas
 pub mod PlanLemmas
+pub mod RecordLemmas
 pub mod SoundFacts
 pub mod SessionLemmas
 pub mod SoundSessions

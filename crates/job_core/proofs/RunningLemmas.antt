@@ -20,7 +20,8 @@ use Rattle.job_core.specs.Sound.{IsRecord, IsSession, IsSound, Makes}
 use Rattle.job_core.specs.States.{command_at, command_bytes, commands_for, commands_under, first_waiting, going, goes_at, is_tolerant, is_waiting, last_stops, last_stops_from, plan_for, record_state, records_named, session_cursor, session_numbered, session_state, state_with}
 use Rattle.job_core.specs.Steps.{take_word}
 use Rattle.job_core.proofs.PlanLemmas.{plan_there}
-use Rattle.job_core.proofs.SessionLemmas.{All-there, found_among, session_split}
+use Rattle.job_core.proofs.Lists.{All-there, found_among}
+use Rattle.job_core.proofs.SessionLemmas.{session_split}
 use Rattle.job_core.proofs.SoundSessions.{running_parts, sound_word, word_after}
 
 pub length_sequence : (plan : Plan) → length (sequence plan) ≡ length (commands_of plan)
@@ -32,11 +33,13 @@ bytes_of : (o : Option Command) (p : Option (List ℕ)) → p ≡ option_map (λ
 bytes_of None p e = ap (λ q. unwrap_or q []) e
 bytes_of (Some c) p e = ap (λ q. unwrap_or q []) e
 
-command_of_sequence : (plan : Plan) (n : ℕ) (p : Option (List ℕ)) → p ≡ slice_get (sequence plan) n → unwrap_or p [] ≡ command_bytes (slice_get (commands_of plan) n)
+command_of_sequence : (plan : Plan) (n : ℕ) (p : Option (List ℕ)) → p ≡ slice_get (sequence plan) n
+    → unwrap_or p [] ≡ command_bytes (slice_get (commands_of plan) n)
 unfolding sequence
 command_of_sequence plan n p e = bytes_of (slice_get (commands_of plan) n) p (e ∙ slice_get-map (λ (c : Command). c.bytes) (commands_of plan) n)
 
-pub command_under : (f : Facts) (b r : List ℕ) (plan : Plan) (n : ℕ) (p : Option (List ℕ)) → plan_for f b r ≡ Some plan → p ≡ slice_get (sequence plan) n → command_at f b r n ≡ unwrap_or p []
+pub command_under : (f : Facts) (b r : List ℕ) (plan : Plan) (n : ℕ) (p : Option (List ℕ)) → plan_for f b r ≡ Some plan
+    → p ≡ slice_get (sequence plan) n → command_at f b r n ≡ unwrap_or p []
 command_under f b r plan n p there e = ap (λ o. command_bytes (slice_get (commands_under o) n)) there ∙ sym (command_of_sequence plan n p e)
 
 item_there : {X : Type 0} (xs : List X) (i : ℕ) → i < length xs → (x : X) × (slice_get xs i ≡ Some x)
@@ -45,17 +48,19 @@ item_there (x ∷ xs) zero within = (x, refl)
 item_there (x ∷ xs) (suc i) within = item_there xs i (omega arith)
 
 -- the cursor of a session whose words all go
-cursor_going : (f : Facts) (x : Session) (plan : Plan) (n : ℕ) (c : Cursor) → plan_for f x.batch x.rec ≡ Some plan → going (commands_of plan) x.words ≡ n → cursor_at plan n ≡ Some c → session_cursor f x ≡ c
+cursor_going : (f : Facts) (x : Session) (plan : Plan) (n : ℕ) (c : Cursor) → plan_for f x.batch x.rec ≡ Some plan
+    → going (commands_of plan) x.words ≡ n → cursor_at plan n ≡ Some c → session_cursor f x ≡ c
 unfolding session_cursor
 cursor_going f x plan n c there many at =
     ap (λ o. unwrap_or (option_and_then (λ (p : Plan). cursor_at p (going (commands_of p) x.words)) o) (select_cursor 0)) there
     ∙ ap (λ k. unwrap_or (cursor_at plan k) (select_cursor 0)) many
     ∙ ap (λ o. unwrap_or o (select_cursor 0)) at
 
-pub runs_there : (f : Facts) (s : ℕ) (x : Session) → IsSound f → session_numbered f.sessions s ≡ Some x → session_state f x ≡ session.Running → (plan : Plan) × Runs f s x plan
+pub runs_there : (f : Facts) (s : ℕ) (x : Session) → IsSound f → session_numbered f.sessions s ≡ Some x
+    → session_state f x ≡ session.Running → (plan : Plan) × Runs f s x plan
 runs_there f s x sound there runs =
     let split = session_split f.sessions s x (worded 0) there in
-    let is : IsSession f x = All-there (IsSession f) split.0 split.1 x (subst (All (IsSession f)) split.2 sound.sessions) in
+    let is : IsSession f x = All-there (IsSession f) split.0 split.1 x (subst (All (IsSession f)) split.2 sound.sessions.each) in
     let plan = plan_there f x.batch x.rec sound is.there in
     let commands : commands_for f x.batch x.rec ≡ commands_of plan.0 = ap commands_under plan.1 in
     let parts = running_parts f x runs in
@@ -78,7 +83,8 @@ runs_there f s x sound there runs =
 
 -- ---- one word more
 
-last_stops_push : (commands : List Command) (k : ℕ) (words : List ℕ) (sw : ℕ) → last_stops_from commands k (words ++ sw ∷ []) ≡ not (goes_at commands (k + length words) sw)
+last_stops_push : (commands : List Command) (k : ℕ) (words : List ℕ) (sw : ℕ)
+    → last_stops_from commands k (words ++ sw ∷ []) ≡ not (goes_at commands (k + length words) sw)
 last_stops_push commands k [] sw = let e : k ≡ k + 0 = omega arith in ap (λ n. not (goes_at commands n sw)) e
 last_stops_push commands k (w ∷ []) sw = refl
 last_stops_push commands k (w ∷ v ∷ words) sw =
@@ -126,7 +132,8 @@ module _ (f : Facts) (s sw : ℕ) (x : Session) (plan : Plan) (sound : IsSound f
   }
 
   -- a word that does not go
-  pub spoiled_word : (c : Cursor) → goes_at (commands_of plan) k sw ≡ false → c ≡ session_cursor f x → Makes f (take_word f s k sw x) (reply.Spoiled s) (change.AddsWord s sw session.Spoiled c)
+  pub spoiled_word : (c : Cursor) → goes_at (commands_of plan) k sw ≡ false → c ≡ session_cursor f x
+      → Makes f (take_word f s k sw x) (reply.Spoiled s) (change.AddsWord s sw session.Spoiled c)
   spoiled_word c stops same =
       let stopped : last_stops (commands_of plan) y.words ≡ true = stops_after ∙ ap not stops in
       let back : going (commands_of plan) y.words ≡ k = cond-true (last_stops (commands_of plan) y.words) (length y.words - 1) (length y.words) stopped ∙ (omega (arith, more_words)) in
@@ -156,7 +163,8 @@ module _ (f : Facts) (s sw : ℕ) (x : Session) (plan : Plan) (sound : IsSound f
         (cursor_going g y plan (k + 1) next plan_kept on at)
 
     -- a word before the last
-    pub next_word : (command : List ℕ) → Some command ≡ slice_get (sequence plan) (k + 1) → Makes f (take_word f s k sw x) (reply.Next command (k + 1) s) (change.AddsWord s sw session.Running next)
+    pub next_word : (command : List ℕ) → Some command ≡ slice_get (sequence plan) (k + 1)
+        → Makes f (take_word f s k sw x) (reply.Next command (k + 1) s) (change.AddsWord s sw session.Running next)
     next_word command more =
         let within : k + 1 < length (commands_of plan) = omega (arith, length_sequence plan, slice_get_within (sequence plan) (k + 1) command (sym more)) in
         let differ : eqb (k + 1) (length (commands_of plan)) ≡ false = ne_eqb (k + 1) (length (commands_of plan)) (λ e. omega (arith, within, e)) in

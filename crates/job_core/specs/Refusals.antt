@@ -1,5 +1,5 @@
 -- The numbers and names of the refusals by rule (this project's profile).
-use Rattle.std.specs.Prelude.{ℕ, List, codes}
+use Rattle.std.specs.Prelude.{◌==◌, ℕ, List, [], ◌∷◌, find, codes, Option}
 use Rattle.job_core.specs.declared.refusal.Refusal.{Refusal}
 use Rattle.job_core.specs.declared.refusal.Refusal.TheVariants.{ProductDiffers, ProductUnknown, LotDiffers, SerialsOverlap, BatchDiffers, BatchUnknown, BatchClosed, BlankUnknown, BlankOfOtherProduct, BlankUsed, NothingWaiting, SessionUnknown, NotYours, SessionEnded, OutOfTurn, RecordUnknown, NotFailed, NotWithdrawable, NotFinished, Limit, NumberReused}
 
@@ -25,6 +25,15 @@ code_of NotWithdrawable = 69
 code_of NotFinished = 70
 code_of Limit = 71
 code_of NumberReused = 72
+
+-- all of them
+abbrev pub refusals : List Refusal
+refusals =
+    ProductDiffers ∷ ProductUnknown ∷ LotDiffers ∷ SerialsOverlap ∷ BatchDiffers ∷ BatchUnknown ∷ BatchClosed ∷ BlankUnknown ∷ BlankOfOtherProduct ∷ BlankUsed ∷ NothingWaiting ∷ SessionUnknown ∷ NotYours ∷ SessionEnded ∷ OutOfTurn ∷ RecordUnknown ∷ NotFailed ∷ NotWithdrawable ∷ NotFinished ∷ Limit ∷ NumberReused ∷ []
+
+-- the one of a number
+unfoldable pub refusal_of : ℕ → Option Refusal
+refusal_of n = find (λ why. code_of why == n) refusals
 
 -- the name that replies tell it by
 abbrev pub name_of : Refusal → List ℕ

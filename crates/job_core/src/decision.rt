@@ -1,6 +1,7 @@
 //! The decisions: what the plain machine answers to a request, and the one fact that it adds.
 //!
-//! Each reads what its request needs, in the order of the refusals, and then decides by what was read.
+//! Each reads what its request needs, in the order of the refusals, and then decides by what was
+//! read.
 mod commands;
 mod products;
 mod records;
@@ -24,7 +25,8 @@ use store_data::Name;
 /// A reply, and the one fact that the request adds.
 pub(crate) type Decision<'a> = (Reply, Change<'a>);
 
-/// What the plain machine answers to a client's request, and the one fact that it adds. The store is only read.
+/// What the plain machine answers to a client's request, and the one fact that it adds. The store
+/// is only read.
 ///
 /// `StoreFault` where the store has one, or where memory is refused.
 pub fn decide<'a, S: JobStore>(

@@ -1,4 +1,5 @@
-//! The plain job machine: requests, what they do to the facts of batches, cards and blanks, and what a store of those promises.
+//! The plain job machine: requests, what they do to the facts of batches, cards and blanks, and
+//! what a store of those promises.
 #![tactic(auto)]
 
 mod change;

@@ -1,12 +1,13 @@
 //! Refusals by rule.
-ghost use Rattle.std.specs.Prelude.{◌≡◌};
-ghost use Rattle.job_core.specs.Refusals.{code_of, name_of};
+ghost use Rattle.std.specs.Prelude.{◌≡◌, IfSome, Some};
+ghost use Rattle.job_core.specs.Refusals.{code_of, name_of, refusal_of};
+ghost use Rattle.job_core.specs.declared.refusal.Refusal.{Refusal as RefusalValue};
 
-use thiserror::Error;
+use std::error::Error;
+use std::fmt;
 
 /// Why a request is refused (this project's profile).
-#[derive(Clone, Copy, Debug, PartialEq, Eq, Error)]
-#[error("{}", self.name())]
+#[derive(Clone, Copy, Debug, PartialEq, Eq)]
 pub enum Refusal {
     /// The product's code is there with other values.
     ProductDiffers = 51,
@@ -60,6 +61,39 @@ impl Refusal {
         self as u8
     }
 
+    /// The refusal of a number, or `None` where it is none's.
+    #[tactic(auto, unfolding(crate::specs::Refusals::refusal_of))]
+    pub fn from_code(code: u64) -> Option<Refusal>
+        ensures is { result ≡ refusal_of code }
+        ensures has { IfSome result (λ refusal. code_of refusal ≡ code) }
+        ensures all { (refusal : RefusalValue) → code_of refusal ≡ code → result ≡ Some refusal }
+    {
+        match code {
+            51 => Some(Refusal::ProductDiffers),
+            52 => Some(Refusal::ProductUnknown),
+            53 => Some(Refusal::LotDiffers),
+            54 => Some(Refusal::SerialsOverlap),
+            55 => Some(Refusal::BatchDiffers),
+            56 => Some(Refusal::BatchUnknown),
+            57 => Some(Refusal::BatchClosed),
+            58 => Some(Refusal::BlankUnknown),
+            59 => Some(Refusal::BlankOfOtherProduct),
+            60 => Some(Refusal::BlankUsed),
+            62 => Some(Refusal::NothingWaiting),
+            63 => Some(Refusal::SessionUnknown),
+            64 => Some(Refusal::NotYours),
+            65 => Some(Refusal::SessionEnded),
+            66 => Some(Refusal::OutOfTurn),
+            67 => Some(Refusal::RecordUnknown),
+            68 => Some(Refusal::NotFailed),
+            69 => Some(Refusal::NotWithdrawable),
+            70 => Some(Refusal::NotFinished),
+            71 => Some(Refusal::Limit),
+            72 => Some(Refusal::NumberReused),
+            _ => None,
+        }
+    }
+
     /// The name that replies tell it by (this project's profile).
     pub fn name(self) -> &'static str
         ensures { result.now ≡ name_of self }
@@ -89,3 +123,13 @@ impl Refusal {
         }
     }
 }
+
+impl fmt::Display for Refusal {
+    ghost output = { λ refusal. Some (name_of refusal) };
+
+    fn fmt<W: fmt::Write>(&self, f: &mut fmt::Formatter<W>) -> fmt::Result {
+        f.write_str(self.name())
+    }
+}
+
+impl Error for Refusal {}

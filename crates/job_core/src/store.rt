@@ -40,7 +40,8 @@ impl<T: Drop> From<AllocFailed<T>> for StoreFault {
     }
 }
 
-/// The facts and the kept replies. A read changes nothing, and may take memory from the store's own allocator.
+/// The facts and the kept replies. A read changes nothing, and may take memory from the store's own
+/// allocator.
 pub trait JobStore {
     ghost use Rattle.std.specs.Prelude.{◌≡◌, ◌≤◌, ◌<◌, ◌^◌, IfOk, IfSome, Bool, option_map};
     ghost use Rattle.store_data.specs.Cursor.{IsCursor};
@@ -58,75 +59,88 @@ pub trait JobStore {
     /// The product of this code.
     fn product(&mut self, code: &Name) -> Result<Option<Product>, StoreFault>
         ensures stays { Stays (state self.old) (state self.new) }
-        ensures value { Reads (state self.old) (state self.new) result (λ c answer. answer ≡ product_named c.facts.products code.now) }
+        ensures value { Reads (state self.old) (state self.new) result
+            (λ c answer. answer ≡ product_named c.facts.products code.now) }
         ensures ranged { IfOk result (λ answer. IfSome answer IsProduct) }
         ensures cause { HasCause (state self.new) result };
 
     /// The lot of this name.
     fn lot(&mut self, name: &Name) -> Result<Option<Lot>, StoreFault>
         ensures stays { Stays (state self.old) (state self.new) }
-        ensures value { Reads (state self.old) (state self.new) result (λ c answer. answer ≡ lot_named c.facts.lots name.now) }
+        ensures value { Reads (state self.old) (state self.new) result
+            (λ c answer. answer ≡ lot_named c.facts.lots name.now) }
         ensures cause { HasCause (state self.new) result };
 
     /// The lot in which a blank lies.
     fn lot_of(&mut self, blank: u64) -> Result<Option<Lot>, StoreFault>
         ensures stays { Stays (state self.old) (state self.new) }
-        ensures value { Reads (state self.old) (state self.new) result (λ c answer. answer ≡ lot_of c.facts.lots blank) }
+        ensures value { Reads (state self.old) (state self.new) result
+            (λ c answer. answer ≡ lot_of c.facts.lots blank) }
         ensures cause { HasCause (state self.new) result };
 
     /// Whether a serial of the range lies in a lot.
     fn overlaps(&mut self, first: u64, count: u32) -> Result<bool, StoreFault>
         ensures stays { Stays (state self.old) (state self.new) }
-        ensures value { Reads (state self.old) (state self.new) result (λ c answer. answer ≡ any_overlaps c.facts.lots first count) }
+        ensures value { Reads (state self.old) (state self.new) result
+            (λ c answer. answer ≡ any_overlaps c.facts.lots first count) }
         ensures cause { HasCause (state self.new) result };
 
     /// The batch of this name.
     fn batch(&mut self, name: &Name) -> Result<Option<BatchRow>, StoreFault>
         ensures stays { Stays (state self.old) (state self.new) }
-        ensures value { Reads (state self.old) (state self.new) result (λ c answer. answer ≡ batch_row_of c.facts name.now) }
+        ensures value { Reads (state self.old) (state self.new) result
+            (λ c answer. answer ≡ batch_row_of c.facts name.now) }
         ensures cause { HasCause (state self.new) result };
 
     /// Whether the batch of this name has these bytes.
     fn batch_has(&mut self, name: &Name, raw: &[u8]) -> Result<bool, StoreFault>
         ensures stays { Stays (state self.old) (state self.new) }
-        ensures value { Reads (state self.old) (state self.new) result (λ c answer. answer ≡ batch_has c.facts name.now raw.now) }
+        ensures value { Reads (state self.old) (state self.new) result
+            (λ c answer. answer ≡ batch_has c.facts name.now raw.now) }
         ensures cause { HasCause (state self.new) result };
 
     /// The state of a record, if the batch has it.
     fn record_state(&mut self, batch: &Name, rec: &Name) -> Result<Option<RecordState>, StoreFault>
         ensures stays { Stays (state self.old) (state self.new) }
-        ensures value { Reads (state self.old) (state self.new) result (λ c answer. answer ≡ record_state_of c.facts batch.now rec.now) }
+        ensures value { Reads (state self.old) (state self.new) result
+            (λ c answer. answer ≡ record_state_of c.facts batch.now rec.now) }
         ensures cause { HasCause (state self.new) result };
 
     /// The first waiting record of a batch, in file order.
     fn first_waiting(&mut self, batch: &Name) -> Result<Option<Name>, StoreFault>
         ensures stays { Stays (state self.old) (state self.new) }
-        ensures value { Reads (state self.old) (state self.new) result (λ c answer. answer ≡ first_waiting c.facts batch.now) }
+        ensures value { Reads (state self.old) (state self.new) result
+            (λ c answer. answer ≡ first_waiting c.facts batch.now) }
         ensures cause { HasCause (state self.new) result };
 
     /// Whether each record of a batch is good or withdrawn.
     fn is_finished(&mut self, batch: &Name) -> Result<bool, StoreFault>
         ensures stays { Stays (state self.old) (state self.new) }
-        ensures value { Reads (state self.old) (state self.new) result (λ c answer. answer ≡ is_batch_finished c.facts batch.now) }
+        ensures value { Reads (state self.old) (state self.new) result
+            (λ c answer. answer ≡ is_batch_finished c.facts batch.now) }
         ensures cause { HasCause (state self.new) result };
 
     /// The session of this number.
     fn session(&mut self, session: u64) -> Result<Option<SessionRow>, StoreFault>
         ensures stays { Stays (state self.old) (state self.new) }
-        ensures value { Reads (state self.old) (state self.new) result (λ c answer. answer ≡ session_row_of c.facts session) }
-        ensures ranged { IfOk result (λ answer. IfSome answer (λ (row : SessionRowValue). IsCursor row.cursor)) }
+        ensures value { Reads (state self.old) (state self.new) result
+            (λ c answer. answer ≡ session_row_of c.facts session) }
+        ensures ranged { IfOk result
+            (λ answer. IfSome answer (λ (row : SessionRowValue). IsCursor row.cursor)) }
         ensures cause { HasCause (state self.new) result };
 
     /// The number of a machine's running session.
     fn running_session(&mut self, machine: &Name) -> Result<Option<u64>, StoreFault>
         ensures stays { Stays (state self.old) (state self.new) }
-        ensures value { Reads (state self.old) (state self.new) result (λ c answer. answer ≡ running_session c.facts machine.now) }
+        ensures value { Reads (state self.old) (state self.new) result
+            (λ c answer. answer ≡ running_session c.facts machine.now) }
         ensures cause { HasCause (state self.new) result };
 
     /// Whether an opening or a discard names the blank.
     fn is_charged(&mut self, blank: u64) -> Result<bool, StoreFault>
         ensures stays { Stays (state self.old) (state self.new) }
-        ensures value { Reads (state self.old) (state self.new) result (λ c answer. answer ≡ is_charged c.facts blank) }
+        ensures value { Reads (state self.old) (state self.new) result
+            (λ c answer. answer ≡ is_charged c.facts blank) }
         ensures cause { HasCause (state self.new) result };
 
     /// Segment `segment` of application `app` of a record, both from 0, if the record has it.
@@ -138,39 +152,46 @@ pub trait JobStore {
         segment: u16,
     ) -> Result<Option<SegmentRow>, StoreFault>
         ensures stays { Stays (state self.old) (state self.new) }
-        ensures value { Reads (state self.old) (state self.new) result (λ c answer. answer ≡ segment_row_of c.facts batch.now rec.now app segment) }
-        ensures ranged { IfOk result (λ answer. IfSome answer (λ (row : SegmentRowValue). row.low ≤ 31)) }
+        ensures value { Reads (state self.old) (state self.new) result
+            (λ c answer. answer ≡ segment_row_of c.facts batch.now rec.now app segment) }
+        ensures ranged { IfOk result
+            (λ answer. IfSome answer (λ (row : SegmentRowValue). row.low ≤ 31)) }
         ensures cause { HasCause (state self.new) result };
 
     /// How many products, lots, batches and sessions there are.
     fn counts(&mut self) -> Result<Counts, StoreFault>
         ensures stays { Stays (state self.old) (state self.new) }
-        ensures value { Reads (state self.old) (state self.new) result (λ c answer. answer ≡ counts_of c.facts) }
+        ensures value { Reads (state self.old) (state self.new) result
+            (λ c answer. answer ≡ counts_of c.facts) }
         ensures ranged { IfOk result (λ answer. answer.sessions < 2 ^ 63) }
         ensures cause { HasCause (state self.new) result };
 
     /// How a batch stands.
     fn batch_totals(&mut self, batch: &Name) -> Result<BatchTotals, StoreFault>
         ensures stays { Stays (state self.old) (state self.new) }
-        ensures value { Reads (state self.old) (state self.new) result (λ c answer. answer ≡ batch_totals c.facts batch.now) }
+        ensures value { Reads (state self.old) (state self.new) result
+            (λ c answer. answer ≡ batch_totals c.facts batch.now) }
         ensures cause { HasCause (state self.new) result };
 
     /// How the record at a place of a batch stands, from 0 in file order, if the batch has as many.
     fn record_line(&mut self, batch: &Name, place: u32) -> Result<Option<RecordLine>, StoreFault>
         ensures stays { Stays (state self.old) (state self.new) }
-        ensures value { Reads (state self.old) (state self.new) result (λ c answer. answer ≡ record_line_at c.facts batch.now place) }
+        ensures value { Reads (state self.old) (state self.new) result
+            (λ c answer. answer ≡ record_line_at c.facts batch.now place) }
         ensures cause { HasCause (state self.new) result };
 
     /// How a product's blanks stand.
     fn blank_totals(&mut self, product: &Name) -> Result<BlankTotals, StoreFault>
         ensures stays { Stays (state self.old) (state self.new) }
-        ensures value { Reads (state self.old) (state self.new) result (λ c answer. answer ≡ blank_totals c.facts product.now) }
+        ensures value { Reads (state self.old) (state self.new) result
+            (λ c answer. answer ≡ blank_totals c.facts product.now) }
         ensures cause { HasCause (state self.new) result };
 
     /// The reply that is kept under a client's number.
     fn kept(&mut self, client: &Name, number: u64) -> Result<Option<KeptReply>, StoreFault>
         ensures stays { Stays (state self.old) (state self.new) }
-        ensures value { Reads (state self.old) (state self.new) result (λ c answer. answer ≡ option_map reply_of_entry (entry_of c.kept client.now number)) }
+        ensures value { Reads (state self.old) (state self.new) result
+            (λ c answer. answer ≡ option_map reply_of_entry (entry_of c.kept client.now number)) }
         ensures cause { HasCause (state self.new) result };
 
     /// Keeps a reply and makes its change together, or does neither.

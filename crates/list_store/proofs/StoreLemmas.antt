@@ -7,7 +7,7 @@ use Rattle.job_core.specs.declared.change.Change.{Change}
 use Rattle.job_core.specs.Facts.{Facts}
 use Rattle.job_core.specs.Sound.{changed}
 use Rattle.job_core.specs.Store.{AreSame, AreSound, Commits, Contents, Entry, IsEntry, IsOwed, committed, is_of_number, no_contents}
-use Rattle.job_core.proofs.NamedLemmas.{find-None}
+use Rattle.job_core.proofs.Lists.{find-None}
 use Rattle.job_core.proofs.SoundFacts.{sound_nothing}
 use Rattle.list_store.specs.Lists.{state_of}
 

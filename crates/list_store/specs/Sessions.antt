@@ -1,15 +1,11 @@
 -- The plan of a session's record.
-use Rattle.std.specs.Prelude.{◌&&◌, ℕ, List, [], Option, bytes_eq, filter, find, option_map, unwrap_or}
+use Rattle.std.specs.Prelude.{◌&&◌, ℕ, List, Option, bytes_eq, filter, find, option_map, unwrap_or}
 use Rattle.store_data.specs.declared.cursor.Cursor.{Cursor}
 use Rattle.store_data.specs.Cursor.{cursor_at, select_cursor}
-use Rattle.store_data.specs.Sequence.{Plan, commands_of}
+use Rattle.store_data.specs.Sequence.{Plan, commands_of, no_plan}
 use Rattle.job_core.specs.declared.facts.Lot.{Lot}
 use Rattle.job_core.specs.Facts.{Facts, Session}
 use Rattle.job_core.specs.States.{going, is_running, numbered, plan_for, session_state}
-
--- a plan without an application
-abbrev pub no_plan : Plan
-no_plan = record { max = 16; low = 0; applications = [] }
 
 -- the plan of a session's record, or one without commands
 abbrev pub plan_of_session : Facts → Session → Plan

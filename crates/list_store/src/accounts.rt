@@ -2,16 +2,16 @@
 ghost use Rattle.std.specs.Prelude.{◌≡◌, ◌∷◌, ◌&&◌, IfErr, IfOk, bytes_eq, count_by, filter, find, length, map, option_map, sum_by};
 ghost use Rattle.job_core.specs.declared.store.StoreFault.TheVariants.{Memory};
 ghost use Rattle.job_core.specs.declared.facts.Lot.{Lot as LotValue};
-ghost use Rattle.job_core.specs.Accounts.{batch_totals, blank_states, blank_totals, is_blank_of, is_failed_record, is_good_record, is_lot_of, is_running_record, is_withdrawn_record, record_line, record_line_at, record_states, session_states};
+ghost use Rattle.job_core.specs.Accounts.{batch_totals, blank_states, blank_totals, count_records, is_blank_of, is_lot_of, record_line, record_line_at, record_states, session_states};
 ghost use Rattle.job_core.specs.Facts.{Session};
-ghost use Rattle.job_core.specs.States.{is_good, is_running, is_spoiled, is_waiting, lot_of, record_state, session_state};
+ghost use Rattle.job_core.specs.States.{is_good, lot_of, record_state, session_state};
 ghost use Rattle.list_store.specs.Sessions.{lots_for, sessions_of_record};
 
 use crate::blanks::lot_of;
 use crate::lists::{FactLists, KeptSession};
 use crate::records::record_names;
 use crate::sessions::session_state;
-use crate::states::{count_spoiled, record_state, states_among};
+use crate::states::{count_sessions, record_state, states_among};
 use job_core::{BatchTotals, BlankTotals, Lot, RecordLine, RecordState, SessionState, StoreFault};
 use std::alloc::Global;
 use store_data::Name;
@@ -25,7 +25,8 @@ fn record_states(
     batch: &Name,
     names: &[Name],
 ) -> Result<Vec<RecordState>, StoreFault>
-    ensures value { IfOk result (λ states. states.items ≡ map (record_state facts.now batch.now) names.now) }
+    ensures value { IfOk result
+        (λ states. states.items ≡ map (record_state facts.now batch.now) names.now) }
     ensures cause { IfErr result (λ fault. fault ≡ Memory) }
 {
     let mut states = Vec::new(alloc);
@@ -43,7 +44,8 @@ fn session_states(
     batch: &Name,
 ) -> Result<Vec<SessionState>, StoreFault>
     ensures value { IfOk result (λ states. states.items
-        ≡ map (session_state facts.now) (filter (λ (s : Session). bytes_eq s.batch batch.now) sessions.now)) }
+        ≡ map (session_state facts.now)
+        (filter (λ (s : Session). bytes_eq s.batch batch.now) sessions.now)) }
     ensures cause { IfErr result (λ fault. fault ≡ Memory) }
 {
     let mut states = Vec::new(alloc);
@@ -55,67 +57,11 @@ fn session_states(
     Ok(states)
 }
 
-fn count_waiting(states: &[RecordState]) -> u64
-    ensures { result ≡ count_by is_waiting states.now }
+// How many records stand so.
+fn count_records(states: &[RecordState], state: RecordState) -> u64
+    ensures { result ≡ count_records states.now state }
 {
-    states
-        .iter()
-        .filter(|state| matches!(state, RecordState::Waiting))
-        .count() as u64
-}
-
-fn count_running(states: &[RecordState]) -> u64
-    ensures { result ≡ count_by is_running_record states.now }
-{
-    states
-        .iter()
-        .filter(|state| matches!(state, RecordState::Running))
-        .count() as u64
-}
-
-fn count_failed(states: &[RecordState]) -> u64
-    ensures { result ≡ count_by is_failed_record states.now }
-{
-    states
-        .iter()
-        .filter(|state| matches!(state, RecordState::Failed))
-        .count() as u64
-}
-
-fn count_withdrawn(states: &[RecordState]) -> u64
-    ensures { result ≡ count_by is_withdrawn_record states.now }
-{
-    states
-        .iter()
-        .filter(|state| matches!(state, RecordState::Withdrawn))
-        .count() as u64
-}
-
-fn count_good(states: &[RecordState]) -> u64
-    ensures { result ≡ count_by is_good_record states.now }
-{
-    states
-        .iter()
-        .filter(|state| matches!(state, RecordState::Good))
-        .count() as u64
-}
-
-fn count_good_sessions(states: &[SessionState]) -> u64
-    ensures { result ≡ count_by is_good states.now }
-{
-    states
-        .iter()
-        .filter(|state| matches!(state, SessionState::Good))
-        .count() as u64
-}
-
-fn count_running_sessions(states: &[SessionState]) -> u64
-    ensures { result ≡ count_by is_running states.now }
-{
-    states
-        .iter()
-        .filter(|state| matches!(state, SessionState::Running))
-        .count() as u64
+    states.iter().filter(|other| **other == state).count() as u64
 }
 
 /// How a batch stands.
@@ -133,13 +79,13 @@ pub(crate) fn batch_totals(
     let sessions = session_states(alloc, facts, &facts.sessions, batch)?;
     Ok(BatchTotals {
         records: records.len() as u64,
-        waiting: count_waiting(&records),
-        running: count_running(&records),
-        failed: count_failed(&records),
-        withdrawn: count_withdrawn(&records),
-        good: count_good(&records),
+        waiting: count_records(&records, RecordState::Waiting),
+        running: count_records(&records, RecordState::Running),
+        failed: count_records(&records, RecordState::Failed),
+        withdrawn: count_records(&records, RecordState::Withdrawn),
+        good: count_records(&records, RecordState::Good),
         sessions: sessions.len() as u64,
-        spoiled: count_spoiled(&sessions),
+        spoiled: count_sessions(&sessions, SessionState::Spoiled),
     })
 }
 
@@ -154,7 +100,9 @@ fn good_blank(
     rec: &Name,
 ) -> Result<Option<u64>, StoreFault>
     ensures value { IfOk result (λ blank. blank
-        ≡ option_map (λ (s : Session). s.blank) (find (λ s. is_good (session_state facts.now s)) (sessions_of_record sessions.now batch.now rec.now))) }
+        ≡ option_map (λ (s : Session). s.blank)
+        (find (λ s. is_good (session_state facts.now s))
+        (sessions_of_record sessions.now batch.now rec.now))) }
     ensures cause { IfErr result (λ fault. fault ≡ Memory) }
 {
     for session in sessions {
@@ -223,7 +171,8 @@ fn blank_states(
     product: &Name,
 ) -> Result<Vec<SessionState>, StoreFault>
     ensures value { IfOk result (λ states. states.items
-        ≡ map (session_state facts.now) (filter (λ (s : Session). is_blank_of facts.now product.now s.blank) sessions.now)) }
+        ≡ map (session_state facts.now)
+        (filter (λ (s : Session). is_blank_of facts.now product.now s.blank) sessions.now)) }
     ensures cause { IfErr result (λ fault. fault ≡ Memory) }
 {
     let mut states = Vec::new(alloc);
@@ -236,7 +185,8 @@ fn blank_states(
 }
 
 fn count_discarded(lots: &[Lot], product: &Name, discarded: &[u64]) -> u64
-    ensures { result ≡ count_by (λ blank. is_lot_of product.now (lot_of lots.now blank)) discarded.now }
+    ensures { result ≡ count_by
+        (λ blank. is_lot_of product.now (lot_of lots.now blank)) discarded.now }
 {
     discarded
         .iter()
@@ -250,9 +200,11 @@ fn count_lots(lots: &[Lot], product: &Name) -> u64
     lots.iter().filter(|lot| lot.product == *product).count() as u64
 }
 
-// How many blanks a product's lots have. A sum past 64 bits is told as refused memory: sound facts have none.
+// How many blanks a product's lots have. A sum past 64 bits is told as refused memory: sound facts
+// have none.
 fn sum_lots(lots: &[Lot], product: &Name) -> Result<u64, StoreFault>
-    ensures value { IfOk result (λ total. total ≡ sum_by (λ (l : LotValue). l.count) (lots_for lots.now product.now)) }
+    ensures value { IfOk result
+        (λ total. total ≡ sum_by (λ (l : LotValue). l.count) (lots_for lots.now product.now)) }
     ensures cause { IfErr result (λ fault. fault ≡ Memory) }
 {
     let mut total: u64 = 0;
@@ -280,9 +232,9 @@ pub(crate) fn blank_totals(
     Ok(BlankTotals {
         lots: count_lots(&facts.lots, product),
         total: sum_lots(&facts.lots, product)?,
-        good: count_good_sessions(&states),
-        running: count_running_sessions(&states),
-        spoiled: count_spoiled(&states),
+        good: count_sessions(&states, SessionState::Good),
+        running: count_sessions(&states, SessionState::Running),
+        spoiled: count_sessions(&states, SessionState::Spoiled),
         discarded: count_discarded(&facts.lots, product, &facts.discarded),
     })
 }

@@ -52,7 +52,8 @@ pub(crate) fn change_facts(
     Ok(())
 }
 
-// A product that a change adds. One out of its ranges is told as refused memory: sound facts have none.
+// A product that a change adds. One out of its ranges is told as refused memory: sound facts have
+// none.
 fn known(product: Product) -> Result<KnownProduct, StoreFault>
     ensures value { IfOk result (λ known. known ≡ product) }
     ensures there { IsProduct product → result ≡ Ok product }

@@ -4,11 +4,10 @@ ghost use Rattle.store_data.specs.Cursor.{IsCursor, cursor_at};
 ghost use Rattle.store_data.specs.Sequence.{IsPlan, commands_of, goes_on};
 ghost use Rattle.job_core.specs.States.{going, is_tolerant, last_stops};
 
-use crate::plans::OpenPlan;
-use store_data::{Class, Cursor, class};
+use store_data::{Class, Cursor, RecordPlan, class};
 
 /// The cursor at a command of the plan, or at its end.
-pub(crate) fn cursor_at(plan: &OpenPlan, count: usize) -> Option<Cursor>
+pub(crate) fn cursor_at(plan: &RecordPlan<'_>, count: usize) -> Option<Cursor>
     ensures value { result ≡ cursor_at plan.now count }
     ensures ranged { IfSome result IsCursor }
     ensures plan { IsPlan plan.now }
@@ -23,7 +22,7 @@ pub(crate) fn cursor_at(plan: &OpenPlan, count: usize) -> Option<Cursor>
 }
 
 /// Whether the plan has this many commands.
-pub(crate) fn ends_at(plan: &OpenPlan, count: usize) -> bool
+pub(crate) fn ends_at(plan: &RecordPlan<'_>, count: usize) -> bool
     ensures { result ≡ (count == length (commands_of plan.now)) }
 {
     match cursor_at(plan, count) {
@@ -33,7 +32,7 @@ pub(crate) fn ends_at(plan: &OpenPlan, count: usize) -> bool
 }
 
 // Whether a command of the plan is the last of a tolerant segment.
-fn is_tolerant(plan: &OpenPlan, place: usize) -> bool
+fn is_tolerant(plan: &RecordPlan<'_>, place: usize) -> bool
     ensures { result ≡ is_tolerant (slice_get (commands_of plan.now) place) }
 {
     match cursor_at(plan, place) {
@@ -49,7 +48,7 @@ fn is_tolerant(plan: &OpenPlan, place: usize) -> bool
 }
 
 /// Whether the last of the words does not go.
-pub(crate) fn last_stops(plan: &OpenPlan, words: &[u16]) -> bool
+pub(crate) fn last_stops(plan: &RecordPlan<'_>, words: &[u16]) -> bool
     ensures { result ≡ last_stops (commands_of plan.now) words.now }
 {
     if words.is_empty() {
@@ -69,7 +68,7 @@ fn goes_on(sw: u16, is_tolerant: bool) -> bool
 }
 
 /// How many of the words go.
-pub(crate) fn going(plan: &OpenPlan, words: &[u16]) -> usize
+pub(crate) fn going(plan: &RecordPlan<'_>, words: &[u16]) -> usize
     ensures { result ≡ going (commands_of plan.now) words.now }
 {
     if last_stops(plan, words) {

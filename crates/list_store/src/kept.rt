@@ -15,7 +15,8 @@ pub(crate) fn reply_of(
     client: &Name,
     number: u64,
 ) -> Result<Option<KeptReply>, StoreFault>
-    ensures value { IfOk result (λ answer. answer ≡ option_map reply_of_entry (entry_of rows.now client.now number)) }
+    ensures value { IfOk result
+        (λ answer. answer ≡ option_map reply_of_entry (entry_of rows.now client.now number)) }
     ensures cause { IfErr result (λ fault. fault ≡ Memory) }
 {
     for row in rows {
@@ -39,7 +40,8 @@ pub(crate) fn row(
     status: u16,
     body: &[u8],
 ) -> Result<KeptRow, StoreFault>
-    ensures value { IfOk result (λ row. row ≡ record { client = client.now; number = number; ask = ask.now; status = status; body = body.now }) }
+    ensures value { IfOk result
+        (λ row. row ≡ record { client = client.now; number = number; ask = ask.now; status = status; body = body.now }) }
     ensures cause { IfErr result (λ fault. fault ≡ Memory) }
 {
     Ok(KeptRow {

@@ -1,4 +1,5 @@
-//! A store of the facts and the kept replies in plain lists: the plain, slow program of what a store promises.
+//! A store of the facts and the kept replies in plain lists: the plain, slow program of what a
+//! store promises.
 #![tactic(auto)]
 
 mod accounts;
@@ -8,7 +9,6 @@ mod cursors;
 mod kept;
 mod lists;
 mod names;
-mod plans;
 mod records;
 mod segments;
 mod sessions;

@@ -2,36 +2,74 @@
 ghost use Rattle.std.specs.Prelude.{◌≡◌, ◌≤◌, ◌∷◌, All, IfErr, IfOk, bytes_eq, length, map};
 ghost use Rattle.std.specs.List.{list_any};
 ghost use Rattle.store_data.specs.Groups.{first_appearances};
-ghost use Rattle.store_data.specs.Sequence.{IsRow};
+ghost use Rattle.store_data.specs.Sequence.{IsProduct, IsRow};
 ghost use Rattle.store_data.specs.declared.row.Row.{Row as RowValue};
-ghost use Rattle.batch_import.specs.Batch.{records_of_rows};
+ghost use Rattle.batch_import.specs.Batch.{batch_of, records_of_rows};
+ghost use Rattle.batch_import.specs.SoundRecords.{AreSoundRecords};
 ghost use Rattle.job_core.specs.declared.store.StoreFault.TheVariants.{Memory};
 ghost use Rattle.job_core.specs.Rows.{batch_has, batch_row_of};
-ghost use Rattle.job_core.specs.States.{is_closed, plan_for, records_named, records_of, rows_of, rows_of_record};
+ghost use Rattle.job_core.specs.States.{is_closed, plan_for, records_named, records_of, rows_of, rows_of_record, rows_or_none};
 
 use crate::lists::{FactLists, KeptBatch};
 use crate::names::{batch_named, product_named};
-use crate::plans::OpenPlan;
 use batch_import::{ImportFault, Totals, check_batch, read_batch};
 use job_core::{BatchRow, StoreFault};
-use std::alloc::Global;
-use store_data::{Name, Row};
+use std::alloc::{AllocError, Global};
+use std::marker::Model;
+use store_data::{Name, Product, RecordPlan, Row, plan_of_sound};
+
+/// The rows of a record that has a plan, with the product of its batch. A clause sees the plan.
+#[derive(Drop)]
+pub(crate) struct RecordRows {
+    product: Product,
+    rows: Vec<Row>,
+}
+
+impl Model for RecordRows {
+    ghost use Rattle.store_data.specs.RecordFaults.{HavePlan};
+    ghost use Rattle.store_data.specs.Sequence.{Plan, plan_of};
+
+    ghost Value = { Plan };
+
+    ghost view = { λ r. plan_of r.product r.rows.items };
+
+    ghost invariant = { λ r. HavePlan r.product r.rows.items };
+}
+
+impl RecordRows {
+    pub(crate) fn plan(&self, alloc: Global) -> Result<RecordPlan<'_>, AllocError>
+        ensures { IfOk result (λ plan. plan ≡ self.now) }
+    {
+        plan_of_sound(alloc, self.rows.as_slice(), &self.product)
+    }
+}
+
+// The rows of a batch file that is read under a product; one with a fault has none.
+#[tactic(auto, unfolding(store_data::specs::Groups::grouped, store_data::specs::RecordFaults::record_fault))]
+fn rows_under(alloc: Global, product: &Product, raw: &[u8]) -> Result<Vec<Row>, StoreFault>
+    requires { IsProduct product.now }
+    ensures value { IfOk result (λ rows. rows.items ≡ rows_or_none (batch_of product.now raw.now)) }
+    ensures few { IfOk result (λ rows. length rows.items ≤ 4096) }
+    ensures each { IfOk result (λ rows. All IsRow rows.items) }
+    ensures sound { IfOk result (λ rows. AreSoundRecords product.now.max rows.items) }
+    ensures cause { IfErr result (λ fault. fault ≡ Memory) }
+{
+    match read_batch(alloc, raw, product) {
+        Ok(read) => Ok(read.rows),
+        Err(ImportFault::At(_)) => Ok(Vec::new(alloc)),
+        Err(ImportFault::Memory) => Err(StoreFault::Memory),
+    }
+}
 
 // The rows of a batch.
 #[tactic(auto, unfolding(job_core::specs::States::rows_of))]
 fn rows(alloc: Global, facts: &FactLists, batch: &KeptBatch) -> Result<Vec<Row>, StoreFault>
     ensures value { IfOk result (λ rows. rows.items ≡ rows_of facts.now.products batch.now) }
-    ensures few { IfOk result (λ rows. length rows.items ≤ 4096) }
-    ensures each { IfOk result (λ rows. All IsRow rows.items) }
     ensures cause { IfErr result (λ fault. fault ≡ Memory) }
 {
     match product_named(&facts.products, &batch.product) {
         None => Ok(Vec::new(alloc)),
-        Some(product) => match read_batch(alloc, batch.raw.as_slice(), &product) {
-            Ok(read) => Ok(read.rows),
-            Err(ImportFault::At(_)) => Ok(Vec::new(alloc)),
-            Err(ImportFault::Memory) => Err(StoreFault::Memory),
-        },
+        Some(product) => rows_under(alloc, &product, batch.raw.as_slice()),
     }
 }
 
@@ -103,27 +141,26 @@ fn rows_of_record(alloc: Global, rows: Vec<Row>, rec: &Name) -> Result<Vec<Row>,
     Ok(kept)
 }
 
-/// The plan of a record, if its batch and product are there.
-#[tactic(auto, unfolding(job_core::specs::States::plan_for))]
-pub(crate) fn record_plan(
+/// The rows of a record, if its batch and product are there.
+#[tactic(auto, unfolding(job_core::specs::States::plan_for, job_core::specs::States::rows_of))]
+pub(crate) fn record_rows(
     alloc: Global,
     facts: &FactLists,
     batch: &Name,
     rec: &Name,
-) -> Result<Option<OpenPlan>, StoreFault>
-    ensures value { IfOk result (λ plan. plan ≡ plan_for facts.now batch.now rec.now) }
+) -> Result<Option<RecordRows>, StoreFault>
+    ensures value { IfOk result (λ rows. rows ≡ plan_for facts.now batch.now rec.now) }
     ensures cause { IfErr result (λ fault. fault ≡ Memory) }
 {
     let Some(kept) = batch_named(&facts.batches, batch) else {
         return Ok(None);
     };
-    match product_named(&facts.products, &kept.product) {
-        None => Ok(None),
-        Some(product) => {
-            let rows = rows_of_record(alloc, rows(alloc, facts, kept)?, rec)?;
-            Ok(Some(OpenPlan::new(alloc, rows.as_slice(), &product)?))
-        }
-    }
+    let Some(product) = product_named(&facts.products, &kept.product) else {
+        return Ok(None);
+    };
+    let all = rows_under(alloc, &product, kept.raw.as_slice())?;
+    let rows = rows_of_record(alloc, all, rec)?;
+    Ok(Some(RecordRows { product, rows }))
 }
 
 // The records of these rows, by first appearance.

@@ -7,11 +7,10 @@ ghost use Rattle.store_data.specs.Cursor.{shown};
 
 use crate::kept::copied;
 use crate::lists::FactLists;
-use crate::plans::OpenPlan;
-use crate::records::record_plan;
+use crate::records::record_rows;
 use job_core::{SegmentRow, StoreFault};
 use std::alloc::Global;
-use store_data::{Aid, Name, SegmentView};
+use store_data::{Aid, Name, RecordPlan, SegmentView};
 
 /// A segment of a record, if the record has it.
 pub(crate) fn segment_row_of(
@@ -26,9 +25,10 @@ pub(crate) fn segment_row_of(
     ensures ranged { IfOk result (λ row. IfSome row (λ (row : SegmentRowValue). row.low ≤ 31)) }
     ensures cause { IfErr result (λ fault. fault ≡ Memory) }
 {
-    let Some(plan) = record_plan(alloc, facts, batch, rec)? else {
+    let Some(rows) = record_rows(alloc, facts, batch, rec)? else {
         return Ok(None);
     };
+    let plan = rows.plan(alloc)?;
     match plan.segment(app, segment) {
         None => Ok(None),
         Some(view) => Ok(Some(segment_row(alloc, &plan, &view)?)),
@@ -37,7 +37,7 @@ pub(crate) fn segment_row_of(
 
 fn segment_row(
     alloc: Global,
-    plan: &OpenPlan,
+    plan: &RecordPlan<'_>,
     view: &SegmentView<'_>,
 ) -> Result<SegmentRow, StoreFault>
     requires least { 5 ≤ length view.now.aid.now }

@@ -1,20 +1,19 @@
 //! Sessions, and how they stand by their words.
-ghost use Rattle.std.specs.Prelude.{◌≡◌, ◌∷◌, IfErr, IfOk, IfSome, length, option_copied};
+ghost use Rattle.std.specs.Prelude.{◌≡◌, ◌∷◌, IfErr, IfOk, IfSome, length, option_copied, unwrap_or};
 ghost use Rattle.store_data.specs.Cursor.{IsCursor};
-ghost use Rattle.store_data.specs.Sequence.{commands_of};
+ghost use Rattle.store_data.specs.Sequence.{commands_of, no_plan};
 ghost use Rattle.job_core.specs.declared.rows.SessionRow.{SessionRow as SessionRowValue};
 ghost use Rattle.job_core.specs.declared.store.StoreFault.TheVariants.{Memory};
 ghost use Rattle.job_core.specs.Rows.{session_row, session_row_of};
-ghost use Rattle.job_core.specs.States.{running_session, session_cursor, session_numbered, session_state, state_with};
-ghost use Rattle.list_store.specs.Sessions.{cursor_after, plan_of_session, running_from};
+ghost use Rattle.job_core.specs.States.{running_session, session_numbered, session_state, state_with};
+ghost use Rattle.list_store.specs.Sessions.{cursor_after, running_from};
 
 use crate::cursors::{cursor_at, ends_at, going, last_stops};
 use crate::lists::{FactLists, KeptSession};
-use crate::plans::OpenPlan;
-use crate::records::record_plan;
+use crate::records::{RecordRows, record_rows};
 use job_core::{SessionRow, SessionState, StoreFault};
-use std::alloc::Global;
-use store_data::{Cursor, Name};
+use std::alloc::{AllocError, Global};
+use store_data::{Cursor, Name, RecordPlan};
 
 /// The session of a number, from 1.
 pub(crate) fn session_numbered(sessions: &[KeptSession], number: u64) -> Option<&KeptSession>
@@ -27,7 +26,7 @@ pub(crate) fn session_numbered(sessions: &[KeptSession], number: u64) -> Option<
 }
 
 // The state of a session whose record has this plan.
-fn state_under(plan: &OpenPlan, session: &KeptSession) -> SessionState
+fn state_under(plan: &RecordPlan<'_>, session: &KeptSession) -> SessionState
     ensures { result ≡ state_with (commands_of plan.now) session.now }
 {
     if session.ended || last_stops(plan, &session.words) {
@@ -40,7 +39,7 @@ fn state_under(plan: &OpenPlan, session: &KeptSession) -> SessionState
 }
 
 // Where the card of a session stands whose record has this plan.
-fn cursor_under(plan: &OpenPlan, session: &KeptSession) -> Cursor
+fn cursor_under(plan: &RecordPlan<'_>, session: &KeptSession) -> Cursor
     ensures value { result ≡ cursor_after plan.now session.now }
     ensures ranged { IsCursor result }
 {
@@ -55,23 +54,20 @@ fn cursor_under(plan: &OpenPlan, session: &KeptSession) -> Cursor
     }
 }
 
-// The plan of a session's record, or one without commands.
-fn plan_of_session(
+// The plan of a record's rows, or one without commands.
+fn plan_or_none<'a>(
     alloc: Global,
-    facts: &FactLists,
-    session: &KeptSession,
-) -> Result<OpenPlan, StoreFault>
-    ensures value { IfOk result (λ plan. plan ≡ plan_of_session facts.now session.now) }
-    ensures cause { IfErr result (λ fault. fault ≡ Memory) }
+    rows: &'a Option<RecordRows>,
+) -> Result<RecordPlan<'a>, AllocError>
+    ensures { IfOk result (λ plan. plan ≡ unwrap_or rows.now no_plan) }
 {
-    match record_plan(alloc, facts, &session.batch, &session.rec)? {
-        None => Ok(OpenPlan::empty(alloc)),
-        Some(plan) => Ok(plan),
+    match rows {
+        None => Ok(RecordPlan::empty(alloc)),
+        Some(rows) => rows.plan(alloc),
     }
 }
 
 /// The state of a session.
-#[tactic(auto, using(crate::proofs::SessionLemmas::state_under_plan))]
 pub(crate) fn session_state(
     alloc: Global,
     facts: &FactLists,
@@ -80,25 +76,12 @@ pub(crate) fn session_state(
     ensures value { IfOk result (λ state. state ≡ session_state facts.now session.now) }
     ensures cause { IfErr result (λ fault. fault ≡ Memory) }
 {
-    let plan = plan_of_session(alloc, facts, session)?;
+    let rows = record_rows(alloc, facts, &session.batch, &session.rec)?;
+    let plan = plan_or_none(alloc, &rows)?;
     Ok(state_under(&plan, session))
 }
 
-// Where the card of a session stands.
-#[tactic(auto, using(crate::proofs::SessionLemmas::cursor_under_plan))]
-fn session_cursor(
-    alloc: Global,
-    facts: &FactLists,
-    session: &KeptSession,
-) -> Result<Cursor, StoreFault>
-    ensures value { IfOk result (λ cursor. cursor ≡ session_cursor facts.now session.now) }
-    ensures ranged { IfOk result IsCursor }
-    ensures cause { IfErr result (λ fault. fault ≡ Memory) }
-{
-    let plan = plan_of_session(alloc, facts, session)?;
-    Ok(cursor_under(&plan, session))
-}
-
+#[tactic(auto, using(crate::proofs::SessionLemmas::state_under_plan, crate::proofs::SessionLemmas::cursor_under_plan))]
 fn session_row(
     alloc: Global,
     facts: &FactLists,
@@ -108,13 +91,15 @@ fn session_row(
     ensures ranged { IfOk result (λ (row : SessionRowValue). IsCursor row.cursor) }
     ensures cause { IfErr result (λ fault. fault ≡ Memory) }
 {
+    let rows = record_rows(alloc, facts, &session.batch, &session.rec)?;
+    let plan = plan_or_none(alloc, &rows)?;
     Ok(SessionRow {
         machine: session.machine,
         batch: session.batch,
         rec: session.rec,
-        stands: session_state(alloc, facts, session)?,
+        stands: state_under(&plan, session),
         words: session.words.len() as u64,
-        cursor: session_cursor(alloc, facts, session)?,
+        cursor: cursor_under(&plan, session),
     })
 }
 
@@ -125,7 +110,8 @@ pub(crate) fn session_row_of(
     number: u64,
 ) -> Result<Option<SessionRow>, StoreFault>
     ensures value { IfOk result (λ row. row ≡ session_row_of facts.now number) }
-    ensures ranged { IfOk result (λ row. IfSome row (λ (row : SessionRowValue). IsCursor row.cursor)) }
+    ensures ranged { IfOk result
+        (λ row. IfSome row (λ (row : SessionRowValue). IsCursor row.cursor)) }
     ensures cause { IfErr result (λ fault. fault ≡ Memory) }
 {
     match session_numbered(&facts.sessions, number) {
@@ -154,7 +140,8 @@ fn running_among(
     sessions: &[KeptSession],
     machine: &Name,
 ) -> Result<Option<u64>, StoreFault>
-    ensures value { IfOk result (λ number. number ≡ running_from facts.now machine.now 1 sessions.now) }
+    ensures value { IfOk result
+        (λ number. number ≡ running_from facts.now machine.now 1 sessions.now) }
     ensures cause { IfErr result (λ fault. fault ≡ Memory) }
 {
     for (place, session) in sessions.iter().enumerate() {

@@ -2,8 +2,9 @@
 ghost use Rattle.std.specs.Prelude.{◌≡◌, ◌∷◌, ◌&&◌, IfErr, IfOk, bytes_eq, count_by, filter, find, map};
 ghost use Rattle.std.specs.List.{list_all, list_any};
 ghost use Rattle.job_core.specs.declared.store.StoreFault.TheVariants.{Memory};
+ghost use Rattle.job_core.specs.Accounts.{count_sessions};
 ghost use Rattle.list_store.specs.Sessions.{sessions_of_record};
-ghost use Rattle.job_core.specs.States.{first_waiting, is_batch_finished, is_finished, is_good, is_record, is_running, is_spoiled, is_waiting, record_state, record_state_of, session_state, state_by, states_of};
+ghost use Rattle.job_core.specs.States.{first_waiting, is_batch_finished, is_finished, is_record, is_waiting, record_state, record_state_of, same_session_state, session_state, state_by, states_of};
 
 use crate::lists::{FactLists, KeptRecord, KeptSession};
 use crate::records::{has_name, record_names};
@@ -20,7 +21,9 @@ pub(crate) fn states_among(
     batch: &Name,
     rec: &Name,
 ) -> Result<Vec<SessionState>, StoreFault>
-    ensures value { IfOk result (λ states. states.items ≡ map (session_state facts.now) (sessions_of_record sessions.now batch.now rec.now)) }
+    ensures value { IfOk result
+        (λ states. states.items
+        ≡ map (session_state facts.now) (sessions_of_record sessions.now batch.now rec.now)) }
     ensures cause { IfErr result (λ fault. fault ≡ Memory) }
 {
     let mut states = Vec::new(alloc);
@@ -54,42 +57,30 @@ fn count_of(records: &[KeptRecord], batch: &Name, rec: &Name) -> u64
         .count() as u64
 }
 
-/// How many of the sessions are spoiled.
-pub(crate) fn count_spoiled(states: &[SessionState]) -> u64
-    ensures { result ≡ count_by is_spoiled states.now }
+/// How many sessions stand so.
+pub(crate) fn count_sessions(states: &[SessionState], state: SessionState) -> u64
+    ensures { result ≡ count_sessions states.now state }
 {
-    states
-        .iter()
-        .filter(|state| matches!(state, SessionState::Spoiled))
-        .count() as u64
+    states.iter().filter(|other| **other == state).count() as u64
 }
 
-fn has_good(states: &[SessionState]) -> bool
-    ensures { result ≡ list_any is_good states.now }
+// Whether a session stands so.
+fn has_session(states: &[SessionState], state: SessionState) -> bool
+    ensures { result ≡ list_any (same_session_state state) states.now }
 {
-    states
-        .iter()
-        .any(|state| matches!(state, SessionState::Good))
-}
-
-fn has_running(states: &[SessionState]) -> bool
-    ensures { result ≡ list_any is_running states.now }
-{
-    states
-        .iter()
-        .any(|state| matches!(state, SessionState::Running))
+    states.iter().any(|other| *other == state)
 }
 
 fn state_by(states: &[SessionState], withdrawn: bool, remakes: u64) -> RecordState
     ensures { result ≡ state_by states.now withdrawn remakes }
 {
-    if has_good(states) {
+    if has_session(states, SessionState::Good) {
         RecordState::Good
-    } else if has_running(states) {
+    } else if has_session(states, SessionState::Running) {
         RecordState::Running
     } else if withdrawn {
         RecordState::Withdrawn
-    } else if remakes < count_spoiled(states) {
+    } else if remakes < count_sessions(states, SessionState::Spoiled) {
         RecordState::Failed
     } else {
         RecordState::Waiting
@@ -153,7 +144,8 @@ fn waiting_among(
     batch: &Name,
     names: &[Name],
 ) -> Result<Option<Name>, StoreFault>
-    ensures value { IfOk result (λ rec. rec ≡ find (λ r. is_waiting (record_state facts.now batch.now r)) names.now) }
+    ensures value { IfOk result
+        (λ rec. rec ≡ find (λ r. is_waiting (record_state facts.now batch.now r)) names.now) }
     ensures cause { IfErr result (λ fault. fault ≡ Memory) }
 {
     for rec in names {
@@ -191,7 +183,9 @@ fn are_finished(
     batch: &Name,
     names: &[Name],
 ) -> Result<bool, StoreFault>
-    ensures value { IfOk result (λ finished. finished ≡ list_all (λ r. is_finished (record_state facts.now batch.now r)) names.now) }
+    ensures value { IfOk result
+        (λ finished. finished ≡ list_all
+        (λ r. is_finished (record_state facts.now batch.now r)) names.now) }
     ensures cause { IfErr result (λ fault. fault ≡ Memory) }
 {
     for rec in names {

@@ -8,7 +8,8 @@ use job_core::{
 use std::alloc::Global;
 use store_data::{Name, Product};
 
-/// The facts and the kept replies, the oldest first. It has no device, so that it only ever lacks memory.
+/// The facts and the kept replies, the oldest first. It has no device, so that it only ever lacks
+/// memory.
 #[derive(Drop)]
 pub struct ListStore {
     alloc: Global,

@@ -1,5 +1,5 @@
 -- The text of a command's line, and of a batch.
-use Rattle.std.proofs.Common.{◌≡◌, ℕ, ◌+◌, ◌/◌, ◌%◌, ◌<◌, List, [], ◌∷◌, ◌++◌, length, take, get_or, set, map, All, refl, sym, subst, ap, ◌∙◌, arith}
+use Rattle.std.proofs.Common.{◌≡◌, ℕ, ◌+◌, ◌/◌, ◌%◌, ◌<◌, List, [], ◌∷◌, ◌++◌, length, take, get_or, set, map, All, None, refl, sym, subst, ap, ◌∙◌, arith}
 use Rattle.std.specs.Prelude.{slice_index}
 use Rattle.std.specs.List.{flat_map}
 use Rattle.std.proofs.lemmas.Grind.{take-set_at}
@@ -8,8 +8,10 @@ use Rattle.store_data.specs.Groups.{grouped}
 use Rattle.store_data.specs.Sequence.{AreRows}
 use Rattle.store_data.specs.declared.row.Product.{Product}
 use Rattle.store_data.specs.declared.row.Row.{Row}
-use Rattle.store_data.proofs.FaultLemmas.{All-from_map}
+use Rattle.store_data.specs.RecordFaults.{record_fault}
+use Rattle.store_data.proofs.FaultLemmas.{All-from_map, grouped_each}
 use Rattle.batch_import.specs.Outlines.{AreBatchRows}
+use Rattle.batch_import.specs.SoundRecords.{AreSoundRecords}
 use Rattle.plan_print.specs.Printed.{command_lines, planned_of, printed, record_text, text_of}
 use Rattle.plan_print.specs.declared.print.Planned.{Planned}
 use Rattle.plan_print.proofs.TextLemmas.{hex_more, record_key, record_rows}
@@ -40,3 +42,10 @@ printed_of p view vs rows plans groups planned = ap (flat_map text_of) planned �
 -- the rows of each record of a batch are those of a record
 pub rows_of_records : {V : Type 0} (view : V → List Row) (vs : List V) (rows : List Row) → AreBatchRows rows → map view vs ≡ grouped record_key rows → All (λ v. AreRows (view v)) vs
 rows_of_records view vs rows fits groups = All-from_map view AreRows vs (subst (All AreRows) (sym groups) (record_rows rows fits))
+
+-- and have no fault
+pub sound_records : {V : Type 0} (m : ℕ) (view : V → List Row) (vs : List V) (rows : List Row) → AreSoundRecords m rows → map view vs ≡ grouped record_key rows
+    → All (λ v. record_fault m (view v) ≡ None) vs
+sound_records m view vs rows sound groups =
+    let P : List Row → Type 0 = λ own. record_fault m own ≡ None in
+    All-from_map view P vs (subst (All P) (sym groups) (grouped_each record_key P rows sound))

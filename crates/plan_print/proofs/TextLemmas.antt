@@ -1,7 +1,7 @@
--- The text that `persod plan` prints, and its input.
+-- The text that `persod plan` prints.
 use Rattle.std.proofs.Common.{◌≡◌, ℕ, ◌+◌, ◌<◌, ◌≤◌, ◌/◌, ◌%◌, List, [], ◌∷◌, ◌++◌, length, take, get_or, All, Option, Some, None, option_map, unwrap_or, IfSome, refl, sym, ap, ◌∙◌, arith}
 use Rattle.std.specs.Prelude.{bytes_eq, slice_index}
-use Rattle.std.proofs.lemmas.List.{append_assoc, length-take, take_all, take_more}
+use Rattle.std.proofs.lemmas.List.{append_assoc, take_more}
 use Rattle.std.proofs.lemmas.List.Sums.{length-filter, count_by-le-length}
 use Rattle.hex.specs.Hex.{encode_with, encode_upper, upper_digits}
 use Rattle.store_data.specs.Groups.{grouped}
@@ -10,7 +10,7 @@ use Rattle.store_data.specs.declared.row.Row.{Row}
 use Rattle.store_data.proofs.FaultLemmas.{grouped_each}
 use Rattle.store_data.proofs.IsPlanLemmas.{All-grouped}
 use Rattle.batch_import.specs.Outlines.{AreBatchRows}
-use Rattle.plan_print.specs.PlanEnds.{Tells}
+use Rattle.text_io.specs.Inputs.{Tells}
 
 -- ---- hexadecimal
 
@@ -35,20 +35,6 @@ hex_more start bytes text first second i b high low inside is so_far of_high of_
 pub tells_some : (known : Option (List ℕ)) → Tells known (unwrap_or known [])
 tells_some None = tt
 tells_some (Some all) = refl
-
-pub tells_whole : (known : Option (List ℕ)) (limit : ℕ) (old items : List ℕ) → old ≡ [] → IfSome (option_map (take limit) known) (λ xs. items ≡ old ++ xs)
-    → length items < limit → Tells known items
-tells_whole None limit old items empty read few = tt
-tells_whole (Some all) limit old items empty read few =
-    let taken : items ≡ take limit all = read ∙ ap (λ ys. ys ++ take limit all) empty in
-    sym (taken ∙ take_all limit all (omega (arith, ap length taken, length-take limit all)))
-
-pub tells_over : (known : Option (List ℕ)) (limit : ℕ) (old items : List ℕ) → old ≡ [] → IfSome (option_map (take limit) known) (λ xs. items ≡ old ++ xs)
-    → limit ≤ length items → (raw : List ℕ) × Tells known raw × (limit ≤ length raw)
-tells_over None limit old items empty read many = (items, tt, many)
-tells_over (Some all) limit old items empty read many =
-    let taken : items ≡ take limit all = read ∙ ap (λ ys. ys ++ take limit all) empty in
-    (all, refl, omega (arith, ap length taken, length-take limit all))
 
 -- ---- records
 

@@ -1,5 +1,5 @@
 -- How `persod plan` ends.
-use Rattle.std.specs.Prelude.{◌≡◌, ◌<◌, ◌≤◌, ⊤, ℕ, List, length, map, Option, IfSome, Result, Ok, Err}
+use Rattle.std.specs.Prelude.{◌≡◌, ◌<◌, ◌≤◌, ⊤, ℕ, List, length, map, Option, Result, Ok, Err}
 use Rattle.std.specs.Prelude.{Vec}
 use Rattle.std.specs.Global.{Global}
 use Rattle.std.specs.Io.KnownBytes.{Appends, Keeps}
@@ -9,8 +9,11 @@ use Rattle.store_data.specs.declared.row.Product.{Product}
 use Rattle.store_data.specs.declared.row.Row.{Row}
 use Rattle.batch_import.specs.Batch.{batch_of}
 use Rattle.batch_import.specs.Outlines.{AreBatchRows}
+use Rattle.batch_import.specs.SoundRecords.{AreSoundRecords}
 use Rattle.store_data.specs.Groups.{grouped}
-use Rattle.text_writer.specs.Written.{AppendsBeginning}
+use Rattle.text_io.specs.Written.{AppendsBeginning}
+use Rattle.text_io.specs.declared.reading.ReadFault.{ReadFault}
+use Rattle.text_io.specs.declared.reading.ReadFault.TheVariants as read
 use Rattle.plan_print.specs.Printed.{printed}
 use Rattle.plan_print.specs.declared.plan.PlanStop.{PlanStop}
 use Rattle.plan_print.specs.declared.plan.PlanStop.TheVariants as stop
@@ -18,10 +21,6 @@ use Rattle.plan_print.specs.declared.plan.PlanStop.TheVariants as stop
 -- the most bytes of a batch (this project's profile)
 abbrev pub most_input : ℕ
 most_input = 1048576
-
--- the input is these bytes, where it is known
-abbrev pub Tells : Option (List ℕ) → List ℕ → Type 0
-Tells known raw = IfSome known (λ told. told ≡ raw)
 
 -- for the input `raw` the text of its batch was written, a beginning of it where the writer failed, or nothing and a refusal
 abbrev pub PlanEnds : Product → List ℕ → Option (List ℕ) → Option (List ℕ) → Result (Unit {0}) PlanStop → Type 0
@@ -33,6 +32,10 @@ PlanEnds p raw before after (Err stop.ReadFailed) = Keeps before after
 PlanEnds p raw before after (Err stop.Memory) = Keeps before after
 
 -- ---- the steps on the way
+
+abbrev pub unread : ReadFault → PlanStop
+unread read.Failed = stop.ReadFailed
+unread read.Memory = stop.Memory
 
 abbrev pub stop_of : ImportFault → PlanStop
 stop_of (fault.At f) = stop.Refused f
@@ -49,7 +52,9 @@ ReadsInput raw (Err (stop.Refused f)) = ⊥
 
 -- the rows of each record of a batch, or its fault
 abbrev pub GroupsBatch : Product → List ℕ → Result (Vec (Vec Row Global) Global) PlanStop → Type 0
-GroupsBatch p raw (Ok records) = (rows : List Row) × (batch_of p raw ≡ Ok rows) × AreBatchRows rows × (map (λ v. v.items) records.items ≡ grouped (λ (row : Row). row.rec) rows)
+GroupsBatch p raw (Ok records) =
+    (rows : List Row) × (batch_of p raw ≡ Ok rows) × AreBatchRows rows × AreSoundRecords p.max rows
+    × (map (λ v. v.items) records.items ≡ grouped (λ (row : Row). row.rec) rows)
 GroupsBatch p raw (Err (stop.Refused f)) = batch_of p raw ≡ Err f
 GroupsBatch p raw (Err stop.Memory) = ⊤
 GroupsBatch p raw (Err stop.TooLarge) = ⊥

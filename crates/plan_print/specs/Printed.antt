@@ -2,7 +2,7 @@
 use Rattle.std.specs.Prelude.{ℕ, List, [], ◌∷◌, ◌++◌, codes}
 use Rattle.std.specs.List.{flat_map}
 use Rattle.hex.specs.Hex.{encode_upper}
-use Rattle.text_writer.specs.Written.{line}
+use Rattle.text_io.specs.Written.{line}
 use Rattle.store_data.specs.Groups.{grouped}
 use Rattle.store_data.specs.Sequence.{Plan, plan_of, sequence, sequence_of}
 use Rattle.plan_print.specs.declared.print.Planned.{Planned}

@@ -1,20 +1,22 @@
 //! `persod plan`: from the bytes of a batch to the printed commands.
-ghost use Rattle.std.specs.Prelude.{◌≡◌, ℕ, List, All, map, IfOk};
+ghost use Rattle.std.specs.Prelude.{◌≡◌, ℕ, List, All, None, map, IfOk};
 ghost use Rattle.std.specs.List.{flat_map};
+ghost use Rattle.store_data.specs.RecordFaults.{record_fault};
 ghost use Rattle.store_data.specs.Sequence.{AreRows, IsProduct};
-ghost use Rattle.text_writer.specs.Written.{Writes};
-ghost use Rattle.plan_print.specs.PlanEnds.{GroupsBatch, PlanEnds, ReadsInput, Tells};
+ghost use Rattle.text_io.specs.Inputs.{Tells};
+ghost use Rattle.text_io.specs.Written.{Writes};
+ghost use Rattle.plan_print.specs.PlanEnds.{GroupsBatch, PlanEnds, ReadsInput};
 ghost use Rattle.plan_print.specs.Printed.{planned_of, text_of};
 
 use crate::print::{Planned, write_record};
 use batch_import::{ImportFault, RowFault, read_batch};
 use std::alloc::{AllocError, Global};
-use std::io::{ErrorKind, Read, Write};
-use store_data::{Product, Row, grouped, plan};
-use text_writer::WriteFailed;
+use std::io::{Read, Write};
+use store_data::{Product, Row, grouped, plan_of_sound};
+use text_io::{ReadFault, WriteFailed, read_within};
 
 /// The most bytes of a batch (this project's profile).
-const MOST_INPUT: u64 = 1_048_576;
+const MOST_INPUT: u32 = 1_048_576;
 
 /// Why `persod plan` stopped.
 #[derive(Clone, Copy, Debug, PartialEq, Eq)]
@@ -54,6 +56,19 @@ impl From<AllocError> for PlanStop {
     }
 }
 
+impl From<ReadFault> for PlanStop {
+    ghost use Rattle.plan_print.specs.PlanEnds.{unread};
+
+    ghost from_gives = { λ fault stop. stop ≡ unread fault };
+
+    fn from(fault: ReadFault) -> PlanStop {
+        match fault {
+            ReadFault::Failed => PlanStop::ReadFailed,
+            ReadFault::Memory => PlanStop::Memory,
+        }
+    }
+}
+
 impl From<WriteFailed> for PlanStop {
     ghost use Rattle.plan_print.specs.declared.plan.PlanStop.TheVariants.{WriteFailed};
 
@@ -64,8 +79,11 @@ impl From<WriteFailed> for PlanStop {
     }
 }
 
-/// Prints the commands of the batch that the reader gives: for each record its name line, and its command sequence in
-/// upper case hexadecimal. It writes only after every record was planned.
+/// Prints the commands of the batch that the reader gives: for each record its name line, and its
+/// command sequence in upper case hexadecimal, a line each (EMV CPS 1.1; this project's profile).
+///
+/// It writes only after every record was planned, and leaves it to the caller to flush. Errors: the
+/// first fault of the batch; over 1,048,576 bytes; a read or a write that fails; refused memory.
 pub fn plan_engine<R: Read, W: Write>(
     alloc: Global,
     product: &Product,
@@ -87,13 +105,9 @@ pub fn plan_engine<R: Read, W: Write>(
 fn input<R: Read>(alloc: Global, reader: &mut R) -> Result<Vec<u8>, PlanStop>
     ensures { (raw : List ℕ) × Tells (R.remaining reader.old) raw × ReadsInput raw result }
 {
-    let mut raw = Vec::new(alloc);
-    let mut limited = (&mut *reader).take(MOST_INPUT + 1);
-    match limited.read_to_end(&mut raw) {
-        Ok(_) if raw.len() as u64 > MOST_INPUT => Err(PlanStop::TooLarge),
-        Ok(_) => Ok(raw),
-        Err(error) if error.kind() == ErrorKind::OutOfMemory => Err(PlanStop::Memory),
-        Err(_) => Err(PlanStop::ReadFailed),
+    match read_within(alloc, reader, MOST_INPUT)? {
+        Some(raw) => Ok(raw),
+        None => Err(PlanStop::TooLarge),
     }
 }
 
@@ -106,7 +120,7 @@ fn records(alloc: Global, product: &Product, raw: &[u8]) -> Result<Vec<Vec<Row>>
     Ok(grouped(alloc, batch.rows)?)
 }
 
-// The plan of each record. A record of a batch has a plan, so that it fails for memory alone.
+// The plan of each record.
 fn plans<'a>(
     alloc: Global,
     product: &Product,
@@ -114,7 +128,9 @@ fn plans<'a>(
 ) -> Result<Vec<Planned<'a>>, AllocError>
     requires product { IsProduct product.now }
     requires records { All (λ v. AreRows v.items) records.now }
-    ensures { IfOk result (λ plans. plans.items ≡ map (λ v. planned_of product.now v.items) records.now) }
+    requires sound { All (λ v. record_fault product.now.max v.items ≡ None) records.now }
+    ensures { IfOk result
+        (λ plans. plans.items ≡ map (λ v. planned_of product.now v.items) records.now) }
 {
     let mut plans = Vec::with_capacity(alloc, records.len())?;
     for rows in records {
@@ -126,15 +142,14 @@ fn plans<'a>(
 fn planned<'a>(alloc: Global, product: &Product, rows: &'a [Row]) -> Result<Planned<'a>, AllocError>
     requires product { IsProduct product.now }
     requires rows { AreRows rows.now }
+    requires sound { record_fault product.now.max rows.now ≡ None }
     ensures { IfOk result (λ planned. planned ≡ planned_of product.now rows.now) }
 {
-    match plan(alloc, rows, product) {
-        Ok(plan) => Ok(Planned {
-            name: rows[0].rec,
-            plan,
-        }),
-        Err(_) => Err(AllocError),
-    }
+    let plan = plan_of_sound(alloc, rows, product)?;
+    Ok(Planned {
+        name: rows[0].rec,
+        plan,
+    })
 }
 
 // Writes the lines of each record, or a beginning of them where the writer fails.
@@ -144,8 +159,5 @@ fn print<W: Write>(writer: &mut W, plans: &[Planned<'_>]) -> Result<(), WriteFai
     for record in plans {
         write_record(writer, record)?;
     }
-    match writer.flush() {
-        Ok(()) => Ok(()),
-        Err(_) => Err(WriteFailed),
-    }
+    Ok(())
 }

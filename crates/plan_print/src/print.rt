@@ -1,12 +1,12 @@
 //! Printing a plan: a record's name line, and each command by the cursor, a line each.
 ghost use Rattle.std.specs.Prelude.{◌≡◌, ◌+◌, ◌*◌, ◌++◌, ◌<◌, ◌≤◌, length, slice_index, take, codes};
 ghost use Rattle.hex.specs.Hex.{encode_upper, upper_digits};
-ghost use Rattle.text_writer.specs.Written.{Writes, line};
+ghost use Rattle.text_io.specs.Written.{Writes, line};
 ghost use Rattle.plan_print.specs.Printed.{command_lines, text_of};
 
 use std::io::Write;
 use store_data::{Cursor, Name, RecordPlan, count};
-use text_writer::{WriteFailed, write_text};
+use text_io::{WriteFailed, write_text};
 
 const UPPER_DIGITS: [u8; 16] = *b"0123456789ABCDEF";
 

@@ -1,5 +1,5 @@
 -- The plain machine hands out commands in the order of their sequence.
-use Rattle.std.proofs.Common.{◌≡◌, ◌∙◌, ◌+◌, ◌==◌, ◌&&◌, ℕ, Bool, true, false, List, length, Option, Some, None, Result, Ok, Err, refl, sym, ap}
+use Rattle.std.proofs.Common.{◌≡◌, ◌∙◌, ◌+◌, ◌==◌, ℕ, Bool, true, false, List, length, Option, Some, None, Result, Ok, Err, refl, sym, ap}
 use Rattle.std.specs.Prelude.{bytes_eq, not, nat_le, slice_get}
 use Rattle.std.proofs.lemmas.Bool.{cond_both, false≢true}
 use borrow.Author.Tests.{eqb-true}
@@ -13,10 +13,9 @@ use Rattle.job_core.specs.declared.facts.RecordState.TheVariants as rec
 use Rattle.job_core.specs.declared.request.Request.{Request}
 use Rattle.job_core.specs.declared.request.Request.TheVariants as request
 use Rattle.job_core.specs.declared.reply.Reply.{Reply}
-use Rattle.job_core.specs.Facts.{Facts, Session}
-use Rattle.job_core.specs.Rows.{batch_has, batch_row_of}
-use Rattle.job_core.specs.States.{any_overlaps, command_bytes, commands_for, first_waiting, goes_at, is_batch_finished, is_charged, is_running, lot_named, lot_of, product_named, record_state_of, running_session, session_numbered, session_state}
-use Rattle.job_core.specs.Steps.{Outcome, by_option, in_batch, in_session, remade, same_lot, same_product, step, step_answer, step_import, step_lot, step_open, step_product, taken_in, withdrawn}
+use Rattle.job_core.specs.Facts.{Batch, Facts, Session}
+use Rattle.job_core.specs.States.{any_overlaps, batch_named, command_bytes, commands_for, first_waiting, goes_at, is_batch_finished, is_charged, is_closed, is_running, lot_named, lot_of, product_named, record_state_of, running_session, session_numbered, session_state}
+use Rattle.job_core.specs.Steps.{Outcome, by_option, in_batch, in_record, in_session, remade, same_batch, same_lot, same_product, step, step_answer, step_import, step_lot, step_open, step_product, taken_in, withdrawn}
 use Rattle.job_core.specs.Sound.{IsSound}
 use Rattle.reply_store.specs.Commands.{HandsOutNext}
 use Rattle.reply_store.proofs.Sequences.{first_command, next_command}
@@ -48,21 +47,23 @@ taken_fits f b p raw (Err fault) = tt
 
 import_fits : (f : Facts) (b p raw : List ℕ) → Fits f (step_import f b p raw)
 import_fits f b p raw =
-    option_both (batch_row_of f b) _ _ (Fits f)
+    option_both (batch_named f.batches b) _ _ (Fits f)
     (option_both (product_named f.products p) _ _ (Fits f) tt (λ kept is.
     cond_both {A = Outcome} (nat_le 4096 (length f.batches)) _ _ (Fits f) (λ yes. tt) (λ no. taken_fits f b p raw (batch_of kept raw))))
-    (λ row is. cond_both {A = Outcome} (bytes_eq row.product p && batch_has f b raw) _ _ (Fits f) (λ yes. tt) (λ no. tt))
+    (λ kept is. cond_both {A = Outcome} (same_batch kept p raw) _ _ (Fits f) (λ yes. tt) (λ no. tt))
+
+-- a batch that is not closed
+batch_fits : (f : Facts) (b : List ℕ) (act : Batch → Outcome) → ((kept : Batch) → Fits f (act kept)) → Fits f (in_batch f b act)
+batch_fits f b act fits = option_both (batch_named f.batches b) _ _ (Fits f) tt (λ kept is. cond_both {A = Outcome} (is_closed f b) _ _ (Fits f) (λ yes. tt) (λ no. fits kept))
 
 open_fits : (f : Facts) (machine b : List ℕ) (blank : ℕ) → Fits f (step_open f machine b blank)
-open_fits f machine b blank =
-    option_both (batch_row_of f b) _ _ (Fits f) tt (λ row is.
-    cond_both {A = Outcome} row.is_closed _ _ (Fits f) (λ yes. tt) (λ no.
+open_fits f machine b blank = batch_fits f b _ (λ kept.
     option_both (running_session f machine) _ _ (Fits f)
     (option_both (lot_of f.lots blank) _ _ (Fits f) tt (λ l there.
-    cond_both {A = Outcome} (not (bytes_eq l.product row.product)) _ _ (Fits f) (λ yes. tt) (λ no.
+    cond_both {A = Outcome} (not (bytes_eq l.product kept.product)) _ _ (Fits f) (λ yes. tt) (λ no.
     cond_both {A = Outcome} (is_charged f blank) _ _ (Fits f) (λ yes. tt) (λ no.
     option_both (first_waiting f b) _ _ (Fits f) tt (λ r first. let c = first_command f b r first in (c.0, c.1, ap command_bytes c.1))))))
-    (λ s runs. tt)))
+    (λ s runs. tt))
 
 is_true : (b : Bool) → not b ≡ false → b ≡ true
 is_true true h = refl
@@ -92,22 +93,17 @@ answer_fits f sound client s k sw = session_fits f client s _ (λ x is runs.
     (λ stops. tt))
     (λ out_of_turn. tt))
 
-batch_fits : (f : Facts) (b : List ℕ) (act : Outcome) → Fits f act → Fits f (in_batch f b act)
-batch_fits f b act fits = option_both (batch_row_of f b) _ _ (Fits f) tt (λ row is. cond_both {A = Outcome} row.is_closed _ _ (Fits f) (λ yes. tt) (λ no. fits))
-
 remade_fits : (f : Facts) (b r : List ℕ) (state : RecordState) → Fits f (remade f b r state)
 remade_fits f b r rec.Failed = tt
-remade_fits f b r rec.Waiting = tt
-remade_fits f b r rec.Running = tt
-remade_fits f b r rec.Withdrawn = tt
-remade_fits f b r rec.Good = tt
+remade_fits f b r _ = tt
 
 withdrawn_fits : (f : Facts) (b r : List ℕ) (state : RecordState) → Fits f (withdrawn f b r state)
 withdrawn_fits f b r rec.Failed = tt
 withdrawn_fits f b r rec.Waiting = tt
-withdrawn_fits f b r rec.Running = tt
-withdrawn_fits f b r rec.Withdrawn = tt
-withdrawn_fits f b r rec.Good = tt
+withdrawn_fits f b r _ = tt
+
+record_fits : (f : Facts) (b r : List ℕ) (act : RecordState → Outcome) → ((state : RecordState) → Fits f (act state)) → Fits f (in_record f b r act)
+record_fits f b r act fits = batch_fits f b _ (λ kept. option_both (record_state_of f b r) _ _ (Fits f) tt (λ state is. fits state))
 
 pub hands_out_next : (f : Facts) → IsSound f → (client : List ℕ) (r : Request) → HandsOutNext f (step f client r).1
 unfolding step
@@ -120,6 +116,6 @@ hands_out_next f sound client (request.Abort s) = session_fits f client s _ (λ 
 hands_out_next f sound client request.Reset = option_both (running_session f client) _ _ (Fits f) tt (λ s is. tt)
 hands_out_next f sound client (request.Discard blank) =
     option_both (lot_of f.lots blank) _ _ (Fits f) tt (λ l is. cond_both {A = Outcome} (is_charged f blank) _ _ (Fits f) (λ yes. tt) (λ no. tt))
-hands_out_next f sound client (request.Remake b r) = batch_fits f b _ (option_both (record_state_of f b r) _ _ (Fits f) tt (λ state is. remade_fits f b r state))
-hands_out_next f sound client (request.Withdraw b r) = batch_fits f b _ (option_both (record_state_of f b r) _ _ (Fits f) tt (λ state is. withdrawn_fits f b r state))
-hands_out_next f sound client (request.Close b) = batch_fits f b _ (cond_both {A = Outcome} (is_batch_finished f b) _ _ (Fits f) (λ yes. tt) (λ no. tt))
+hands_out_next f sound client (request.Remake b r) = record_fits f b r (remade f b r) (remade_fits f b r)
+hands_out_next f sound client (request.Withdraw b r) = record_fits f b r (withdrawn f b r) (withdrawn_fits f b r)
+hands_out_next f sound client (request.Close b) = batch_fits f b _ (λ kept. cond_both {A = Outcome} (is_batch_finished f b) _ _ (Fits f) (λ yes. tt) (λ no. tt))

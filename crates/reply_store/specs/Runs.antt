@@ -1,14 +1,14 @@
 -- What a list of arrivals does to a store.
-use Rattle.std.specs.Prelude.{◌≡◌, ◌⊎◌, ◌≤◌, ℕ, List, [], ◌∷◌, map, filter, take, slice_get, Some, Result, IfOk, All, is_ok, Bool, false}
+use Rattle.std.specs.Prelude.{◌≡◌, ◌⊎◌, ◌≤◌, ℕ, List, [], ◌∷◌, ◌++◌, map, filter, take, slice_get, Some, Result, IfOk, All, is_ok, Bool, false}
 use Rattle.job_core.specs.declared.store.StoreFault.{StoreFault}
 use Rattle.job_core.specs.Steps.{step}
-use Rattle.job_core.specs.Store.{AreSame, Contents, State, IsHonest, HasCause}
+use Rattle.job_core.specs.Store.{AreSame, Contents, State, IsHonest, HasCause, Stays}
 use Rattle.reply_store.specs.declared.Kept.{Kept}
 use Rattle.job_core.specs.declared.request.Arrival.{Arrival}
 use Rattle.reply_store.specs.Told.{told}
 use Rattle.reply_store.specs.Meaning.{Arrived, contents_after, answer}
 use Rattle.reply_store.specs.Commands.{HandsOutNext}
-use Rattle.reply_store.specs.Handled.{IsFirst}
+use Rattle.reply_store.specs.Handled.{Handles, IsFirst}
 
 abbrev pub arrived : Arrival → Arrived
 arrived a = record { client = a.client; number = a.number; ask = a.ask; request = a.request }
@@ -36,6 +36,13 @@ pub record Leaves (old new : State) (tried : List Tried) : Type 0 where
   pub faults : old.faults ≤ new.faults
   pub contents : IsHonest new → (c : Contents) → old.holds c → new.holds (contents_after c (decided tried))
   pub crash : IsHonest new → (c d : Contents) → old.holds c → new.may_leave d → MayBeLeft old.may_leave c tried d
+
+-- what is left is told of one after the other: of none, of one more that is handled, and past what changes nothing
+pub record AreLeftInTurn {S : Type 0} (state : S → State) : Type 0 where
+  pub none : (s : S) → Leaves (state s) (state s) []
+  pub more : (first before after : S) (tried : List Tried) (a : Arrived) (result : Result Kept StoreFault)
+      → Leaves (state first) (state before) tried → Handles (state before) (state after) a result → Leaves (state first) (state after) (tried ++ (a, is_ok result) ∷ [])
+  pub stays : (first before after : S) (tried : List Tried) → Leaves (state first) (state before) tried → Stays (state before) (state after) → Leaves (state first) (state after) tried
 
 -- an arrival with its outcome
 abbrev pub Served : Type 0

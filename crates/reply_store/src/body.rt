@@ -12,7 +12,8 @@ use serde_json::{Value, json};
 use std::alloc::{AllocError, Global};
 use store_data::{Bytes, Name};
 
-/// The HTTP status of a reply: 409 for every refusal, 200 for what was accepted (this project's profile).
+/// The HTTP status of a reply: 409 for every refusal, 200 for what was accepted (this project's
+/// profile).
 pub fn status_of(reply: &Reply) -> u16
     ensures { result ≡ status_of reply.now }
 {
@@ -22,8 +23,8 @@ pub fn status_of(reply: &Reply) -> u16
     }
 }
 
-/// The body of a reply: compact JSON (RFC 8259), the members in order of their names (this project's profile). It fails only
-/// where memory is refused.
+/// The body of a reply: compact JSON (RFC 8259), the members in order of their names (this
+/// project's profile). It fails only where memory is refused.
 pub fn body_of(alloc: Global, reply: &Reply) -> Result<Bytes, AllocError>
     ensures { IfOk result (λ body. body ≡ body_of reply.now) }
 {
@@ -100,7 +101,8 @@ fn import_value(
     made: Made,
     rows: u32,
 ) -> Result<Value, AllocError>
-    ensures value { IfOk result (λ v. view v ≡ value_of (Reply.Import batch.now records made rows)) }
+    ensures value { IfOk result
+        (λ v. view v ≡ value_of (Reply.Import batch.now records made rows)) }
     ensures plain { OnOk result (IsPlain batch.now) }
 {
     json!(in alloc; {
@@ -119,8 +121,10 @@ fn opened_value(
     rec: &Name,
     session: u64,
 ) -> Result<Value, AllocError>
-    ensures value { IfOk result (λ v. view v ≡ value_of (Reply.Opened batch.now blank command.now rec.now session)) }
-    ensures plain { OnOk result (ArePlain (Reply.Opened batch.now blank command.now rec.now session)) }
+    ensures value { IfOk result
+        (λ v. view v ≡ value_of (Reply.Opened batch.now blank command.now rec.now session)) }
+    ensures plain { OnOk result
+        (ArePlain (Reply.Opened batch.now blank command.now rec.now session)) }
 {
     json!(in alloc; {
         "batch": name_text(batch),

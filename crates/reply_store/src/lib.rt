@@ -1,4 +1,5 @@
-//! Requests that may come again: the first of each number acts, and each later one is told what is kept.
+//! Requests that may come again: the first of each number acts, and each later one is told what is
+//! kept.
 #![tactic(auto)]
 
 ghost use Rattle.std.specs.Prelude.{◌≡◌, ◌≤◌, ◌<◌, ◌^◌, All, IfOk, OnErr, length, map};
@@ -9,7 +10,7 @@ ghost use Rattle.job_core.specs.Store.{Commits, Contents, HasCause, IsHonest};
 ghost use Rattle.reply_store.specs.Commands.{HandsOutNext};
 ghost use Rattle.reply_store.specs.Handled.{Handles, done};
 ghost use Rattle.reply_store.specs.Meaning.{told_again};
-ghost use Rattle.reply_store.specs.Runs.{AreNext, Runs, arrived};
+ghost use Rattle.reply_store.specs.Runs.{AreLeftInTurn, AreNext, Runs, arrived};
 ghost use Rattle.reply_store.specs.Told.{body_of, status_of, told, told_of};
 
 mod body;
@@ -31,8 +32,9 @@ pub struct Kept {
 /// What became of an arrival.
 pub type Outcome = Result<Kept, StoreFault>;
 
-/// Handles one arrival: a number that is kept is told its reply again, or `number-reused` where the ask is another; a new one is
-/// decided and kept, a refusal too. Errors: the store's faults, and refused memory as `Memory`; nothing is changed then.
+/// Handles one arrival: a number that is kept is told its reply again, or `number-reused` where the
+/// ask is another; a new one is decided and kept, a refusal too. Errors: the store's faults, and
+/// refused memory as `Memory`; nothing is changed then.
 pub fn handle<S: JobStore>(
     alloc: Global,
     store: &mut S,
@@ -46,7 +48,9 @@ pub fn handle<S: JobStore>(
     requires ranged { IsRequest request.now }
     ensures handled { Handles (S.state store.old) (S.state store.new)
         (record { client = client.now; number = number; ask = ask.now; request = request.now }) result }
-    ensures next { (c : Contents) → (S.state store.old).holds c → HandsOutNext c.facts (step c.facts client.now request.now).1 }
+    // A law of the plain machine, whatever is answered: a command that it hands out is the next.
+    ensures next { (c : Contents) → (S.state store.old).holds c
+        → HandsOutNext c.facts (step c.facts client.now request.now).1 }
     ensures cause { HasCause (S.state store.new) result }
 {
     if let Some(kept) = store.kept(client, number)? {
@@ -58,15 +62,19 @@ pub fn handle<S: JobStore>(
     settle(alloc, store, client, number, ask, &reply, &change)
 }
 
-/// Handles arrivals in order. It takes the memory of its result first, and fails only where that is refused: then none was handled.
+/// Handles arrivals in order. It takes the memory of its result first, and fails only where that is
+/// refused: then none was handled.
 pub fn run<S: JobStore>(
     alloc: Global,
     store: &mut S,
     arrivals: &[Arrival],
 ) -> Result<Vec<Outcome>, AllocError>
     requires { All IsArrival arrivals.now }
-    ensures runs { IfOk result (λ outcomes. Runs (S.state store.old) (S.state store.new) (zip (map arrived arrivals.now) outcomes.items)) }
-    ensures next { IfOk result (λ outcomes. IsHonest (S.state store.new) → (c : Contents) → (S.state store.old).holds c
+    ensures runs { IfOk result
+        (λ outcomes. Runs (S.state store.old) (S.state store.new)
+        (zip (map arrived arrivals.now) outcomes.items)) }
+    ensures next { IfOk result
+        (λ outcomes. IsHonest (S.state store.new) → (c : Contents) → (S.state store.old).holds c
         → AreNext c (zip (map arrived arrivals.now) outcomes.items)) }
     ensures count { IfOk result (λ outcomes. length outcomes.items ≡ length arrivals.now) }
     ensures err { OnErr result (store.new ≡ store.old) }
@@ -85,6 +93,11 @@ pub fn run<S: JobStore>(
     }
     Ok(outcomes)
 }
+
+/// That what arrivals leave is told of one after the other: a law, for the proof of one who handles them in turn. It does nothing.
+pub fn left_in_turn<S: JobStore>()
+    ensures { AreLeftInTurn S.state }
+{}
 
 // What is told of a number that is kept.
 fn again(alloc: Global, ask: &[u8], kept: KeptReply) -> Result<Kept, AllocError>

@@ -122,7 +122,7 @@ pub few_charged : (f : Facts) (p : List ℕ) → IsSound f → charged (blank_to
 unfolding blank_totals
 few_charged f p sound =
     let own = is_blank_of f p in
-    let once = IsDistinct-from_AllPairs Decides-eqb (filter own (charges f)) (AllPairs-filter (λ a b. a ≢ b) own (charges f) sound.charged_once) in
+    let once = IsDistinct-from_AllPairs Decides-eqb (filter own (charges f)) (AllPairs-filter (λ a b. a ≢ b) own (charges f) sound.sessions.charged_once) in
     let inside : (q : ℕ) → has (filter own (charges f)) q ≡ true → has (flat_map serials_of (lots_of f p)) q ≡ true = λ q h.
     among_lots p f.lots q (and_parts (has (charges f) q) (own q) (sym (is_member-filter nat_eq_equiv own q (λ x same. ap own (eqb-true q x same)) (charges f)) ∙ h)).1 in
     omega (
@@ -140,12 +140,12 @@ pub charged_fits : (f : Facts) (p : List ℕ) → IsSound f → charged (blank_t
 unfolding blank_totals
 charged_fits f p sound =
     let own : Lot → Bool = λ l. bytes_eq l.product p in
-    let most : All (λ (l : Lot). l.count ≤ 1000000) (lots_of f p) = All-filter own (λ (l : Lot). l.count ≤ 1000000) f.lots (λ k d inside. (sound.lots.each k d inside).most) in
+    let most : All (λ (l : Lot). l.count ≤ 1000000) (lots_of f p) = All-filter own (λ (l : Lot). l.count ≤ 1000000) f.lots (λ k d inside. (sound.named.lots.each k d inside).most) in
     omega (
       arith,
       few_charged f p sound,
       sum_by-le (λ (l : Lot). l.count) 1000000 (lots_of f p) most,
       length-filter own f.lots,
       count_by-le-length own f.lots,
-      sound.lots.few,
+      sound.named.lots.few,
     )

@@ -5,7 +5,7 @@ use Rattle.job_core.specs.declared.refusal.Refusal.{Refusal}
 use Rattle.job_core.specs.Store.{Contents, HasCause, IsHonest, State}
 use Rattle.reports.specs.declared.fault.AccountFault.{AccountFault}
 use Rattle.reports.specs.declared.fault.AccountFault.TheVariants.{Refused, Store, Write}
-use Rattle.text_writer.specs.Written.{AppendsBeginning}
+use Rattle.text_io.specs.Written.{AppendsBeginning}
 
 -- the text was answered, or where there is none, the refusal
 abbrev pub IsTold : Refusal → Option (List ℕ) → Result (List ℕ) AccountFault → Type 0

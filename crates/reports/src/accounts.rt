@@ -30,7 +30,8 @@ pub(crate) fn blank_text(
     product: &Name,
     totals: &BlankTotals,
 ) -> Result<Bytes, AllocError>
-    ensures { IfOk result (λ text. charged totals.now < 2 ^ 64 → text ≡ blank_text product.now totals.now) }
+    ensures { IfOk result
+        (λ text. charged totals.now < 2 ^ 64 → text ≡ blank_text product.now totals.now) }
 {
     let text = blank_value(alloc, product, totals)?.to_string(alloc)?;
     Ok(Bytes::from_vec(text.into_bytes()))
@@ -43,7 +44,8 @@ fn batch_value(
     totals: &BatchTotals,
 ) -> Result<Value, AllocError>
     ensures value { IfOk result (λ v. view v ≡ batch_value batch.now row.now totals.now) }
-    ensures bare { OnOk result ((escape batch.now ≡ batch.now) × (escape row.now.product ≡ row.now.product)) }
+    ensures bare { OnOk result
+        ((escape batch.now ≡ batch.now) × (escape row.now.product ≡ row.now.product)) }
 {
     json!(in alloc; {
         "batch": name_text(batch),
@@ -62,7 +64,8 @@ fn batch_value(
 
 // The blanks of a sound store are far below 2^64.
 fn blank_value(alloc: Global, product: &Name, totals: &BlankTotals) -> Result<Value, AllocError>
-    ensures value { IfOk result (λ v. charged totals.now < 2 ^ 64 → view v ≡ blank_value product.now totals.now) }
+    ensures value { IfOk result
+        (λ v. charged totals.now < 2 ^ 64 → view v ≡ blank_value product.now totals.now) }
     ensures bare { OnOk result (escape product.now ≡ product.now) }
 {
     let used = totals.good.saturating_add(totals.running);

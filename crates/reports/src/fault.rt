@@ -3,7 +3,7 @@ ghost use Rattle.std.specs.Prelude.{◌≡◌};
 
 use job_core::{Refusal, StoreFault};
 use std::alloc::AllocError;
-use text_writer::WriteFailed;
+use text_io::WriteFailed;
 
 /// Why an account or a report is not given.
 #[derive(Clone, Copy, Debug, PartialEq, Eq)]

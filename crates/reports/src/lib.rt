@@ -1,4 +1,5 @@
-//! The accounts of batches and of products' blanks, and the report of a batch (this project's profile).
+//! The accounts of batches and of products' blanks, and the report of a batch (this project's
+//! profile).
 #![tactic(auto)]
 
 ghost use Rattle.std.specs.Prelude.{◌≡◌, map, take};
@@ -22,10 +23,11 @@ use report::report_text;
 use std::alloc::Global;
 use std::io::Write;
 use store_data::{Bytes, Name};
-use text_writer::write_text;
+use text_io::write_text;
 
-/// The account of a batch, in JSON: its records by their states, its sessions, and how many of these are spoiled. Errors: 56 for
-/// a batch that is not there, the store's faults, and refused memory as `Memory`.
+/// The account of a batch, in JSON: its records by their states, its sessions, and how many of
+/// these are spoiled. Errors: 56 for a batch that is not there, the store's faults, and refused
+/// memory as `Memory`.
 #[tactic(auto, using(crate::proofs::RecordLemmas::all_standing))]
 pub fn batch_counts<S: JobStore>(
     alloc: Global,
@@ -33,7 +35,8 @@ pub fn batch_counts<S: JobStore>(
     batch: &Name,
 ) -> Result<Bytes, AccountFault>
     ensures stays { Stays (S.state store.old) (S.state store.new) }
-    ensures tells { TellsText (S.state store.old) (S.state store.new) BatchUnknown (λ c. batch_account c.facts batch.now) result }
+    ensures tells { TellsText (S.state store.old) (S.state store.new) BatchUnknown
+        (λ c. batch_account c.facts batch.now) result }
     ensures all { (c : Contents) → AreAllStanding (batch_totals c.facts batch.now) }
     ensures cause { HasFaultCause BatchUnknown (S.state store.new) result }
 {
@@ -44,16 +47,18 @@ pub fn batch_counts<S: JobStore>(
     Ok(batch_text(alloc, batch, &row, &totals)?)
 }
 
-/// The account of a product's blanks, in JSON: each is free, good, running, spoiled or discarded. Errors: 52 for a product that
-/// is not there, the store's faults, and refused memory as `Memory`.
+/// The account of a product's blanks, in JSON: each is free, good, running, spoiled or discarded.
+/// Errors: 52 for a product that is not there, the store's faults, and refused memory as `Memory`.
 pub fn blank_counts<S: JobStore>(
     alloc: Global,
     store: &mut S,
     product: &Name,
 ) -> Result<Bytes, AccountFault>
     ensures stays { Stays (S.state store.old) (S.state store.new) }
-    ensures tells { TellsText (S.state store.old) (S.state store.new) ProductUnknown (λ c. blank_account c.facts product.now) result }
-    ensures all { (c : Contents) → (S.state store.old).holds c → AreAllCounted (blank_totals c.facts product.now) }
+    ensures tells { TellsText (S.state store.old) (S.state store.new) ProductUnknown
+        (λ c. blank_account c.facts product.now) result }
+    ensures all { (c : Contents) → (S.state store.old).holds c
+        → AreAllCounted (blank_totals c.facts product.now) }
     ensures cause { HasFaultCause ProductUnknown (S.state store.new) result }
 {
     let Some(_) = store.product(product)? else {
@@ -63,9 +68,9 @@ pub fn blank_counts<S: JobStore>(
     Ok(blank_text(alloc, product, &totals)?)
 }
 
-/// Writes the report of a batch: lines for the batch, for each record in file order, and for its totals. Errors: 56 for a batch
-/// that is not there, the store's faults, and refused memory as `Memory`, with nothing written; `Write` where the writer fails, with
-/// a beginning written.
+/// Writes the report of a batch: lines for the batch, for each record in file order, and for its
+/// totals. Errors: 56 for a batch that is not there, the store's faults, and refused memory as
+/// `Memory`, with nothing written; `Write` where the writer fails, with a beginning written.
 pub fn close_report<S: JobStore, W: Write>(
     alloc: Global,
     store: &mut S,
@@ -73,7 +78,8 @@ pub fn close_report<S: JobStore, W: Write>(
     writer: &mut W,
 ) -> Result<(), AccountFault>
     ensures stays { Stays (S.state store.old) (S.state store.new) }
-    ensures reports { Reports (S.state store.old) (S.state store.new) BatchUnknown (λ c. report_text c.facts batch.now)
+    ensures reports { Reports (S.state store.old) (S.state store.new) BatchUnknown
+        (λ c. report_text c.facts batch.now)
         (W.contents writer.old) (W.contents writer.new) result }
     ensures untold { KeepsUntold (W.contents writer.old) (W.contents writer.new) result }
     ensures cause { HasReportCause BatchUnknown (S.state store.new) result }
@@ -86,7 +92,8 @@ pub fn close_report<S: JobStore, W: Write>(
 // The report's text.
 fn report_of<S: JobStore>(alloc: Global, store: &mut S, batch: &Name) -> Result<Bytes, AccountFault>
     ensures stays { Stays (S.state store.old) (S.state store.new) }
-    ensures tells { TellsText (S.state store.old) (S.state store.new) BatchUnknown (λ c. report_text c.facts batch.now) result }
+    ensures tells { TellsText (S.state store.old) (S.state store.new) BatchUnknown
+        (λ c. report_text c.facts batch.now) result }
     ensures cause { HasFaultCause BatchUnknown (S.state store.new) result }
 {
     let Some(row) = store.batch(batch)? else {
@@ -107,7 +114,8 @@ fn record_lines<S: JobStore>(
 ) -> Result<Vec<RecordLine>, StoreFault>
     ensures stays { Stays (S.state store.old) (S.state store.new) }
     ensures value { Reads (S.state store.old) (S.state store.new) result
-        (λ c lines. lines.items ≡ map (record_line c.facts batch.now) (take count (records_named c.facts batch.now))) }
+        (λ c lines. lines.items
+        ≡ map (record_line c.facts batch.now) (take count (records_named c.facts batch.now))) }
     ensures cause { HasCause (S.state store.new) result }
 {
     let mut lines = Vec::new(alloc);

@@ -16,7 +16,8 @@ pub(crate) fn report_text(
     lines: &[RecordLine],
     totals: &BatchTotals,
 ) -> Result<String, AllocError>
-    ensures { IfOk result (λ text. string_bytes text ≡ text_with batch.now row.now lines.now totals.now) }
+    ensures { IfOk result
+        (λ text. string_bytes text ≡ text_with batch.now row.now lines.now totals.now) }
 {
     let mut text = String::new(alloc);
     push_head(&mut text, batch, row)?;
@@ -30,7 +31,8 @@ pub(crate) fn report_text(
 // The batch, its product, and whether it is closed.
 #[tactic(auto, unfolding(crate::specs::Report::head_text))]
 fn push_head(text: &mut String, batch: &Name, row: &BatchRow) -> Result<(), AllocError>
-    ensures { OnOk result (string_bytes text.new ≡ string_bytes text.old ++ head_text batch.now row.now) }
+    ensures { OnOk result
+        (string_bytes text.new ≡ string_bytes text.old ++ head_text batch.now row.now) }
 {
     let name = name_text(batch);
     let product = name_text(&row.product);
@@ -54,7 +56,8 @@ fn push_record(text: &mut String, line: &RecordLine) -> Result<(), AllocError>
 
 // Each label stands left in 9 places, each number right in 10.
 fn push_totals(text: &mut String, totals: &BatchTotals) -> Result<(), AllocError>
-    ensures { OnOk result (string_bytes text.new ≡ string_bytes text.old ++ totals_text totals.now) }
+    ensures { OnOk result
+        (string_bytes text.new ≡ string_bytes text.old ++ totals_text totals.now) }
 {
     push_total(text, "records  ", totals.records)?;
     push_total(text, "waiting  ", totals.waiting)?;
@@ -67,7 +70,8 @@ fn push_totals(text: &mut String, totals: &BatchTotals) -> Result<(), AllocError
 }
 
 fn push_total(text: &mut String, label: &str, total: u64) -> Result<(), AllocError>
-    ensures { OnOk result (string_bytes text.new ≡ string_bytes text.old ++ labelled label.now total) }
+    ensures { OnOk result
+        (string_bytes text.new ≡ string_bytes text.old ++ labelled label.now total) }
 {
     writeln!(text, "{label} {total:>10}")
 }

@@ -1,6 +1,4 @@
 pub mod Taken
 pub mod Writing
-pub mod Heads
 pub mod Serving
 pub mod Stays
-pub mod Lists

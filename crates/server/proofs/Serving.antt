@@ -5,15 +5,13 @@ use Rattle.std.specs.Io.KnownBytes.{Appends}
 use Rattle.std.proofs.lemmas.List.{take_at, take-append-le, map_push}
 use Rattle.std.proofs.lemmas.List.Elements.{All-push, All-nil}
 use Rattle.std.proofs.lemmas.Option.{none-some, same_Some}
-use Rattle.job_core.specs.Store.{AreSound, Contents, State, IsHonest}
+use Rattle.job_core.specs.Store.{Contents, State, IsHonest}
 use Rattle.reply_store.specs.Meaning.{contents_after}
-use Rattle.reply_store.specs.Runs.{Tried, arrived, decided, Leaves}
-use Rattle.reply_store.proofs.Commands.{hands_out_next}
-use Rattle.reply_store.proofs.Running.{leaves_none, leaves_more, leaves_stays}
-use Rattle.wire.specs.declared.ask.Asked.TheVariants as asked
-use Rattle.wire.specs.Messages.{Tells}
+use Rattle.reply_store.specs.Runs.{Tried, arrived, decided, AreLeftInTurn, Leaves}
+use Rattle.asks.specs.declared.ask.Asked.TheVariants as asked
+use Rattle.heads.specs.Messages.{Tells}
 use Rattle.server.specs.declared.served.Served.{Served}
-use Rattle.server.specs.Meant.{Meant, Broken, Refused, Asks, Means}
+use Rattle.asks.specs.Meant.{Meant, Broken, Refused, Asks, Means}
 use Rattle.server.specs.Exchanges.{Exchange, Does, Entry, IsAnswered, IsFixed, IsNext, Moves, Opens, Queue, Serves, ServesAll, moved, shown, tries, tries_at, tries_of}
 
 abbrev brought : Exchange → List ℕ
@@ -31,17 +29,18 @@ tries_push : (es : List Exchange) (e : Exchange) → tries (es ++ e ∷ []) ≡ 
 tries_push es e = tries-append es (e ∷ []) ∙ ap (λ (l : List Tried). tries es ++ l) (append-nil (tries_of e))
 
 -- what one connection leaves
-leaves_at : (m : Meant) (s0 s1 s2 : State) (ts : List Tried) (b : Bool) → Leaves s0 s1 ts → Does m s1 s2 b → Leaves s0 s2 (ts ++ tries_at m b)
-leaves_at Broken s0 s1 s2 ts b leaves does = subst (Leaves s0 s2) (sym (append-nil ts)) (leaves_stays s0 s1 s2 ts leaves does)
-leaves_at (Refused why) s0 s1 s2 ts b leaves does = subst (Leaves s0 s2) (sym (append-nil ts)) (leaves_stays s0 s1 s2 ts leaves does)
-leaves_at (Asks (asked.Account w)) s0 s1 s2 ts b leaves does = subst (Leaves s0 s2) (sym (append-nil ts)) (leaves_stays s0 s1 s2 ts leaves does)
-leaves_at (Asks (asked.Arrival a)) s0 s1 s2 ts b leaves does =
-    subst (λ (x : Bool). Leaves s0 s2 (ts ++ (arrived a, x) ∷ [])) (sym does.2) (leaves_more s0 s1 s2 ts (arrived a) does.0 leaves does.1)
+leaves_at : {S : Type 0} (state : S → State) → AreLeftInTurn state → (m : Meant) (s0 s1 s2 : S) (ts : List Tried) (b : Bool)
+    → Leaves (state s0) (state s1) ts → Does m (state s1) (state s2) b → Leaves (state s0) (state s2) (ts ++ tries_at m b)
+leaves_at state turns Broken s0 s1 s2 ts b leaves does = subst (Leaves (state s0) (state s2)) (sym (append-nil ts)) (turns.stays s0 s1 s2 ts leaves does.0)
+leaves_at state turns (Refused why) s0 s1 s2 ts b leaves does = subst (Leaves (state s0) (state s2)) (sym (append-nil ts)) (turns.stays s0 s1 s2 ts leaves does.0)
+leaves_at state turns (Asks (asked.Account w)) s0 s1 s2 ts b leaves does = subst (Leaves (state s0) (state s2)) (sym (append-nil ts)) (turns.stays s0 s1 s2 ts leaves does.0)
+leaves_at state turns (Asks (asked.Arrival a)) s0 s1 s2 ts b leaves does =
+    subst (λ (x : Bool). Leaves (state s0) (state s2) (ts ++ (arrived a, x) ∷ [])) (sym does.2) (turns.more s0 s1 s2 ts (arrived a) does.0 leaves does.1)
 
 doubts_at : (m : Meant) (old new : State) (b : Bool) → Does m old new b → old.doubts ≤ new.doubts
-doubts_at Broken old new b does = does.doubts
-doubts_at (Refused why) old new b does = does.doubts
-doubts_at (Asks (asked.Account w)) old new b does = does.doubts
+doubts_at Broken old new b does = does.0.doubts
+doubts_at (Refused why) old new b does = does.0.doubts
+doubts_at (Asks (asked.Account w)) old new b does = does.0.doubts
 doubts_at (Asks (asked.Arrival a)) old new b does = does.1.doubts
 
 slice_get_push : (es : List Exchange) (e f : Exchange) (i : ℕ) → slice_get (es ++ e ∷ []) i ≡ Some f → ((i < length es) × (slice_get es i ≡ Some f)) ⊎ ((i ≡ length es) × (e ≡ f))
@@ -60,31 +59,32 @@ each_more P es e each last i f is =
     (λ (p : (i ≡ length es) × (e ≡ f)). subst (λ (l : List Exchange). P l f) (sym (take_at es (e ∷ []) i (sym p.0))) (subst (P es) p.1 last))
     (slice_get_push es e f i is)
 
-pub is_next : (c : Contents) (m : Meant) → AreSound c → IsNext c m
-is_next c Broken sound = tt
-is_next c (Refused why) sound = tt
-is_next c (Asks (asked.Account w)) sound = tt
-is_next c (Asks (asked.Arrival a)) sound = λ first. hands_out_next c.facts sound.facts a.client a.request
-
 abbrev NextAt : Contents → List Exchange → Exchange → Type 0
-NextAt c before e = IsNext (contents_after c (decided (tries before))) e.meant
+NextAt c before e = IsNext (contents_after c (decided (tries before))) e.meant e.served.decided
 
 abbrev AnsweredAt : Contents → List Exchange → Exchange → Type 0
 AnsweredAt c before e = IsAnswered (contents_after c (decided (tries before))) e
 
-pub serves_none : (s : State) → ServesAll s s []
-serves_none s = record { means = All-nil (λ (e : Exchange). Means e.input e.meant); leaves = leaves_none s; answered = λ h c held i e is. absurd (none-some e is); fixed = All-nil IsFixed; next = λ h c held i e is. absurd (none-some e is) }
+pub serves_none : {S : Type 0} (state : S → State) → AreLeftInTurn state → (s : S) → ServesAll (state s) (state s) []
+serves_none state turns s = record {
+  means = All-nil (λ (e : Exchange). Means e.input e.meant);
+  leaves = turns.none s;
+  answered = λ h c held i e is. absurd (none-some e is);
+  fixed = All-nil IsFixed;
+  next = λ h c held i e is. absurd (none-some e is);
+}
 
-pub serves_more : (s0 s1 s2 : State) (es : List Exchange) (e : Exchange) → ServesAll s0 s1 es → Serves s1 s2 e → ServesAll s0 s2 (es ++ e ∷ [])
-serves_more s0 s1 s2 es e all one =
+pub serves_more : {S : Type 0} (state : S → State) → AreLeftInTurn state → (s0 s1 s2 : S) (es : List Exchange) (e : Exchange)
+    → ServesAll (state s0) (state s1) es → Serves (state s1) (state s2) e → ServesAll (state s0) (state s2) (es ++ e ∷ [])
+serves_more state turns s0 s1 s2 es e all one =
     let b = e.served.decided in
     record {
       means = All-push (λ (x : Exchange). Means x.input x.meant) es e all.means one.means;
-      leaves = subst (Leaves s0 s2) (sym (tries_push es e)) (leaves_at e.meant s0 s1 s2 (tries es) b all.leaves one.does);
-      answered = λ h c held. let early : IsHonest s1 = omega (arith, doubts_at e.meant s1 s2 b one.does) in
+      leaves = subst (Leaves (state s0) (state s2)) (sym (tries_push es e)) (leaves_at state turns e.meant s0 s1 s2 (tries es) b all.leaves one.does);
+      answered = λ h c held. let early : IsHonest (state s1) = omega (arith, doubts_at e.meant (state s1) (state s2) b one.does) in
           each_more (AnsweredAt c) es e (all.answered early c held) (one.answered h (contents_after c (decided (tries es))) (all.leaves.contents early c held));
       fixed = All-push IsFixed es e all.fixed one.fixed;
-      next = λ h c held. let early : IsHonest s1 = omega (arith, doubts_at e.meant s1 s2 b one.does) in
+      next = λ h c held. let early : IsHonest (state s1) = omega (arith, doubts_at e.meant (state s1) (state s2) b one.does) in
           each_more (NextAt c) es e (all.next early c held) (one.next (contents_after c (decided (tries es))) (all.leaves.contents early c held));
     }
 

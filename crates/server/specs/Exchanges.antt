@@ -1,5 +1,5 @@
 -- What connections bring, get, and do to the store.
-use Rattle.std.specs.Prelude.{◌≡◌, ◌⊎◌, ℕ, Bool, All, List, [], ◌∷◌, ◌++◌, map, take, drop, slice_get, Option, Some, IfSome, unwrap_or, Result, is_ok, ⊤}
+use Rattle.std.specs.Prelude.{◌≡◌, ◌⊎◌, ℕ, Bool, true, false, All, List, [], ◌∷◌, ◌++◌, map, take, drop, slice_get, Option, Some, IfSome, unwrap_or, Result, is_ok, ⊤}
 use Rattle.std.specs.List.{flat_map}
 use Rattle.job_core.specs.declared.store.StoreFault.{StoreFault}
 use Rattle.job_core.specs.Steps.{step}
@@ -9,11 +9,11 @@ use Rattle.reply_store.specs.Meaning.{contents_after}
 use Rattle.reply_store.specs.Commands.{HandsOutNext}
 use Rattle.reply_store.specs.Handled.{Handles, IsFirst}
 use Rattle.reply_store.specs.Runs.{Tried, arrived, decided, Leaves}
-use Rattle.wire.specs.declared.ask.Asked.{Asked}
-use Rattle.wire.specs.declared.ask.Asked.TheVariants as asked
-use Rattle.wire.specs.Messages.{HasHead}
+use Rattle.asks.specs.declared.ask.Asked.{Asked}
+use Rattle.asks.specs.declared.ask.Asked.TheVariants as asked
+use Rattle.heads.specs.Messages.{HasHead}
 use Rattle.server.specs.declared.served.Served.{Served}
-use Rattle.server.specs.Meant.{Meant, Broken, Refused, Asks, AsksNothing, Means}
+use Rattle.asks.specs.Meant.{Meant, Broken, Refused, Asks, AsksNothing, Means}
 use Rattle.server.specs.Replies.{IsAnswer, IsUnavailable}
 
 -- ---- one connection
@@ -33,29 +33,29 @@ IsAnswered c e = IsAnswer c e.meant e.served e.written ⊎ (HasHead e.input × I
 abbrev pub IsFixed : Exchange → Type 0
 IsFixed e = AsksNothing e.meant → (c : Contents) → IsAnswered c e
 
--- an arrival is handled, and all else changes nothing
+-- an arrival is handled, and all else changes nothing and decides nothing
 abbrev pub AskedDoes : Asked → State → State → Bool → Type 0
-AskedDoes (asked.Account w) old new was_decided = Stays old new
+AskedDoes (asked.Account w) old new was_decided = Stays old new × (was_decided ≡ false)
 AskedDoes (asked.Arrival a) old new was_decided = (outcome : Result Kept StoreFault) × Handles old new (arrived a) outcome × (was_decided ≡ is_ok outcome)
 
 abbrev pub Does : Meant → State → State → Bool → Type 0
-Does Broken old new was_decided = Stays old new
-Does (Refused why) old new was_decided = Stays old new
+Does Broken old new was_decided = Stays old new × (was_decided ≡ false)
+Does (Refused why) old new was_decided = Stays old new × (was_decided ≡ false)
 Does (Asks a) old new was_decided = AskedDoes a old new was_decided
 
--- where a first is handed out a command, it is the next of its record's sequence
-abbrev pub IsNext : Contents → Meant → Type 0
-IsNext c Broken = ⊤
-IsNext c (Refused why) = ⊤
-IsNext c (Asks (asked.Account w)) = ⊤
-IsNext c (Asks (asked.Arrival a)) = IsFirst c (arrived a) → HandsOutNext c.facts (step c.facts a.client a.request).1
+-- a command that a decided first is handed out is the next of its record's sequence
+abbrev pub IsNext : Contents → Meant → Bool → Type 0
+IsNext c Broken was_decided = ⊤
+IsNext c (Refused why) was_decided = ⊤
+IsNext c (Asks (asked.Account w)) was_decided = ⊤
+IsNext c (Asks (asked.Arrival a)) was_decided = was_decided ≡ true → IsFirst c (arrived a) → HandsOutNext c.facts (step c.facts a.client a.request).1
 
 pub record Serves (old new : State) (e : Exchange) : Type 0 where
   pub means : Means e.input e.meant
   pub does : Does e.meant old new e.served.decided
   pub answered : IsHonest new → (c : Contents) → old.holds c → IsAnswered c e
   pub fixed : IsFixed e
-  pub next : (c : Contents) → old.holds c → IsNext c e.meant
+  pub next : (c : Contents) → old.holds c → IsNext c e.meant e.served.decided
 
 -- ---- a list of connections
 
@@ -80,7 +80,7 @@ abbrev pub AreAnswered : Contents → List Exchange → Type 0
 AreAnswered c es = (i : ℕ) (e : Exchange) → slice_get es i ≡ Some e → IsAnswered (contents_after c (decided (tries (take i es)))) e
 
 abbrev pub AreNext : Contents → List Exchange → Type 0
-AreNext c es = (i : ℕ) (e : Exchange) → slice_get es i ≡ Some e → IsNext (contents_after c (decided (tries (take i es)))) e.meant
+AreNext c es = (i : ℕ) (e : Exchange) → slice_get es i ≡ Some e → IsNext (contents_after c (decided (tries (take i es)))) e.meant e.served.decided
 
 -- the headline, over any store
 pub record ServesAll (old new : State) (es : List Exchange) : Type 0 where

@@ -1,4 +1,6 @@
-pub mod Meant
+pub use Rattle.job_core.specs.Store
+pub use Rattle.reply_store.specs.Runs
+pub use Rattle.asks.specs.Meant
 pub mod Replies
 pub mod Answers
 pub mod Exchanges

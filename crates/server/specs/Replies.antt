@@ -10,24 +10,24 @@ use Rattle.reply_store.specs.Meaning.{contents_after, answer}
 use Rattle.reply_store.specs.Runs.{arrived}
 use Rattle.reports.specs.Accounts.{batch_account, blank_account}
 use Rattle.reports.specs.Report.{report_text}
-use Rattle.wire.specs.declared.ask.Asked.{Asked}
-use Rattle.wire.specs.declared.ask.Asked.TheVariants as asked
-use Rattle.wire.specs.declared.ask.Wanted.{Wanted}
-use Rattle.wire.specs.declared.ask.Wanted.TheVariants as wanted
-use Rattle.wire.specs.declared.refusal.Refusal.TheVariants.{Storage}
-use Rattle.wire.specs.declared.reply.Kind.{Kind}
-use Rattle.wire.specs.declared.reply.Kind.TheVariants as kind
-use Rattle.wire.specs.Refusals.{refusal_text}
-use Rattle.wire.specs.Texts.{reply_text}
+use Rattle.asks.specs.declared.ask.Asked.{Asked}
+use Rattle.asks.specs.declared.ask.Asked.TheVariants as asked
+use Rattle.asks.specs.declared.ask.Wanted.{Wanted}
+use Rattle.asks.specs.declared.ask.Wanted.TheVariants as wanted
+use Rattle.heads.specs.declared.fixed.FixedReply.TheVariants.{Storage}
+use Rattle.heads.specs.declared.reply.Content.{Content}
+use Rattle.heads.specs.declared.reply.Content.TheVariants as content
+use Rattle.heads.specs.FixedReplies.{refusal_text}
+use Rattle.heads.specs.Texts.{reply_text}
 use Rattle.server.specs.declared.served.End.{End}
 use Rattle.server.specs.declared.served.End.TheVariants as ended
 use Rattle.server.specs.declared.served.Served.{Served}
-use Rattle.server.specs.Meant.{Meant, Broken, Refused, Asks}
+use Rattle.asks.specs.Meant.{Meant, Broken, Refused, Asks}
 
 -- ---- texts
 
 abbrev pub told_text : Told → List ℕ
-told_text t = reply_text t.status kind.Json t.body
+told_text t = reply_text t.status content.Json t.body
 
 -- the account, if what it is of is there
 abbrev pub account_of : Facts → Wanted → Option (List ℕ)
@@ -35,10 +35,10 @@ account_of f (wanted.Batch b) = batch_account f b
 account_of f (wanted.Report b) = report_text f b
 account_of f (wanted.Blanks p) = blank_account f p
 
-abbrev pub account_kind : Wanted → Kind
-account_kind (wanted.Batch b) = kind.Json
-account_kind (wanted.Report b) = kind.Report
-account_kind (wanted.Blanks p) = kind.Json
+abbrev pub account_kind : Wanted → Content
+account_kind (wanted.Batch b) = content.Json
+account_kind (wanted.Report b) = content.Report
+account_kind (wanted.Blanks p) = content.Json
 
 -- what is not there
 abbrev pub unknown_of : Wanted → Rule

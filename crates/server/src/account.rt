@@ -9,18 +9,19 @@ ghost use Rattle.job_core.specs.declared.reply.Reply.TheVariants.{Refused};
 ghost use Rattle.server.specs.Replies.{account_kind, account_of, account_text, told_text, unknown_of};
 ghost use Rattle.server.specs.Answers.{answer_text};
 
+use asks::Wanted;
+use heads::Content;
 use job_core::{JobStore, Refusal, Reply, StoreFault};
 use reply_store::{body_of, status_of};
 use reports::{AccountFault, batch_counts, blank_counts, close_report};
 use std::alloc::{AllocError, Global};
 use store_data::{Bytes, Name};
-use wire::{Kind, Wanted};
 
 /// A reply, but for its bytes before the body.
 #[derive(Drop)]
 pub(crate) struct Answer {
     pub(crate) status: u16,
-    pub(crate) kind: Kind,
+    pub(crate) kind: Content,
     pub(crate) body: Bytes,
 }
 
@@ -47,12 +48,12 @@ pub(crate) fn account_answer<S: JobStore>(
     }
 }
 
-fn kind_of(wanted: Wanted) -> Kind
+fn kind_of(wanted: Wanted) -> Content
     ensures { result ≡ account_kind wanted }
 {
     match wanted {
-        Wanted::Report(_) => Kind::Report,
-        Wanted::Batch(_) | Wanted::Blanks(_) => Kind::Json,
+        Wanted::Report(_) => Content::Report,
+        Wanted::Batch(_) | Wanted::Blanks(_) => Content::Json,
     }
 }
 
@@ -90,7 +91,7 @@ fn refused(alloc: Global, refusal: Refusal) -> Result<Answer, AllocError>
     let body = body_of(alloc, &reply)?;
     Ok(Answer {
         status: status_of(&reply),
-        kind: Kind::Json,
+        kind: Content::Json,
         body,
     })
 }

@@ -3,9 +3,9 @@ ghost use Rattle.std.specs.Prelude.{◌≡◌};
 ghost use Rattle.server.specs.declared.connections.NextFault.TheVariants.{Memory};
 
 use crate::served::Served;
+use heads::ByteSource;
 use std::alloc::AllocError;
 use std::io::Write;
-use wire::Incoming;
 
 /// Why there is no next connection.
 #[derive(Clone, Copy, Debug, PartialEq, Eq)]
@@ -31,7 +31,7 @@ pub trait Connections {
     ghost use Rattle.server.specs.Exchanges.{Opens, Queue, moved};
 
     /// What brings a connection's bytes.
-    type In: Incoming;
+    type In: ByteSource;
 
     /// What takes the bytes of the reply.
     type Out: Write;

@@ -6,7 +6,6 @@ mod connections;
 mod many;
 mod memory;
 mod one;
-mod plain;
 mod reply;
 mod served;
 
@@ -14,5 +13,4 @@ pub use connections::{Connections, NextFault};
 pub use many::serve_all;
 pub use memory::{MemoryConnections, MemoryReader, Replied};
 pub use one::serve_one;
-pub use plain::serve_inputs;
 pub use served::{End, Served};

@@ -5,6 +5,7 @@ ghost use Rattle.server.specs.Exchanges.{Exchange, Moves, ServesAll};
 use crate::connections::{Connections, NextFault};
 use crate::one::serve_one;
 use job_core::JobStore;
+use reply_store::left_in_turn;
 use std::alloc::Global;
 
 /// Serves so many connections, one after the other. Errors: the fault that hands out no next one, which ends it; what was served
@@ -19,6 +20,7 @@ pub fn serve_all<S: JobStore, C: Connections>(
         × ServesAll (S.state store.old) (S.state store.new) es × OnOk result (length es ≡ turns) × OnErr result (length es < turns) }
     ensures cause { IfErr result (λ fault. C.refuses connections.new fault) }
 {
+    left_in_turn::<S>();
     let mut turn = 0;
     while turn < turns {
         let (mut incoming, mut writer) = connections.next()?;

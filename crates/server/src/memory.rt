@@ -4,9 +4,9 @@ ghost use Rattle.server.specs.Memory.{bytes_left, queue, replies_of, texts};
 
 use crate::connections::{Connections, NextFault};
 use crate::served::Served;
+use heads::ByteSource;
 use std::alloc::Global;
 use std::mem;
-use wire::Incoming;
 
 /// Bytes that come in pieces.
 #[derive(Drop)]
@@ -25,7 +25,7 @@ impl MemoryReader {
     }
 }
 
-impl Incoming for MemoryReader {
+impl ByteSource for MemoryReader {
     ghost use Rattle.std.specs.Prelude.{Some};
     ghost use Rattle.server.specs.Memory.{bytes_left};
 

@@ -2,31 +2,33 @@
 ghost use Rattle.std.specs.Prelude.{◌≡◌, ℕ, List};
 ghost use Rattle.std.specs.Io.KnownBytes.{Appends};
 ghost use Rattle.job_core.specs.Requests.{IsArrival};
+ghost use Rattle.job_core.specs.Steps.{step};
+ghost use Rattle.job_core.specs.Store.{Contents};
+ghost use Rattle.reply_store.specs.Commands.{HandsOutNext};
 ghost use Rattle.reply_store.specs.Handled.{Handles};
 ghost use Rattle.reply_store.specs.Runs.{arrived};
 ghost use Rattle.reply_store.specs.Told.{told};
-ghost use Rattle.wire.specs.Asks.{IsInRange, asked_of};
-ghost use Rattle.wire.specs.Messages.{Tells, came};
-ghost use Rattle.wire.specs.declared.ask.Asked.TheVariants as asked;
+ghost use Rattle.asks.specs.Asks.{IsInRange};
+ghost use Rattle.heads.specs.Messages.{Tells};
+ghost use Rattle.asks.specs.declared.ask.Asked.TheVariants as asked;
 ghost use Rattle.server.specs.Exchanges.{Exchange, Serves};
-ghost use Rattle.server.specs.Meant.{Asks, meant_by};
+ghost use Rattle.asks.specs.Meant.{Asks};
 ghost use Rattle.server.specs.Replies.{IsWritten, told_text};
 ghost use Rattle.server.specs.Serving.{MayServe};
 
 use crate::account::account_answer;
 use crate::reply::{refuse, tell};
 use crate::served::{End, Served};
+use asks::{Asked, Meaning, Wanted, read_meaning};
+use heads::{ByteSource, Content, FixedReply};
 use job_core::{Arrival, JobStore, StoreFault};
 use reply_store::{Kept, handle};
 use std::alloc::Global;
 use std::io::Write;
-use wire::{
-    AskFault, Asked, Incoming, Kind, Message, Reading, Refusal, Wanted, read_message, to_ask,
-};
 
 /// Serves one connection: reads a message, does what it asks, and writes the reply. Once an arrival is handled it takes no
 /// memory. Where the writer fails a beginning of the reply was written, and what was decided stays.
-pub fn serve_one<S: JobStore, I: Incoming, W: Write>(
+pub fn serve_one<S: JobStore, I: ByteSource, W: Write>(
     alloc: Global,
     store: &mut S,
     incoming: &mut I,
@@ -35,36 +37,18 @@ pub fn serve_one<S: JobStore, I: Incoming, W: Write>(
     ensures { (e : Exchange) × Tells (I.brings incoming.old) e.input × Appends (W.contents writer.old) (W.contents writer.new) e.written
         × (e.served ≡ result) × Serves (S.state store.old) (S.state store.new) e }
 {
-    match read_message(alloc, incoming) {
-        Reading::Message(message) => serve_message(alloc, store, message, writer),
-        Reading::Broken => Served {
+    match read_meaning(alloc, incoming) {
+        Meaning::Asks(asked) => serve_asked(alloc, store, asked, writer),
+        Meaning::Broken => Served {
             end: End::Broken,
             decided: false,
         },
-        Reading::Refused(why) => refuse(writer, why),
-        Reading::Memory => refuse(writer, Refusal::Storage),
+        Meaning::Refused(why) => refuse(writer, why),
+        Meaning::Memory => refuse(writer, FixedReply::Storage),
     }
 }
 
-// Serves a message.
-fn serve_message<S: JobStore, W: Write>(
-    alloc: Global,
-    store: &mut S,
-    message: Message,
-    writer: &mut W,
-) -> Served
-    ensures { (written : List ℕ) × Appends (W.contents writer.old) (W.contents writer.new) written
-        × MayServe (meant_by (asked_of (came message))) (S.state store.old) (S.state store.new) result written }
-{
-    match to_ask(alloc, message) {
-        Ok(asked) => serve_asked(alloc, store, asked, writer),
-        Err(fault) => match fault {
-            AskFault::Refused(why) => refuse(writer, why),
-            AskFault::Memory => refuse(writer, Refusal::Storage),
-        },
-    }
-}
-
+// Does what a message asks.
 fn serve_asked<S: JobStore, W: Write>(
     alloc: Global,
     store: &mut S,
@@ -97,7 +81,7 @@ fn serve_arrival<S: JobStore, W: Write>(
             end: tell_kept(writer, &kept),
             decided: true,
         },
-        Err(_) => refuse(writer, Refusal::Storage),
+        Err(_) => refuse(writer, FixedReply::Storage),
     }
 }
 
@@ -107,7 +91,9 @@ fn handle_arrival<S: JobStore>(
     arrival: &Arrival,
 ) -> Result<Kept, StoreFault>
     requires { IsArrival arrival.now }
-    ensures { Handles (S.state store.old) (S.state store.new) (arrived arrival.now) result }
+    ensures handled { Handles (S.state store.old) (S.state store.new) (arrived arrival.now) result }
+    ensures next { (c : Contents) → (S.state store.old).holds c
+        → HandsOutNext c.facts (step c.facts arrival.now.client arrival.now.request).1 }
 {
     let ask = arrival.ask.as_slice();
     handle(
@@ -124,7 +110,7 @@ fn tell_kept<W: Write>(writer: &mut W, kept: &Kept) -> End
     ensures { (written : List ℕ) × Appends (W.contents writer.old) (W.contents writer.new) written
         × IsWritten result (told_text (told kept.now)) written }
 {
-    tell(writer, kept.status, Kind::Json, kept.body.as_slice())
+    tell(writer, kept.status, Content::Json, kept.body.as_slice())
 }
 
 // Tells an account.
@@ -142,6 +128,6 @@ fn serve_account<S: JobStore, W: Write>(
             end: tell(writer, answer.status, answer.kind, answer.body.as_slice()),
             decided: false,
         },
-        Err(_) => refuse(writer, Refusal::Storage),
+        Err(_) => refuse(writer, FixedReply::Storage),
     }
 }

@@ -1,18 +1,18 @@
 //! Replies, written from a fixed array and from a body. That takes no memory.
 ghost use Rattle.std.specs.Prelude.{◌≡◌, ℕ, List, false};
 ghost use Rattle.std.specs.Io.KnownBytes.{Appends};
-ghost use Rattle.wire.specs.Refusals.{refusal_text};
-ghost use Rattle.wire.specs.Texts.{reply_text};
-ghost use Rattle.text_writer.specs.Written.{Writes};
+ghost use Rattle.heads.specs.FixedReplies.{refusal_text};
+ghost use Rattle.heads.specs.Texts.{reply_text};
+ghost use Rattle.text_io.specs.Written.{Writes};
 ghost use Rattle.server.specs.Replies.{IsWritten};
 
 use crate::served::{End, Served};
+use heads::{Content, FixedReply, reply_head};
 use std::io::Write;
-use text_writer::{WriteFailed, write_text};
-use wire::{Kind, Refusal, reply_head};
+use text_io::{WriteFailed, write_text};
 
 /// Writes a reply, or a beginning of it where the writer fails.
-pub(crate) fn tell<W: Write>(writer: &mut W, status: u16, kind: Kind, body: &[u8]) -> End
+pub(crate) fn tell<W: Write>(writer: &mut W, status: u16, kind: Content, body: &[u8]) -> End
     ensures { (written : List ℕ) × Appends (W.contents writer.old) (W.contents writer.new) written
         × IsWritten result (reply_text status kind body.now) written }
 {
@@ -26,7 +26,7 @@ pub(crate) fn tell<W: Write>(writer: &mut W, status: u16, kind: Kind, body: &[u8
 fn write_reply<W: Write>(
     writer: &mut W,
     status: u16,
-    kind: Kind,
+    kind: Content,
     body: &[u8],
 ) -> Result<(), WriteFailed>
     ensures { Writes (W.contents writer.old) (W.contents writer.new) (reply_text status kind body.now) result }
@@ -38,7 +38,7 @@ fn write_reply<W: Write>(
 }
 
 /// Writes a fixed reply.
-pub(crate) fn refuse<W: Write>(writer: &mut W, why: Refusal) -> Served
+pub(crate) fn refuse<W: Write>(writer: &mut W, why: FixedReply) -> Served
     ensures written { (written : List ℕ) × Appends (W.contents writer.old) (W.contents writer.new) written
         × IsWritten result.end (refusal_text why) written }
     ensures decided { result.decided ≡ false }

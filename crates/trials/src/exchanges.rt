@@ -5,16 +5,16 @@ ghost use Rattle.wire.specs.Asks.{IsInRange};
 
 use crate::again::{MayWantMemory, at_last};
 use crate::failing_writers::Limited;
-use job_core::{Arrival, BatchTotals, BlankTotals, JobStore, StoreFault};
+use job_core::{Arrival, BlankTotals, JobStore, StoreFault};
 use list_store::ListStore;
 use reply_store::{Kept, handle};
-use reports::{batch_counts, blank_counts};
+use reports::blank_counts;
 use server::{Served, serve_one};
 use std::alloc::{AllocError, Global};
 use std::process::Abort;
 use std::test::Fail;
 use store_data::{Bytes, Name};
-use wire::{AskFault, Asked, Pieces, Reading, Refusal, read_message, to_ask};
+use wire::{AskFault, Asked, FixedReply, Pieces, Reading, read_message, to_ask};
 
 /// What stands in the target after `/c/`, the body, and the status and the body that are told.
 #[derive(Clone, Copy)]
@@ -55,7 +55,7 @@ pub(crate) fn asked(alloc: Global, bytes: &[u8]) -> Result<Asked, AskFault>
 {
     match read_message(alloc, &mut Pieces::new(bytes, 7)) {
         Reading::Message(message) => to_ask(alloc, message),
-        Reading::Broken => Err(AskFault::Refused(Refusal::Malformed)),
+        Reading::Broken => Err(AskFault::Refused(FixedReply::Malformed)),
         Reading::Refused(why) => Err(AskFault::Refused(why)),
         Reading::Memory => Err(AskFault::Memory),
     }
@@ -73,9 +73,9 @@ pub(crate) fn arrival(alloc: Global, exchange: &Exchange) -> Result<Arrival, Fai
 }
 
 /// What an arrival is told.
-pub(crate) fn told<S: JobStore>(
+pub(crate) fn told(
     alloc: Global,
-    store: &mut S,
+    store: &mut ListStore,
     arrival: &Arrival,
 ) -> Result<Kept, StoreFault>
     requires { IsArrival arrival.now }
@@ -125,22 +125,10 @@ pub(crate) fn store_after(
     Ok(store)
 }
 
-/// How batch B1 stands.
-pub(crate) fn batch_totals(store: &mut ListStore) -> Result<BatchTotals, Fail> {
-    let batch = name("B1")?;
-    Ok(at_last!(store.batch_totals(&batch))?)
-}
-
 /// How the blanks of product P1 stand.
 pub(crate) fn blank_totals(store: &mut ListStore) -> Result<BlankTotals, Fail> {
     let product = name("P1")?;
     Ok(at_last!(store.blank_totals(&product))?)
-}
-
-/// The account of batch B1.
-pub(crate) fn batch_account(alloc: Global, store: &mut ListStore) -> Result<Bytes, Fail> {
-    let batch = name("B1")?;
-    Ok(at_last!(batch_counts(alloc, store, &batch))?)
 }
 
 /// The account of the blanks of product P1.
@@ -149,12 +137,7 @@ pub(crate) fn blank_account(alloc: Global, store: &mut ListStore) -> Result<Byte
     Ok(at_last!(blank_counts(alloc, store, &product))?)
 }
 
-/// Whether a writer has the beginning of a reply that tells refused memory.
-fn is_unavailable(writer: &Limited) -> bool {
-    writer.taken().starts_with(b"HTTP/1.1 503 ")
-}
-
-/// What becomes of a connection that brings these bytes, and what was written.
+/// What becomes of a connection that brings these bytes, and what was written; it comes again where it is told refused memory.
 pub(crate) fn served(
     alloc: Global,
     store: &mut ListStore,
@@ -163,7 +146,7 @@ pub(crate) fn served(
 ) -> (Served, Limited) {
     let mut first = writer;
     let served = serve_one(alloc, store, &mut Pieces::new(bytes, 8192), &mut first);
-    if !is_unavailable(&first) {
+    if !first.taken().starts_with(b"HTTP/1.1 503 ") {
         return (served, first);
     }
     let mut second = writer;

@@ -1,6 +1,6 @@
 //! Readers that fail, and one that counts how often it is asked.
 use std::io::{self, ErrorKind, Read};
-use wire::{Incoming, Pieces};
+use wire::{ByteSource, Pieces};
 
 /// Gives one byte at a call, and fails where these end.
 #[derive(Drop)]
@@ -39,7 +39,7 @@ impl<'a> Failing<'a> {
     }
 }
 
-impl Incoming for Failing<'_> {
+impl ByteSource for Failing<'_> {
     ghost use Rattle.std.specs.Prelude.{None};
 
     ghost brings = { λ _. None };
@@ -72,9 +72,9 @@ impl<'a> Counted<'a> {
     }
 }
 
-impl Incoming for Counted<'_> {
+impl ByteSource for Counted<'_> {
     ghost use Rattle.std.specs.Prelude.{Some};
-    ghost use Rattle.wire.specs.Brought.{bytes_of};
+    ghost use Rattle.wire.specs.PieceBytes.{bytes_of};
 
     ghost brings = { λ c. Some (bytes_of c.pieces) };
 

@@ -6,8 +6,6 @@ mod again;
 #[cfg(test)]
 mod batches;
 #[cfg(test)]
-mod by_hand;
-#[cfg(test)]
 mod exchanges;
 #[cfg(test)]
 mod failing_readers;
@@ -16,19 +14,13 @@ mod failing_writers;
 #[cfg(test)]
 mod memory;
 #[cfg(test)]
-mod messages;
-#[cfg(test)]
-mod names;
+mod programs;
 #[cfg(test)]
 mod readers;
 #[cfg(test)]
 mod rows;
 #[cfg(test)]
-mod sending;
-#[cfg(test)]
 mod serving;
-#[cfg(test)]
-mod stores;
 #[cfg(test)]
 mod stories;
 #[cfg(test)]

@@ -6,25 +6,26 @@ use crate::batches::{FILE, product};
 use crate::exchanges::inputs;
 use crate::failing_readers::{Broken, Counted, Failing};
 use crate::failing_writers::Limited;
-use drill::{DrillStop, drill_engine};
+use drill::{DrillStop, drill_engine, serve_inputs};
 use plan_print::{PlanStop, plan_engine};
-use server::{Connections, MemoryReader, NextFault, serve_inputs};
+use server::{Connections, NextFault};
 use std::alloc::Global;
 use std::process::Abort;
 use std::test::Fail;
 use store_data::Product;
-use wire::{Incoming, Reading, read_message};
+use wire::{AskFault, ByteSource, Reading, read_message};
 
 // The first worked message, a product: its head has 66 bytes, its body 63.
 const PRODUCT: &[u8] =
     b"POST /c/office/1 HTTP/1.1\r\nHost: localhost\r\nContent-Length: 63\r\n\r\n{\"do\":\"product\",\"product\":\"P1\",\"max\":255,\"low\":0,\"check\":false}";
 
-// How often a reader is asked for the first message, in pieces of at most so many bytes; none where memory was refused.
-fn asked(alloc: Global, most: usize) -> Option<usize> {
+// How often a reader is asked for the first message, in pieces of at most so many bytes.
+fn asked(alloc: Global, most: usize) -> Result<usize, AskFault> {
     let mut incoming = Counted::new(PRODUCT, most);
     match read_message(alloc, &mut incoming) {
-        Reading::Message(_) => Some(incoming.asked),
-        _ => None,
+        Reading::Message(_) => Ok(incoming.asked),
+        Reading::Memory => Err(AskFault::Memory),
+        _ => Ok(0),
     }
 }
 
@@ -40,11 +41,7 @@ fn nothing_is_read_behind_a_message(rt: HostRuntime) -> Result<(), Fail> {
         (8192, 1),
     ];
     for (most, calls) in table {
-        let count = match asked(rt.alloc(), most) {
-            None => asked(rt.alloc(), most),
-            count => count,
-        };
-        assert_eq!(rt; count, Some(calls), "at {most}");
+        assert_eq!(rt; at_last!(asked(rt.alloc(), most)), Ok(calls), "at {most}");
     }
     // A head that is refused is read to its end alone.
     let head = b"GET /batch/B9 HTTP/1.1\r\nContent-Length: 1048577\r\n\r\n";
@@ -59,21 +56,24 @@ fn nothing_is_read_behind_a_message(rt: HostRuntime) -> Result<(), Fail> {
     Ok(())
 }
 
-// Whether a read that fails behind so many bytes breaks the message; none where memory was refused.
-fn is_broken(alloc: Global, size: usize) -> Option<bool> {
-    let (front, others) = PRODUCT.split_at_checked(size)?;
+// Whether a read that fails behind so many bytes breaks the message.
+fn is_broken(alloc: Global, size: usize) -> Result<bool, AskFault> {
+    let (front, others) = PRODUCT.split_at_checked(size).unwrap_or((PRODUCT, b""));
     match read_message(alloc, &mut Failing::new(front, others, 5)) {
-        Reading::Broken => Some(true),
-        Reading::Memory => None,
-        _ => Some(false),
+        Reading::Broken => Ok(true),
+        Reading::Memory => Err(AskFault::Memory),
+        _ => Ok(false),
     }
 }
 
 #[test]
 fn a_failed_read_is_the_end(rt: HostRuntime) {
-    for size in 0..PRODUCT.len() {
-        let is_broken = is_broken(rt.alloc(), size).or_else(|| is_broken(rt.alloc(), size));
-        assert_eq!(rt; is_broken, Some(true), "at {size}");
+    for size in [0, 1, 33, 65, 66, 67, 100, 128] {
+        assert_eq!(rt;
+            at_last!(is_broken(rt.alloc(), size)),
+            Ok(true),
+            "at {size}"
+        );
     }
 }
 
@@ -95,7 +95,7 @@ fn plan_of_broken(
 #[test]
 fn a_plan_whose_reader_fails_prints_nothing(rt: HostRuntime) -> Result<(), Fail> {
     let product = product(255, 0, false)?;
-    for size in 0..FILE.len() {
+    for size in [0, 1, 27, 28, 60, FILE.len() - 1] {
         let end = at_last!(plan_of_broken(&rt, rt.alloc(), &product, &FILE[..size]));
         assert_eq!(rt; end, Err(PlanStop::ReadFailed), "at {size}");
     }
@@ -115,23 +115,10 @@ fn drill_of_broken(rt: &impl Abort, alloc: Global, front: &[u8]) -> Result<(), D
 
 #[test]
 fn a_drill_whose_reader_fails_prints_nothing(rt: HostRuntime) {
-    for size in 0..SCRIPT.len() {
+    for size in [0, 1, 72, 73, 100, SCRIPT.len() - 1] {
         let end = at_last!(drill_of_broken(&rt, rt.alloc(), &SCRIPT[..size]));
         assert_eq!(rt; end, Err(DrillStop::ReadFailed), "at {size}");
     }
-}
-
-#[test]
-fn bytes_in_memory_come_in_pieces(rt: HostRuntime) -> Result<(), Fail> {
-    let bytes = b"GET /batch/B9";
-    for (most, count) in [(0, 1), (1, 1), (5, 5), (13, 13), (100, 13)] {
-        let owned = at_last!(bytes.to_vec(rt.alloc()))?;
-        let mut reader = MemoryReader::new(owned, most);
-        let mut buf = [0; 20];
-        assert_eq!(rt; reader.bring(&mut buf), count);
-        assert_eq!(rt; buf.get(..count), bytes.get(..count));
-    }
-    Ok(())
 }
 
 // How many bytes come first of an input, whose bytes come in pieces of at most so many.
@@ -144,7 +131,7 @@ fn first_piece(alloc: Global, most: usize) -> Result<usize, NextFault> {
 
 #[test]
 fn inputs_come_in_pieces(rt: HostRuntime) {
-    for (most, count) in [(0, 1), (5, 5), (100, 13)] {
+    for (most, count) in [(0, 1), (1, 1), (5, 5), (13, 13), (100, 13)] {
         assert_eq!(rt; at_last!(first_piece(rt.alloc(), most)), Ok(count));
     }
 }

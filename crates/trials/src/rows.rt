@@ -1,83 +1,105 @@
 //! Worked examples, each on the public function that answers it.
 use crate::again::{MayWantMemory, at_last};
-use crate::batches::product;
-use crate::exchanges::{batch_account, blank_account, message, served, store_after, tell};
+use crate::exchanges::{blank_account, message, name, served, store_after, tell};
 use crate::failing_writers::{Limited, LimitedConnections};
+use crate::programs::program;
 use crate::stories::{MADE_AGAIN, OPENED, OPENING, SET_UP, TURNS};
-use command_line::{End as ProgramEnd, Exit, Told, Words, WordsFault, exit_of, read_words};
+use batch_import::{Kind, RowFault};
+use command_line::End as ProgramEnd;
 use list_store::ListStore;
-use plan_print::plan_engine;
+use reports::batch_counts;
 use server::{End, NextFault, Served, serve_all};
 use std::alloc::Global;
-use std::io::Cursor;
 use std::process::Abort;
 use std::test::Fail;
-
-// How the program ends with these words and this input, and what it writes.
-fn program(alloc: Global, words: &[&str], raw: &[u8]) -> Result<(Exit, Limited), Fail> {
-    let mut writer = Limited::new(512, 512);
-    let (max, low, check) = match at_last!(read_words(alloc, words)) {
-        Ok(Words::Plan { max, low, check }) => (max, low, check),
-        Err(WordsFault::Usage(_)) => return Ok((exit_of(ProgramEnd::Usage), writer)),
-        _ => return Err(Fail::new("no plan")),
-    };
-    let product = product(max, low, check)?;
-    let end = match at_last!(plan_engine(alloc, &product, &mut Cursor::new(raw), &mut writer)) {
-        Ok(()) => ProgramEnd::Done,
-        Err(stop) => ProgramEnd::Stopped(stop.into()),
-    };
-    Ok((exit_of(end), writer))
-}
 
 const SMALL: &[u8] = b"record,aid,rank,enc,tol,dgi\nR1,F00000000101,1,0,0,0101027000\n";
 
 const MARKED: &[u8] =
     b"record,aid,rank,enc,tol,dgi\nR1,F00000000101,1,1,0,8000081122334455667788\nR1,F00000000101,2,0,0,0102027000\n";
 
-#[test]
-fn a_plan_is_printed_by_its_words(rt: HostRuntime) -> Result<(), Fail> {
-    let table: [(&[&str], &[u8], &str); 3] = [
-        (
-            &["persod", "plan"],
-            SMALL,
-            "record R1\n00A4040006F00000000101\n80E28000050101027000\n",
-        ),
-        (
-            &["persod", "plan"],
-            MARKED,
-            "record R1\n00A4040006F00000000101\n80E260000B8000081122334455667788\n80E28001050102027000\n",
-        ),
-        (
-            &["persod", "plan", "--low", "7"],
-            MARKED,
-            "record R1\n00A4040006F00000000101\n80E267000B8000081122334455667788\n80E28701050102027000\n",
-        ),
-    ];
-    for (words, raw, printed) in table {
-        let (exit, writer) = program(rt.alloc(), words, raw)?;
-        assert_eq!(rt; writer.taken(), printed.as_bytes(), "at {words:?}");
-        assert_eq!(rt; exit, exit_of(ProgramEnd::Done));
-    }
-    Ok(())
-}
+// A plain grouping of a file's record that holds none.
+const UNCHECKED: &[u8] = b"record,aid,rank,enc,tol,dgi\nR1,F00000000101,1,0,0,0101021122\n";
+
+// A coding of 19 bytes.
+const LONG: &[u8] =
+    b"record,aid,rank,enc,tol,dgi\nR1,F00000000101,1,0,0,80001000112233445566778899AABBCCDDEEFF\n";
+
+const NO_HEADER: RowFault = RowFault {
+    row: 1,
+    kind: Kind::Header,
+};
+
+const NO_RECORD: RowFault = RowFault {
+    row: 2,
+    kind: Kind::NotARecord,
+};
+
+// Words, input, what is printed, and how the run ends.
+static RUNS: [(&[&str], &[u8], &str, ProgramEnd); 10] = [
+    (
+        &["persod", "plan"],
+        SMALL,
+        "record R1\n00A4040006F00000000101\n80E28000050101027000\n",
+        ProgramEnd::Done,
+    ),
+    (
+        &["persod", "plan"],
+        MARKED,
+        "record R1\n00A4040006F00000000101\n80E260000B8000081122334455667788\n80E28001050102027000\n",
+        ProgramEnd::Done,
+    ),
+    (
+        &["persod", "plan", "--low", "7"],
+        MARKED,
+        "record R1\n00A4040006F00000000101\n80E267000B8000081122334455667788\n80E28701050102027000\n",
+        ProgramEnd::Done,
+    ),
+    (
+        &["persod", "plan", "--max", "16"],
+        LONG,
+        "record R1\n00A4040006F00000000101\n80E200001080001000112233445566778899AABBCC\n80E2800103DDEEFF\n",
+        ProgramEnd::Done,
+    ),
+    (
+        &["persod", "plan"],
+        UNCHECKED,
+        "record R1\n00A4040006F00000000101\n80E28000050101021122\n",
+        ProgramEnd::Done,
+    ),
+    (
+        &["persod", "plan", "--check"],
+        UNCHECKED,
+        "",
+        ProgramEnd::Refused(NO_RECORD),
+    ),
+    (&["persod", "plan"], b"", "", ProgramEnd::Refused(NO_HEADER)),
+    (
+        &["persod", "plan", "--max", "15"],
+        b"",
+        "",
+        ProgramEnd::Usage,
+    ),
+    (
+        &["persod", "drill"],
+        b"office 1 {\"do\":\"reset\"}\n",
+        "200 {\"result\":\"reset\",\"session\":0}\n",
+        ProgramEnd::Done,
+    ),
+    (
+        &["persod", "drill"],
+        b"office\n",
+        "",
+        ProgramEnd::BadLine(1),
+    ),
+];
 
 #[test]
-fn a_plan_is_refused_by_its_input_or_its_words(rt: HostRuntime) -> Result<(), Fail> {
-    let words = Some(Told::RefusedRow { number: 31, row: 1 });
-    let table: [(&[&str], Exit); 2] = [
-        (&["persod", "plan"], Exit { status: 1, words }),
-        (
-            &["persod", "plan", "--max", "15"],
-            Exit {
-                status: 2,
-                words: None,
-            },
-        ),
-    ];
-    for (words, wanted) in table {
-        let (exit, writer) = program(rt.alloc(), words, b"")?;
-        assert!(rt; writer.taken().is_empty());
-        assert_eq!(rt; exit, wanted, "at {words:?}");
+fn a_run_is_told_by_its_words_and_its_input(rt: HostRuntime) -> Result<(), Fail> {
+    for (words, raw, printed, wanted) in &RUNS {
+        let (end, writer) = program(rt.alloc(), words, raw, Limited::new(512, 512))?;
+        assert_eq!(rt; writer.taken(), printed.as_bytes(), "at {words:?}");
+        assert_eq!(rt; end, *wanted, "at {words:?}");
     }
     Ok(())
 }
@@ -99,9 +121,9 @@ fn a_repeat_is_told_the_same(rt: HostRuntime) -> Result<(), Fail> {
 #[test]
 fn a_spoiled_card_is_made_again(rt: HostRuntime) -> Result<(), Fail> {
     let alloc = rt.alloc();
-    let mut store = store_after(&rt, alloc, MADE_AGAIN.before)?;
+    let mut store = store_after(&rt, alloc, &SET_UP)?;
     tell(&rt, alloc, &mut store, MADE_AGAIN.exchanges)?;
-    let account = batch_account(alloc, &mut store)?;
+    let account = at_last!(batch_counts(alloc, &mut store, &name("B1")?))?;
     assert_eq!(rt;
         account.as_slice(),
         br#"{"batch":"B1","closed":false,"failed":0,"good":1,"product":"P1","records":1,"running":0,"sessions":2,"spoiled":1,"waiting":0,"withdrawn":0}"#.as_slice()
@@ -179,12 +201,10 @@ fn opened_twice(
     ))?;
     let ended = serve_all(alloc, &mut store, &mut connections, 100);
     assert_eq!(rt; ended, Err(NextFault::Device));
-    if connections
-        .replies
-        .iter()
-        .any(|r| r.0.taken().starts_with(b"HTTP/1.1 5"))
-    {
-        return Ok(Err(NextFault::Memory));
+    for (writer, _) in &connections.replies {
+        if writer.taken().starts_with(b"HTTP/1.1 5") {
+            return Ok(Err(NextFault::Memory));
+        }
     }
     Ok(Ok(connections.replies))
 }

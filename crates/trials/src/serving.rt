@@ -2,9 +2,9 @@
 use crate::again::{MayWantMemory, at_last};
 use crate::exchanges::{inputs, served};
 use crate::failing_writers::{Limited, LimitedConnections};
-use drill::{DrillStop, drill_engine};
+use drill::{DrillStop, drill_engine, serve_inputs};
 use list_store::ListStore;
-use server::{End, MemoryConnections, NextFault, Served, serve_all, serve_inputs};
+use server::{End, MemoryConnections, NextFault, Served, serve_all};
 use std::alloc::{AllocError, Global};
 use std::io::Cursor;
 use std::process::Abort;
@@ -24,28 +24,10 @@ fn one_of_two(rt: &impl Abort, alloc: Global) -> Result<(usize, NextFault), Next
         assert!(rt; false, "two were served");
         return Err(NextFault::Device);
     };
-    let whole = connections
-        .replies()
-        .iter()
-        .filter(|r| r.written.as_slice() == TOLD);
-    let count = whole.count();
-    if count == 0 {
-        return Err(NextFault::Memory);
+    match connections.replies() {
+        [one] if one.written.as_slice() == TOLD => Ok((1, fault)),
+        _ => Err(NextFault::Memory),
     }
-    Ok((count, fault))
-}
-
-#[test]
-fn used_up_connections_are_told_as_device(rt: HostRuntime) -> Result<(), Fail> {
-    let alloc = rt.alloc();
-    match at_last!(serve_inputs(alloc, Vec::new(alloc), 1, 1)) {
-        Err(fault) => assert_eq!(rt; fault, NextFault::Device),
-        Ok(_) => return Err(Fail::new("served")),
-    }
-    // What was served stands.
-    let told = at_last!(one_of_two(&rt, alloc));
-    assert_eq!(rt; told, Ok((1, NextFault::Device)));
-    Ok(())
 }
 
 // What is told of this many turns where there is no connection, and this fault.
@@ -57,10 +39,16 @@ fn ended(alloc: Global, fault: NextFault, turns: u64) -> Result<Result<(), NextF
 
 #[test]
 fn the_fault_of_connections_is_told(rt: HostRuntime) -> Result<(), Fail> {
+    let alloc = rt.alloc();
     for fault in [NextFault::Device, NextFault::Memory] {
-        assert_eq!(rt; at_last!(ended(rt.alloc(), fault, 1))?, Err(fault));
-        assert_eq!(rt; at_last!(ended(rt.alloc(), fault, 0))?, Ok(()));
+        assert_eq!(rt; at_last!(ended(alloc, fault, 1))?, Err(fault));
+        assert_eq!(rt; at_last!(ended(alloc, fault, 0))?, Ok(()));
     }
+    // Where connections in memory are used up, what was served stands.
+    let told = at_last!(one_of_two(&rt, alloc));
+    assert_eq!(rt; told, Ok((1, NextFault::Device)));
+    let none = at_last!(serve_inputs(alloc, Vec::new(alloc), 1, 1));
+    assert_eq!(rt; none.err(), Some(NextFault::Device));
     Ok(())
 }
 

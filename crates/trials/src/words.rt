@@ -1,7 +1,6 @@
-//! The program's words, and how it ends.
+//! The program's words.
 use crate::again::{MayWantMemory, at_last};
-use command_line::{End, Exit, Told, Words, WordsFault, exit_of, read_words};
-use std::test::Fail;
+use command_line::{Words, WordsFault, read_words};
 
 #[test]
 fn words_have_their_values_or_the_defaults(rt: HostRuntime) {
@@ -66,22 +65,24 @@ fn a_usage_fault_says_what_is_wrong(rt: HostRuntime) {
 #[test]
 fn help_names_the_subcommands_and_the_options(rt: HostRuntime) {
     let alloc = rt.alloc();
-    let cases: [(&[&str], &[&str]); 7] = [
+    let cases: [(&[&str], &[&str]); 6] = [
         (&["persod", "--help"], &["plan", "drill", "--help"]),
         (&["persod", "help"], &["plan", "drill", "--help"]),
         (&["persod", "drill", "--help"], &["persod drill", "--help"]),
         (&["persod", "help", "drill"], &["persod drill", "--help"]),
         (
             &["persod", "plan", "--help"],
-            &["--max <N>", "16 to 255", "[default: 255]"],
+            &[
+                "--max <N>",
+                "16 to 255",
+                "[default: 255]",
+                "--check",
+                "Checks each plain record",
+            ],
         ),
         (
             &["persod", "plan", "-h"],
             &["--low <N>", "0 to 31", "[default: 0]"],
-        ),
-        (
-            &["persod", "plan", "--help"],
-            &["--check", "Checks each plain record"],
         ),
     ];
     for (words, told) in cases {
@@ -94,30 +95,4 @@ fn help_names_the_subcommands_and_the_options(rt: HostRuntime) {
             other => assert!(rt; false, "at {words:?}: {other:?}"),
         }
     }
-}
-
-#[test]
-fn each_end_has_its_status_and_words(rt: HostRuntime) -> Result<(), Fail> {
-    let table = [
-        (Told::Refused { number: 413 }, "refused 413", 1),
-        (
-            Told::RefusedRow { number: 23, row: 2 },
-            "refused 23 row 2",
-            1,
-        ),
-        (Told::BadLine { line: 7 }, "bad line 7", 1),
-        (Told::Device, "device", 3),
-        (Told::Memory, "memory", 3),
-    ];
-    for (told, text, status) in table {
-        let displayed = at_last!(format!(in rt.alloc(); "{told}"))?;
-        assert_eq!(rt; displayed.as_str(), text);
-        let words = Some(told);
-        assert_eq!(rt; exit_of(End::Stopped(told)), Exit { status, words });
-    }
-    for (end, status) in [(End::Done, 0), (End::Usage, 2)] {
-        let words = None;
-        assert_eq!(rt; exit_of(end), Exit { status, words });
-    }
-    Ok(())
 }

@@ -5,18 +5,20 @@ use crate::again::{MayWantMemory, at_last};
 use crate::batches::{FILE, PRINTED, product};
 use crate::exchanges::{name, served, store_after, tell};
 use crate::failing_writers::Limited;
-use crate::stories::CLOSING;
+use crate::programs::program;
+use crate::stories::{CLOSING, SET_UP};
+use command_line::End as ProgramEnd;
 use drill::{DrillStop, drill_engine};
 use list_store::ListStore;
 use plan_print::{PlanStop, plan_engine};
 use reports::{AccountFault, close_report};
 use server::{End, Served};
 use std::alloc::Global;
-use std::io::{BufWriter, Cursor};
+use std::io::Cursor;
 use std::process::Abort;
 use std::test::Fail;
 use store_data::Product;
-use text_writer::{WriteFailed, write_text};
+use text_io::{WriteFailed, write_text};
 
 const TEXT: &[u8] = b"record R1\n";
 
@@ -31,20 +33,14 @@ fn told(room: usize) -> Result<(), WriteFailed> {
 
 #[test]
 fn a_text_has_its_beginning_where_a_writer_fails(rt: HostRuntime) {
-    for most in 0..=TEXT.len() {
-        for at_a_call in [1, 3, TEXT.len()] {
-            let mut writer = Limited::new(most, at_a_call);
-            let end = write_text(&mut writer, TEXT);
-            assert_eq!(rt; end, told(most), "at {most}");
-            assert_eq!(rt; writer.taken(), &TEXT[..most]);
-        }
-    }
-}
-
-// A slice that is full takes none, and doesn't fail.
-#[test]
-fn a_text_has_its_beginning_in_a_slice(rt: HostRuntime) {
     for room in 0..=TEXT.len() {
+        for at_a_call in [1, 3, TEXT.len()] {
+            let mut writer = Limited::new(room, at_a_call);
+            let end = write_text(&mut writer, TEXT);
+            assert_eq!(rt; end, told(room), "at {room}");
+            assert_eq!(rt; writer.taken(), &TEXT[..room]);
+        }
+        // A slice that is full takes none, and doesn't fail.
         let mut taken = [0; 10];
         let mut writer = &mut taken[..room];
         let end = write_text(&mut writer, TEXT);
@@ -80,7 +76,7 @@ fn plan_of_limited(
 #[test]
 fn a_plan_has_its_beginning_where_a_writer_fails(rt: HostRuntime) -> Result<(), Fail> {
     let product = product(255, 0, false)?;
-    for room in 0..PRINTED.len() {
+    for room in [0, 1, 9, 10, 33, 100, PRINTED.len() - 1] {
         let end = at_last!(plan_of_limited(&rt, rt.alloc(), &product, room));
         assert_eq!(rt; end, Err(PlanStop::WriteFailed), "at {room}");
     }
@@ -89,39 +85,19 @@ fn a_plan_has_its_beginning_where_a_writer_fails(rt: HostRuntime) -> Result<(), 
     Ok(())
 }
 
-// How a plan ends whose writer fails to flush.
-fn plan_that_fails_to_flush(
-    rt: &impl Abort,
-    alloc: Global,
-    product: &Product,
-) -> Result<(), PlanStop>
-    requires { IsProduct product.now }
-{
-    let mut writer = Limited::that_fails_to_flush();
-    let end = plan_engine(alloc, product, &mut Cursor::new(FILE), &mut writer);
-    if end != Err(PlanStop::Memory) {
-        assert_eq!(rt; writer.taken(), PRINTED.as_bytes());
-    }
-    end
-}
-
-// How a plan ends whose writer has no room, and a buffer before it, so that the flush is the first to fail.
-fn plan_behind_a_buffer(alloc: Global, product: &Product) -> Result<(), PlanStop>
-    requires { IsProduct product.now }
-{
-    let Ok(mut writer) = BufWriter::new(alloc, Limited::new(0, 512)) else {
-        return Err(PlanStop::Memory);
-    };
-    plan_engine(alloc, product, &mut Cursor::new(FILE), &mut writer)
-}
-
 #[test]
 fn a_failed_flush_is_a_failed_write(rt: HostRuntime) -> Result<(), Fail> {
-    let product = product(255, 0, false)?;
-    let end = at_last!(plan_that_fails_to_flush(&rt, rt.alloc(), &product));
-    assert_eq!(rt; end, Err(PlanStop::WriteFailed));
-    let end = at_last!(plan_behind_a_buffer(rt.alloc(), &product));
-    assert_eq!(rt; end, Err(PlanStop::WriteFailed));
+    // The one writer takes all and fails to flush; the other takes nothing from the buffer before it.
+    let printed = PRINTED.as_bytes();
+    let writers = [
+        (Limited::that_fails_to_flush(), printed),
+        (Limited::new(0, 512), &printed[..0]),
+    ];
+    for (writer, taken) in writers {
+        let (end, writer) = program(rt.alloc(), &["persod", "plan"], FILE, writer)?;
+        assert_eq!(rt; end, ProgramEnd::WriteFailed);
+        assert_eq!(rt; writer.taken(), taken);
+    }
     Ok(())
 }
 
@@ -161,9 +137,9 @@ fn report_of_limited(
 #[test]
 fn a_report_has_its_beginning_where_a_writer_fails(rt: HostRuntime) -> Result<(), Fail> {
     let alloc = rt.alloc();
-    let mut store = store_after(&rt, alloc, CLOSING.before)?;
+    let mut store = store_after(&rt, alloc, &SET_UP)?;
     tell(&rt, alloc, &mut store, CLOSING.exchanges)?;
-    for room in 0..REPORT.len() {
+    for room in [0, 1, 8, 9, 19, 20, 33, 57, 100, REPORT.len() - 1] {
         let end = report_of_limited(&rt, alloc, &mut store, room, 1)?;
         assert_eq!(rt; end, Err(AccountFault::Write), "at {room}");
     }
@@ -206,7 +182,19 @@ fn check_told_again(rt: &impl Abort, alloc: Global, room: usize, at_a_call: usiz
 
 #[test]
 fn a_failed_reply_is_told_again(rt: HostRuntime) {
-    for room in 0..=CREATED.len() {
+    for room in [
+        0,
+        1,
+        15,
+        16,
+        17,
+        50,
+        89,
+        90,
+        91,
+        CREATED.len() - 1,
+        CREATED.len(),
+    ] {
         check_told_again(&rt, rt.alloc(), room, 1 + room % 8);
     }
     check_told_again(&rt, rt.alloc(), CREATED.len(), 512);
@@ -219,16 +207,15 @@ const TOLD: &str =
     "200 {\"result\":\"reset\",\"session\":0}\n409 {\"code\":56,\"refused\":\"batch-unknown\"}\n";
 
 // The same where memory was refused to one of the two.
-static UNAVAILABLE: [&str; 2] = [
-    "503 {\"code\":503,\"refused\":\"storage\"}\n409 {\"code\":56,\"refused\":\"batch-unknown\"}\n",
-    "200 {\"result\":\"reset\",\"session\":0}\n503 {\"code\":503,\"refused\":\"storage\"}\n",
-];
+const FIRST_REFUSED: &[u8] =
+    b"503 {\"code\":503,\"refused\":\"storage\"}\n409 {\"code\":56,\"refused\":\"batch-unknown\"}\n";
+
+const SECOND_REFUSED: &[u8] =
+    b"200 {\"result\":\"reset\",\"session\":0}\n503 {\"code\":503,\"refused\":\"storage\"}\n";
 
 fn is_unavailable(taken: &[u8]) -> bool {
-    !TOLD.as_bytes().starts_with(taken)
-        && UNAVAILABLE
-            .iter()
-            .any(|text| text.as_bytes().starts_with(taken))
+    let is_refused = FIRST_REFUSED.starts_with(taken) || SECOND_REFUSED.starts_with(taken);
+    is_refused && !TOLD.as_bytes().starts_with(taken)
 }
 
 // How a drill ends whose writer has so much room, and takes one byte a call; the beginning is written where memory was not refused.
@@ -254,7 +241,7 @@ fn drill_of_limited(rt: &impl Abort, alloc: Global, room: usize) -> Result<(), D
 // A failed write is told before a bad line.
 #[test]
 fn a_drill_has_its_beginning_where_a_writer_fails(rt: HostRuntime) {
-    for room in 0..TOLD.len() {
+    for room in [0, 1, 20, 34, 35, 36, 50, TOLD.len() - 1] {
         let end = at_last!(drill_of_limited(&rt, rt.alloc(), room));
         assert_eq!(rt; end, Err(DrillStop::WriteFailed), "at {room}");
     }

@@ -1,5 +1,5 @@
 -- Replies, read back from their own texts.
-use Rattle.std.proofs.Common.{◌≡◌, ◌<◌, ◌≤◌, ◌+◌, ◌-◌, ◌^◌, ℕ, zero, suc, Bool, true, false, not, List, [], ◌∷◌, ◌++◌, length, drop, get_or, Some, inl, inr, refl, sym, ap, ◌∙◌, arith, append-nil, length-append, lt-ltb, decimal}
+use Rattle.std.proofs.Common.{◌≡◌, ◌<◌, ◌≤◌, ◌+◌, ◌-◌, ◌^◌, ℕ, zero, suc, Bool, true, false, not, cond, List, [], ◌∷◌, ◌++◌, length, drop, get_or, Some, None, inl, inr, refl, sym, ap, ◌∙◌, arith, append-nil, length-append, lt-ltb, decimal}
 use Rattle.std.specs.Prelude.{◌==◌, ◌≢◌, slice_index, bytes_eq, nat_lt, option_map, option_and_then, Option, IsTrue, IsUtf8}
 use Rattle.std.specs.List.{list_all}
 use Rattle.std.specs.Str.{IsAscii}
@@ -11,7 +11,7 @@ use Rattle.std.proofs.lemmas.Bool.{and_parts, cases_lt}
 use Rattle.std.proofs.lemmas.Bool.Decides.{nat_tests}
 use Rattle.std.proofs.lemmas.Fmt.{IsAscii-decimal, decimal_is_IsNumeral}
 use Rattle.std.proofs.lemmas.List.{append_cancel_left}
-use Rattle.std.proofs.lemmas.Str.{IsUtf8-from_ascii}
+use Rattle.std.proofs.lemmas.Str.{IsUtf8-from_ascii, is_utf8-from_IsUtf8}
 use Rattle.std.proofs.lemmas.Str.Ascii.{IsAscii-cons, IsAscii-nil}
 use Rattle.std.proofs.lemmas.List.Folds.{list_all-append}
 use Rattle.std.proofs.lemmas.Slice.Eq.{bytes_eq-Decides}
@@ -29,10 +29,10 @@ use Rattle.serde_json.specs.Read.{max_depth, of_json, read}
 use Rattle.serde_json.specs.Written.{compact_text, outline}
 use Rattle.serde_json.proofs.Numbers.{number_of-decimal}
 use Rattle.serde_json.proofs.Texts.{print-outline}
-use Rattle.batch_import.specs.Kinds.{code_of as kind_code_of, name_of as kind_name_of}
+use Rattle.batch_import.specs.Kinds.{code_of as kind_code_of, name_of as kind_name_of, kind_of_code}
 use Rattle.batch_import.specs.declared.fault.Kind.{Kind}
 use Rattle.batch_import.specs.declared.fault.Kind.TheVariants as kind
-use Rattle.job_core.specs.Refusals.{code_of, name_of}
+use Rattle.job_core.specs.Refusals.{code_of, name_of, refusal_of}
 use Rattle.job_core.specs.declared.refusal.Refusal.{Refusal}
 use Rattle.job_core.specs.declared.refusal.Refusal.TheVariants as refusal
 use Rattle.job_core.specs.declared.reply.Made.{Made}
@@ -44,12 +44,17 @@ use Rattle.reply_store.specs.Values.{ArePlain, IsPlain, value_of}
 use Rattle.reply_store.proofs.Escapes.{hex_plain, name_plain, plain_ascii}
 use Rattle.reply_store.proofs.Texts.{text_is_body}
 use Rattle.store_data.specs.Name.{is_name}
-use Rattle.wire.specs.declared.reply.Kind.TheVariants.{Json}
-use Rattle.wire.specs.Parsed.{HasNoBrace, kind_by, refusal_by, reply_in}
-use Rattle.wire.specs.Parsing.{IsReply, reply_bytes}
-use Rattle.wire.specs.Requests.{name_at, text_at, value_in}
-use Rattle.wire.proofs.RequestLemmas.{value_in-read}
-use Rattle.wire.specs.Texts.{head_text, status_text}
+use Rattle.heads.specs.declared.reply.Content.TheVariants.{Json}
+use Rattle.wire.specs.ReplyReading.{HasNoBrace, reply_in}
+use Rattle.wire.specs.ReplyText.{IsReply, reply_bytes}
+use Rattle.asks.specs.Members.{name_at, text_at, value_in}
+use Rattle.heads.specs.Texts.{head_text, status_text}
+
+-- ---- JSON
+
+pub value_in-read : (body : List ℕ) (d : Data) → IsUtf8 body → read body ≡ Some d → value_in body ≡ Some d
+unfolding value_in
+value_in-read body d text is = ap (λ b. cond b (read body) None) (is_utf8-from_IsUtf8 body text) ∙ is
 
 -- ---- where a body begins
 
@@ -200,13 +205,13 @@ value_is_read (Faulty fault) h =
 
 -- ---- the candidate is the reply
 
-refusal_is_found : (why : Refusal) → refusal_by (code_of why) ≡ Some why
-unfolding refusal_by
+refusal_is_found : (why : Refusal) → refusal_of (code_of why) ≡ Some why
+unfolding refusal_of
 refusal_is_found refusal.ProductDiffers = refl
 refusal_is_found _ = refl
 
-kind_is_found : (k : Kind) → kind_by (kind_code_of k) ≡ Some k
-unfolding kind_by
+kind_is_found : (k : Kind) → kind_of_code (kind_code_of k) ≡ Some k
+unfolding kind_of_code
 kind_is_found kind.MarksDiffer = refl
 kind_is_found _ = refl
 

@@ -7,8 +7,9 @@ use Rattle.job_core.specs.declared.request.Request.{Request}
 use Rattle.job_core.specs.declared.request.Request.TheVariants as request
 use Rattle.reply_store.specs.Values.{IsPlain}
 use Rattle.reply_store.proofs.Escapes.{escape_plain, hex_plain, name_plain}
-use Rattle.wire.specs.Asks.{import_tail}
-use Rattle.wire.specs.Sending.{AreNames, IsSendable, body_of, sending_of, sending_with, tail_of, value_of, word_text}
+use Rattle.asks.specs.Asks.{import_tail}
+use Rattle.asks.specs.Posts.{post_with}
+use Rattle.wire.specs.Sending.{AreNames, IsSendable, body_of, sending_of, tail_of, value_of, word_text}
 
 pub no_float : (r : Request) → has_float (value_of r) ≡ false
 no_float (request.Product p) = refl
@@ -65,13 +66,12 @@ no_tail (request.Remake b r) other = refl
 no_tail (request.Withdraw b r) other = refl
 no_tail (request.Close b) other = refl
 
-pub json_is_sent : (client : List ℕ) (number : ℕ) (r : Request) (tail body : List ℕ) → tail ≡ [] → body ≡ body_of r → IsNoImport r
-    → sending_with client number tail body ≡ sending_of client number r
-json_is_sent client number r tail body none is other =
-    ap (λ (t : List ℕ). sending_with client number t body) (none ∙ sym (no_tail r other)) ∙ ap (sending_with client number (tail_of r)) is
+pub json_is_sent : (client : List ℕ) (number : ℕ) (r : Request) (body : List ℕ) → body ≡ body_of r → IsNoImport r
+    → post_with client number [] body ≡ sending_of client number r
+json_is_sent client number r body is other =
+    ap (λ (t : List ℕ). post_with client number t body) (sym (no_tail r other)) ∙ ap (post_with client number (tail_of r)) is
 
-pub file_is_sent : (client : List ℕ) (number : ℕ) (r : Request) (b p raw tail body : List ℕ) → r ≡ request.Import b p raw → tail ≡ import_tail b p → body ≡ raw
-    → sending_with client number tail body ≡ sending_of client number r
+pub file_is_sent : (client : List ℕ) (number : ℕ) (r : Request) (b p raw body : List ℕ) → r ≡ request.Import b p raw → body ≡ raw
+    → post_with client number (import_tail b p) body ≡ sending_of client number r
 unfolding body_of
-file_is_sent client number r b p raw tail body is tails same =
-    ap (λ (t : List ℕ). sending_with client number t body) tails ∙ ap (sending_with client number (import_tail b p)) same ∙ ap (sending_of client number) (sym is)
+file_is_sent client number r b p raw body is same = ap (post_with client number (import_tail b p)) same ∙ ap (sending_of client number) (sym is)

@@ -7,8 +7,6 @@ use Rattle.std.specs.Str.Parse.{digits_value}
 use Rattle.std.proofs.lemmas.Bool.{and_parts, cases_lt}
 use Rattle.std.proofs.lemmas.Bool.Decides.{nat_tests}
 use Rattle.std.proofs.lemmas.Fmt.{length-decimal-le}
-use Rattle.std.proofs.lemmas.List.Folds.{list_all-append}
-use Rattle.std.proofs.lemmas.Str.{IsUtf8-from_ascii}
 use Rattle.hex.specs.Hex.{encode_with, upper_digits}
 use Rattle.json.proofs.Printed.Decimals.{IsNumber-decimal}
 use Rattle.serde_json.specs.Read.{read}
@@ -17,14 +15,13 @@ use Rattle.serde_json.proofs.Numbers.{number_of-decimal}
 use Rattle.store_data.specs.Name.{is_name, is_name_char}
 use Rattle.job_core.specs.declared.request.Request.{Request}
 use Rattle.job_core.specs.declared.request.Request.TheVariants as request
-use Rattle.reply_store.specs.Values.{IsPlain, flag_text}
-use Rattle.reply_store.proofs.Escapes.{name_plain}
-use Rattle.wire.specs.Requests.{abort_in, answer_in, close_in, discard_in, flag_at, is_lot, is_within, is_word, kept, lot_in, name_at, number_within, open_in, product_in, remake_in, request_by_word, request_in, request_of_value, text_at, withdraw_in, word_in, with_two, with_three, with_four}
+use Rattle.reply_store.specs.Values.{flag_text}
+use Rattle.heads.specs.Heads.{most_body}
+use Rattle.asks.specs.Members.{passing, name_at, text_at}
+use Rattle.asks.specs.Requests.{abort_in, answer_in, close_in, discard_in, flag_at, is_lot, is_within, is_word, lot_in, number_within, open_in, product_in, remake_in, request_by_word, request_in, request_of_value, withdraw_in, word_in, with_two, with_three, with_four}
 use Rattle.wire.specs.Sending.{AreNames, IsSendable, body_of, value_of, word_text}
-use Rattle.wire.proofs.ParseLemmas.{read_whole}
-use Rattle.wire.proofs.RequestLemmas.{value_in-read}
+use Rattle.wire.proofs.ParseLemmas.{read_whole, value_in-read}
 use Rattle.wire.proofs.SendLemmas.{IsNoImport, text_is_body, word_is_plain}
-use Rattle.wire.proofs.SentHeads.{are_seen, decimal_is_seen, is_seen, seen_ascii}
 
 -- ---- words
 
@@ -69,18 +66,18 @@ word_value sw h =
     let sum : (((0 * 16 + sw / 256 / 16) * 16 + sw / 256 % 16) * 16 + sw % 256 / 16) * 16 + sw % 256 % 16 ≡ sw = omega arith in
     (λ i. (((0 * 16 + a i) * 16 + b i) * 16 + c i) * 16 + d i) ∙ sum
 
-word_is_read : (sw : ℕ) → sw < 65536 → option_map (digits_value 16) (kept is_word (word_text sw)) ≡ Some sw
+word_is_read : (sw : ℕ) → sw < 65536 → option_map (digits_value 16) (passing is_word (word_text sw)) ≡ Some sw
 word_is_read sw h = ap (λ (t : Bool). option_map (digits_value 16) (cond t (Some (word_text sw)) None)) (word_is_word sw h) ∙ ap (λ (n : ℕ). Some n) (word_value sw h)
 
 -- ---- the value is the request's
 
-pub number_kept : (least most n : ℕ) → least ≤ n → n ≤ most → kept (is_within least most) n ≡ Some n
+pub number_kept : (least most n : ℕ) → least ≤ n → n ≤ most → passing (is_within least most) n ≡ Some n
 number_kept least most n low high =
     let a : nat_le least n ≡ true = grind (arith, nat_tests, low) in
     let b : nat_le n most ≡ true = grind (arith, nat_tests, high) in
     λ i. cond (a i && b i) (Some n) None
 
-name_kept : (n : List ℕ) → IsTrue (is_name n) → kept is_name n ≡ Some n
+name_kept : (n : List ℕ) → IsTrue (is_name n) → passing is_name n ≡ Some n
 name_kept n h = ap (λ (t : Bool). cond t (Some n) None) h
 
 request_is_found : (r : Request) → AreNames r → IsSendable r → IsNoImport r → request_of_value (value_of r) ≡ Some r
@@ -89,7 +86,7 @@ request_is_found (request.Product p) h s other = λ i. with_four (λ code max lo
     (name_kept p.code h i) (number_kept 16 255 p.max s.least s.most i) (number_kept 0 31 p.low (omega arith) s.low i) (Some p.check)
 request_is_found (request.Lot l) h s other =
     let range : is_lot l ≡ true = let r = s.range in grind (arith, nat_tests, r) in
-    (λ i. option_map request.Lot (option_and_then (kept is_lot) (with_four (λ name product first count. record { name = name; product = product; first = first; count = count })
+    (λ i. option_map request.Lot (option_and_then (passing is_lot) (with_four (λ name product first count. record { name = name; product = product; first = first; count = count })
     (name_kept l.name h.0 i) (name_kept l.product h.1 i) (number_kept 0 (10 ^ 18 - 1) l.first (omega arith) (omega (arith, s.range, s.least)) i) (number_kept 1 1000000 l.count s.least s.most i))))
     ∙ ap (λ (t : Bool). option_map request.Lot (cond t (Some l) None)) range
 request_is_found (request.Import b p raw) h s other = absurd (other b p raw refl)
@@ -132,29 +129,10 @@ value_is_read (request.Remake b r) s other = read_whole _ (tt, (tt, (tt, tt))) r
 value_is_read (request.Withdraw b r) s other = read_whole _ (tt, (tt, (tt, tt))) refl (omega arith)
 value_is_read (request.Close b) s other = read_whole _ (tt, (tt, tt)) refl (omega arith)
 
--- ---- bytes and sizes
+-- ---- sizes
 
-char_is_seen : (b : ℕ) → is_name_char b ≡ true → is_seen b ≡ true
-char_is_seen b h = grind (arith, nat_tests)
-
-plain_is_seen : (xs : List ℕ) → IsPlain xs → are_seen xs ≡ true
-plain_is_seen [] h = refl
-plain_is_seen (b ∷ xs) h =
-    let both = and_parts (is_name_char b) (list_all is_name_char xs) h in
-    ap (λ (t : Bool). t && are_seen xs) (char_is_seen b both.0) ∙ plain_is_seen xs both.1
-
-pub name_is_seen : (n : List ℕ) → IsTrue (is_name n) → are_seen n ≡ true
-name_is_seen n h = plain_is_seen n (name_plain n h)
-
-pub name_is_short : (n : List ℕ) → IsTrue (is_name n) → length n ≤ 32
+name_is_short : (n : List ℕ) → IsTrue (is_name n) → length n ≤ 32
 name_is_short n h = grind (arith, nat_tests)
-
-word_is_seen : (sw : ℕ) → sw < 65536 → are_seen (word_text sw) ≡ true
-word_is_seen sw h = plain_is_seen (word_text sw) (word_is_plain sw h)
-
-flag_is_seen : (b : Bool) → are_seen (flag_text b) ≡ true
-flag_is_seen true = refl
-flag_is_seen false = refl
 
 flag_is_short : (b : Bool) → length (flag_text b) ≤ 5
 flag_is_short true = omega arith
@@ -163,24 +141,7 @@ flag_is_short false = omega arith
 few : (n : ℕ) → n < 2 ^ 64 → length (decimal n) ≤ 20
 few n h = length-decimal-le 20 n (omega arith) (omega (arith, h)) h
 
-body_is_seen : (r : Request) → AreNames r → IsSendable r → IsNoImport r → are_seen (body_of r) ≡ true
-unfolding body_of
-body_is_seen (request.Product p) h s other =
-    simp (list_all-append, flag_is_seen p.check, decimal_is_seen p.low (omega (arith, s.low)), decimal_is_seen p.max (omega (arith, s.most)), name_is_seen p.code h)
-body_is_seen (request.Lot l) h s other =
-    simp (list_all-append, decimal_is_seen l.count (omega (arith, s.most)), decimal_is_seen l.first (omega (arith, s.range)), name_is_seen l.name h.0, name_is_seen l.product h.1)
-body_is_seen (request.Import b p raw) h s other = absurd (other b p raw refl)
-body_is_seen (request.Open b blank) h s other = simp (list_all-append, name_is_seen b h, decimal_is_seen blank (omega (arith, s)))
-body_is_seen (request.Answer n k sw) h s other =
-    simp (list_all-append, decimal_is_seen k (omega (arith, s.2)), decimal_is_seen n (omega (arith, s.1)), word_is_seen sw (omega (arith, s.3)))
-body_is_seen (request.Abort n) h s other = simp (list_all-append, decimal_is_seen n (omega (arith, s.1)))
-body_is_seen request.Reset h s other = refl
-body_is_seen (request.Discard blank) h s other = simp (list_all-append, decimal_is_seen blank (omega (arith, s)))
-body_is_seen (request.Remake b r) h s other = simp (list_all-append, name_is_seen b h.0, name_is_seen r h.1)
-body_is_seen (request.Withdraw b r) h s other = simp (list_all-append, name_is_seen b h.0, name_is_seen r h.1)
-body_is_seen (request.Close b) h s other = simp (list_all-append, name_is_seen b h)
-
-pub body_is_short : (r : Request) → AreNames r → IsSendable r → IsNoImport r → length (body_of r) ≤ 1048576
+pub body_is_short : (r : Request) → AreNames r → IsSendable r → IsNoImport r → length (body_of r) ≤ most_body
 unfolding body_of encode_with
 body_is_short (request.Product p) h s other =
     simp length-append (omega (arith, flag_is_short p.check, few p.low (omega (arith, s.low)), few p.max (omega (arith, s.most)), name_is_short p.code h))
@@ -196,9 +157,8 @@ body_is_short (request.Remake b r) h s other = simp length-append (omega (arith,
 body_is_short (request.Withdraw b r) h s other = simp length-append (omega (arith, name_is_short b h.0, name_is_short r h.1))
 body_is_short (request.Close b) h s other = simp length-append (omega (arith, name_is_short b h))
 
-pub request_is_read : (r : Request) → AreNames r → IsSendable r → IsNoImport r → request_in (body_of r) ≡ Some r
+pub request_is_read : (r : Request) → AreNames r → IsSendable r → IsNoImport r → IsUtf8 (body_of r) → request_in (body_of r) ≡ Some r
 unfolding request_in
-request_is_read r h s other =
-    let text : IsUtf8 (body_of r) = IsUtf8-from_ascii (body_of r) (seen_ascii (body_of r) (body_is_seen r h s other)) in
+request_is_read r h s other text =
     let body : read (body_of r) ≡ Some (value_of r) = ap read (sym (text_is_body r h s other)) ∙ value_is_read r s other in
     ap (option_and_then request_of_value) (value_in-read (body_of r) (value_of r) text body) ∙ request_is_found r h s other

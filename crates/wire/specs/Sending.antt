@@ -7,9 +7,11 @@ use Rattle.job_core.specs.Sound.{IsName}
 use Rattle.job_core.specs.Requests.{IsRequest}
 use Rattle.job_core.specs.declared.request.Request.{Request}
 use Rattle.job_core.specs.declared.request.Request.TheVariants as request
-use Rattle.wire.specs.declared.ask.Asked.TheVariants as asked
-use Rattle.wire.specs.Asks.{ask_with, asked_of, import_tail}
-use Rattle.wire.specs.Messages.{Brings, Came, IsHeard}
+use Rattle.asks.specs.declared.ask.Asked.TheVariants as asked
+use Rattle.asks.specs.Asks.{ask_with, import_tail}
+use Rattle.asks.specs.Meant.{Asks, Means}
+use Rattle.asks.specs.Posts.{post_with}
+use Rattle.heads.specs.Heads.{most_body}
 
 -- ---- what callers owe
 
@@ -17,7 +19,7 @@ use Rattle.wire.specs.Messages.{Brings, Came, IsHeard}
 abbrev pub IsSendable : Request → Type 0
 IsSendable (request.Product p) = IsRequest (request.Product p)
 IsSendable (request.Lot l) = IsRequest (request.Lot l)
-IsSendable (request.Import b p raw) = length raw ≤ 1048576
+IsSendable (request.Import b p raw) = length raw ≤ most_body
 IsSendable (request.Open b blank) = blank < 10 ^ 18
 IsSendable (request.Answer s k sw) = (1 ≤ s) × (s < 10 ^ 18) × (k < 2 ^ 32) × (sw < 2 ^ 16)
 IsSendable (request.Abort s) = (1 ≤ s) × (s < 10 ^ 18)
@@ -67,20 +69,9 @@ tail_of (request.Remake b r) = []
 tail_of (request.Withdraw b r) = []
 tail_of (request.Close b) = []
 
-abbrev pub target_with : List ℕ → ℕ → List ℕ → List ℕ
-target_with client number tail = codes "/c/" ++ client ++ codes "/" ++ decimal number ++ tail
-
--- a request's head, by its target and the size of its body
-unfoldable pub sending_head : List ℕ → ℕ → List ℕ
-sending_head target size = codes "POST " ++ target ++ codes " HTTP/1.1\r\nHost: localhost\r\nContent-Length: " ++ decimal size ++ codes "\r\n\r\n"
-
--- a message by its client, its number, what follows the number in the target, and its body
-abbrev pub sending_with : List ℕ → ℕ → List ℕ → List ℕ → List ℕ
-sending_with client number tail body = sending_head (target_with client number tail) (length body) ++ body
-
 -- the message that asks for a request
 abbrev pub sending_of : List ℕ → ℕ → Request → List ℕ
-sending_of client number r = sending_with client number (tail_of r) (body_of r)
+sending_of client number r = post_with client number (tail_of r) (body_of r)
 
 -- what a repeat of it has to have alike
 abbrev pub ask_of : Request → List ℕ
@@ -127,7 +118,6 @@ AreNames (request.Close b) = IsName b
 
 -- ---- what becomes of a text
 
--- a message that is this request of a client under its number
+-- it means this request of a client under its number, and nothing else
 abbrev pub Arrives : List ℕ → List ℕ → ℕ → Request → Type 0
-Arrives text client number r =
-    (c : Came) × IsHeard text (Brings c) × (asked_of c ≡ Ok (asked.Arrival (record { client = client; number = number; ask = ask_of r; request = r })))
+Arrives text client number r = Means text (Asks (asked.Arrival (record { client = client; number = number; ask = ask_of r; request = r })))

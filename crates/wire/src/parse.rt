@@ -4,13 +4,13 @@ ghost use Rattle.hex.specs.Hex.{IsBytes};
 ghost use Rattle.job_core.specs.Sound.{IsName};
 ghost use Rattle.job_core.specs.declared.reply.Reply.{Reply as ReplyValue};
 ghost use Rattle.serde_json.specs.View.{view};
-ghost use Rattle.wire.specs.Parsed.{HasNoBrace, accepted_in, bytes_at, command_in, count_at, ended_in, import_in, kind_by, made_in, next_in, noted_in, opened_in, refusal_by, refused_in, reply_in};
-ghost use Rattle.wire.specs.Parsing.{IsReply, reply_bytes};
-ghost use Rattle.wire.specs.Requests.{name_at, number_at, text_at};
+ghost use Rattle.wire.specs.ReplyReading.{HasNoBrace, accepted_in, bytes_at, command_in, count_at, ended_in, import_in, made_in, next_in, noted_in, opened_in, refused_in, reply_in};
+ghost use Rattle.wire.specs.ReplyText.{IsReply, reply_bytes};
+ghost use Rattle.asks.specs.Members.{name_at, number_at, text_at};
 
-use crate::reply::{Kind, reply_head};
-use crate::request::{name_at, number_at, text_at, value_in};
+use asks::members::{name_at, number_at, text_at, value_in};
 use batch_import::{Kind as FaultKind, RowFault};
+use heads::{Content, reply_head};
 use hex::FromHexError;
 use job_core::{Made, Refusal, Reply};
 use reply_store::{body_of, status_of};
@@ -67,7 +67,7 @@ fn is_text_of(alloc: Global, bytes: &[u8], reply: &Reply) -> Result<bool, AllocE
     let body = body_of(alloc, reply)?;
     let mut head = [0; 256];
     let size = body.as_slice().len();
-    let end = reply_head(status_of(reply), Kind::Json, size, &mut head);
+    let end = reply_head(status_of(reply), Content::Json, size, &mut head);
     match bytes.strip_prefix(&head[..end]) {
         Some(rest) => Ok(rest == body.as_slice()),
         None => Ok(false),
@@ -219,12 +219,12 @@ fn refused_in(value: &Value) -> Option<Reply>
         return Some(Reply::Busy { session });
     }
     if let Some(row) = count_at(value, "row") {
-        let kind = kind_by(code)?;
+        let kind = FaultKind::from_code(code)?;
         return Some(Reply::Faulty {
             fault: RowFault { row, kind },
         });
     }
-    let refusal = refusal_by(code)?;
+    let refusal = Refusal::from_code(code)?;
     Some(Reply::Refused { refusal })
 }
 
@@ -250,60 +250,5 @@ fn bytes_at(alloc: Global, value: &Value, key: &str) -> Result<Option<Bytes>, Al
         Ok(bytes) => Ok(Some(Bytes::from_vec(bytes))),
         Err(FromHexError::OutOfMemory) => Err(AllocError),
         Err(_) => Ok(None),
-    }
-}
-
-// ---- numbers of refusals and faults
-
-#[tactic(auto, unfolding(crate::specs::Parsed::refusal_by))]
-fn refusal_by(code: u64) -> Option<Refusal>
-    ensures { result ≡ refusal_by code }
-{
-    match code {
-        51 => Some(Refusal::ProductDiffers),
-        52 => Some(Refusal::ProductUnknown),
-        53 => Some(Refusal::LotDiffers),
-        54 => Some(Refusal::SerialsOverlap),
-        55 => Some(Refusal::BatchDiffers),
-        56 => Some(Refusal::BatchUnknown),
-        57 => Some(Refusal::BatchClosed),
-        58 => Some(Refusal::BlankUnknown),
-        59 => Some(Refusal::BlankOfOtherProduct),
-        60 => Some(Refusal::BlankUsed),
-        62 => Some(Refusal::NothingWaiting),
-        63 => Some(Refusal::SessionUnknown),
-        64 => Some(Refusal::NotYours),
-        65 => Some(Refusal::SessionEnded),
-        66 => Some(Refusal::OutOfTurn),
-        67 => Some(Refusal::RecordUnknown),
-        68 => Some(Refusal::NotFailed),
-        69 => Some(Refusal::NotWithdrawable),
-        70 => Some(Refusal::NotFinished),
-        71 => Some(Refusal::Limit),
-        72 => Some(Refusal::NumberReused),
-        _ => None,
-    }
-}
-
-#[tactic(auto, unfolding(crate::specs::Parsed::kind_by))]
-fn kind_by(code: u64) -> Option<FaultKind>
-    ensures { result ≡ kind_by code }
-{
-    match code {
-        21 => Some(FaultKind::MarksDiffer),
-        22 => Some(FaultKind::IdentifierTwice),
-        23 => Some(FaultKind::TooManyBlocks),
-        30 => Some(FaultKind::NotSixFields),
-        31 => Some(FaultKind::Header),
-        32 => Some(FaultKind::RecordName),
-        33 => Some(FaultKind::Aid),
-        34 => Some(FaultKind::Rank),
-        35 => Some(FaultKind::Mark),
-        36 => Some(FaultKind::Grouping),
-        37 => Some(FaultKind::NotARecord),
-        38 => Some(FaultKind::TooManyRows),
-        39 => Some(FaultKind::TooManyRecords),
-        40 => Some(FaultKind::NoRows),
-        _ => None,
     }
 }

@@ -2,19 +2,14 @@
 ghost use Rattle.std.specs.Prelude.{◌≡◌, ◌≤◌, ◌<◌, ◌^◌, IfOk, OnOk, string_bytes};
 ghost use Rattle.serde_json.specs.View.{view};
 ghost use Rattle.job_core.specs.Sound.{IsName};
-ghost use Rattle.wire.specs.Asks.{import_tail};
-ghost use Rattle.wire.specs.Sending.{AreNames, Arrives, IsSendable, record_request, sending_of, sending_with, value_of, word_text};
+ghost use Rattle.wire.specs.Sending.{AreNames, Arrives, IsSendable, record_request, sending_of, value_of, word_text};
 
-use crate::ask::push_import_tail;
-use itoa::Buffer;
+use asks::{import_text, job_text};
 use job_core::{Lot, Request};
 use reply_store::name_text;
 use serde_json::{Value, json};
 use std::alloc::{AllocError, Global};
 use store_data::{Bytes, Name, Product};
-
-/// Room for a head: a target with three names and a number of 18 digits, and the lines around it.
-const MOST_HEAD: usize = 256;
 
 /// The message that asks for a request under a client's number, head and body. The number is 1 to 999,999,999,999,999,999. It
 /// fails only where memory is refused.
@@ -38,60 +33,9 @@ pub fn request_text(
         } => import_text(alloc, client, number, batch, product, raw.as_slice()),
         _ => {
             let body = value_of(alloc, request)?.to_string(alloc)?;
-            text_with(alloc, client, number, b"", body.as_bytes())
+            job_text(alloc, client, number, body.as_bytes())
         }
     }
-}
-
-// The message that asks for an import.
-fn import_text(
-    alloc: Global,
-    client: &Name,
-    number: u64,
-    batch: &Name,
-    product: &Name,
-    raw: &[u8],
-) -> Result<Bytes, AllocError>
-    ensures text { IfOk result (λ text. text ≡ sending_with client.now number (import_tail batch.now product.now) raw.now) }
-    ensures names { OnOk result (IsName client.now × IsName batch.now × IsName product.now) }
-{
-    let tail = import_tail(alloc, batch, product)?;
-    text_with(alloc, client, number, tail.as_slice(), raw)
-}
-
-// A message by what follows the number in its target, and by its body.
-fn text_with(
-    alloc: Global,
-    client: &Name,
-    number: u64,
-    tail: &[u8],
-    body: &[u8],
-) -> Result<Bytes, AllocError>
-    ensures text { IfOk result (λ text. text ≡ sending_with client.now number tail.now body.now) }
-    ensures name { OnOk result (IsName client.now) }
-{
-    let mut digits = Buffer::new();
-    let mut text = Vec::with_capacity(alloc, MOST_HEAD + body.len())?;
-    text.extend_from_slice(b"POST /c/")?;
-    text.extend_from_slice(client.bytes())?;
-    text.push(b'/')?;
-    text.extend_from_slice(digits.format(number).as_bytes())?;
-    text.extend_from_slice(tail)?;
-    text.extend_from_slice(b" HTTP/1.1\r\nHost: localhost\r\nContent-Length: ")?;
-    text.extend_from_slice(digits.format(body.len()).as_bytes())?;
-    text.extend_from_slice(b"\r\n\r\n")?;
-    text.extend_from_slice(body)?;
-    Ok(Bytes::from_vec(text))
-}
-
-// What follows the number in an import's target.
-fn import_tail(alloc: Global, batch: &Name, product: &Name) -> Result<Bytes, AllocError>
-    ensures tail { IfOk result (λ tail. tail ≡ import_tail batch.now product.now) }
-    ensures names { OnOk result (IsName batch.now × IsName product.now) }
-{
-    let mut tail = Vec::new(alloc);
-    push_import_tail(&mut tail, batch, product)?;
-    Ok(Bytes::from_vec(tail))
 }
 
 // The JSON of a request; an import has none.

@@ -1,30 +1,21 @@
 //! Asks and their replies.
 use crate::typed::{check_handled, check_parsed, check_run, written_anew};
-use crate::ways::{Exchange, Fresh, Way, check_bytes, check_same, check_wanted, connected, served};
+use crate::ways::{
+    Exchange, Fresh, ONE_BY_ONE, WHOLE, check_bytes, check_same, check_wanted, check_way,
+    connected, served,
+};
 use case_files::{Case, CaseFault, Line, Repeats, cases, get, post, wanted_of};
 use drill::drill_engine;
 use server::Replied;
 use std::alloc::{AllocError, Global};
 use wire::reply_parts;
 
-const WHOLE: Way = Way {
-    name: "whole",
-    most: 8192,
-    behind: b"",
-};
-
-const ONE_BY_ONE: Way = Way {
-    name: "one byte at a time",
-    most: 1,
-    behind: b"",
-};
-
-/// The asks of a case.
+/// The asks of a case, as they are read.
 #[derive(Drop)]
 struct Asks {
     exchanges: Vec<Exchange>,
-    /// The script that asks the same of a drill, where all asks are the office's.
-    script: Option<String>,
+    /// The batch file that is being read.
+    file: Option<File>,
     /// How the asks are spelt matters to the replies.
     is_spelling: bool,
 }
@@ -33,43 +24,49 @@ struct Asks {
 pub fn check_exchanges<S: Fresh + Drop>(alloc: Global, case: Case) -> Result<(), CaseFault> {
     let number = case.number;
     let lines = with_set_up(alloc, case)?;
-    let Asks {
-        exchanges,
-        script,
-        is_spelling,
-    } = asks_of(alloc, lines.as_slice())?;
-    let exchanges = exchanges.as_slice();
-    let first = served::<S>(alloc, exchanges, WHOLE)?;
-    let first = first.replies();
+    let asks = asks_of(alloc, lines.as_slice())?;
+    let first = served::<S>(alloc, asks.exchanges.as_slice(), WHOLE)?;
+    check_ways::<S>(alloc, &asks, first.replies())?;
+    match script_of(alloc, lines.as_slice())? {
+        Some(script) => check_drill(alloc, number, script.as_str(), first.replies()),
+        None => Ok(()),
+    }
+}
+
+fn check_ways<S: Fresh + Drop>(
+    alloc: Global,
+    asks: &Asks,
+    first: &[Replied],
+) -> Result<(), CaseFault> {
+    let exchanges = asks.exchanges.as_slice();
     check_wanted(alloc, exchanges, WHOLE.name, first, false)?;
-    let second = served::<S>(alloc, exchanges, ONE_BY_ONE)?;
-    check_same(alloc, exchanges, ONE_BY_ONE.name, first, second.replies())?;
+    check_way::<S>(alloc, exchanges, ONE_BY_ONE, first)?;
     check_handled::<S>(alloc, exchanges, first)?;
     check_run::<S>(alloc, exchanges, first)?;
     check_parsed(alloc, exchanges, first)?;
-    if !is_spelling {
-        let mut store = S::fresh(alloc)?;
-        let inputs = written_anew(alloc, exchanges)?;
-        let anew = connected(alloc, &mut store, inputs, WHOLE.most)?;
-        check_same(alloc, exchanges, "request_text", first, anew.replies())?;
+    if asks.is_spelling {
+        return Ok(());
     }
-    match script {
-        Some(script) => check_drill(alloc, number, script.as_str(), first),
-        None => Ok(()),
-    }
+    check_anew::<S>(alloc, exchanges, first)
+}
+
+// Each request written anew gets the reply that came on the first way.
+fn check_anew<S: Fresh + Drop>(
+    alloc: Global,
+    exchanges: &[Exchange],
+    first: &[Replied],
+) -> Result<(), CaseFault> {
+    let mut store = S::fresh(alloc)?;
+    let inputs = written_anew(alloc, exchanges)?;
+    let anew = connected(alloc, &mut store, inputs, WHOLE.most)?;
+    check_same(alloc, exchanges, "request_text", first, anew.replies())
 }
 
 // A drill prints the status and the body of each reply.
 fn check_drill(alloc: Global, line: u64, script: &str, first: &[Replied]) -> Result<(), CaseFault> {
     let mut wanted = Vec::new(alloc);
     for replied in first {
-        let (status, body) = reply_parts(replied.written.as_slice());
-        wanted.extend_from_slice(status)?;
-        wanted.push(b' ')?;
-        wanted.extend_from_slice(body)?;
-        if !body.ends_with(b"\n") {
-            wanted.push(b'\n')?;
-        }
+        put_reply(&mut wanted, replied.written.as_slice())?;
     }
     let mut input = script.as_bytes();
     let mut printed = Vec::new(alloc);
@@ -77,6 +74,17 @@ fn check_drill(alloc: Global, line: u64, script: &str, first: &[Replied]) -> Res
         return Err(CaseFault::Memory);
     }
     check_bytes(alloc, line, "drill", wanted.as_slice(), printed.as_slice())
+}
+
+fn put_reply(text: &mut Vec<u8>, reply: &[u8]) -> Result<(), AllocError> {
+    let (status, body) = reply_parts(reply);
+    text.extend_from_slice(status)?;
+    text.push(b' ')?;
+    text.extend_from_slice(body)?;
+    if !body.ends_with(b"\n") {
+        text.push(b'\n')?;
+    }
+    Ok(())
 }
 
 // A batch file that is being read: the target that it goes to, and its bytes so far.
@@ -98,32 +106,39 @@ enum Step {
 }
 
 fn asks_of(alloc: Global, lines: &[Line]) -> Result<Asks, CaseFault> {
-    let mut exchanges = Vec::new(alloc);
-    let mut file: Option<File> = None;
-    let mut is_spelling = false;
+    let mut asks = Asks {
+        exchanges: Vec::new(alloc),
+        file: None,
+        is_spelling: false,
+    };
     for (i, line) in lines.iter().enumerate() {
-        if line.is_answer || file.is_none() && line.text.is_empty() {
-            continue;
+        let behind = lines.get(i.saturating_add(1)..).unwrap_or(&[]);
+        asks.take(alloc, line, behind)?;
+    }
+    Ok(asks)
+}
+
+impl Asks {
+    // Takes a line, with those behind it.
+    fn take(&mut self, alloc: Global, line: &Line, behind: &[Line]) -> Result<(), CaseFault> {
+        if line.is_answer || self.file.is_none() && line.text.is_empty() {
+            return Ok(());
         }
-        let step = match file.take() {
+        let step = match self.file.take() {
             Some(file) => step_in(alloc, file, line.text.as_str())?,
             None => step_of(alloc, line.text.as_str())?,
         };
         match step {
-            Some(Step::Spelling) => is_spelling = true,
-            Some(Step::File(begun)) => file = Some(begun),
+            Some(Step::Spelling) => self.is_spelling = true,
+            Some(Step::File(begun)) => self.file = Some(begun),
             Some(Step::Ask(input)) => {
-                let behind = lines.get(i.saturating_add(1)..).unwrap_or(&[]);
-                exchanges.push(exchange(alloc, line.number, input, behind)?)?;
+                let exchange = exchange(alloc, line.number, input, behind)?;
+                self.exchanges.push(exchange)?;
             }
             None => return Err(CaseFault::Form { line: line.number }),
         }
+        Ok(())
     }
-    Ok(Asks {
-        exchanges,
-        script: script_of(alloc, lines)?,
-        is_spelling,
-    })
 }
 
 /// A connection with this input, and the answers at the front of the lines behind it.
@@ -238,19 +253,25 @@ R1,F00000000101,1,0,0,0101027000
 fn with_set_up(alloc: Global, case: Case) -> Result<Vec<Line>, CaseFault> {
     let mut lines = Vec::new(alloc);
     for line in case.lines {
-        if line.text.as_str() != "set-up" {
+        if line.text.as_str() == "set-up" {
+            push_set_up(alloc, &mut lines, line.number)?;
+        } else {
             lines.push(line)?;
-            continue;
-        }
-        for set_up in cases(alloc, SET_UP, Repeats::Alone)? {
-            for its in set_up.lines {
-                lines.push(Line {
-                    number: line.number,
-                    is_answer: its.is_answer,
-                    text: its.text,
-                })?;
-            }
         }
     }
     Ok(lines)
+}
+
+// Adds the lines of the set-up, all under one number.
+fn push_set_up(alloc: Global, lines: &mut Vec<Line>, number: u64) -> Result<(), CaseFault> {
+    for set_up in cases(alloc, SET_UP, Repeats::Alone)? {
+        for its in set_up.lines {
+            lines.push(Line {
+                number,
+                is_answer: its.is_answer,
+                text: its.text,
+            })?;
+        }
+    }
+    Ok(())
 }

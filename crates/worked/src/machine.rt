@@ -17,26 +17,9 @@ pub fn handed_out<S: Fresh + Drop>(
     let mut store = S::fresh(alloc)?;
     stock(alloc, &mut store, product, raw, records)?;
     let mut text = String::new(alloc);
-    let mut number = 1u64;
+    let mut number = 1;
     for blank in 1..records.saturating_add(1) {
-        let open = format!(in alloc; "{{\"do\":\"open\",\"batch\":\"B1\",\"blank\":{blank}}}")?;
-        let reply = ask(alloc, &mut store, "m1", number, open.as_str())?;
-        number = number.saturating_add(1);
-        let Some(
-            Reply::Opened {
-                command,
-                rec,
-                session,
-                ..
-            },
-        ) = reply
-        else {
-            text.push_str("no record is opened\n")?;
-            return Ok(text);
-        };
-        put_name(alloc, &mut text, rec.bytes())?;
-        put_command(alloc, &mut text, command.as_slice())?;
-        number = personalise(alloc, &mut store, session, number, &mut text)?;
+        number = make_card(alloc, &mut store, number, blank, &mut text)?;
     }
     Ok(text)
 }
@@ -53,26 +36,56 @@ fn stock<S: JobStore>(
     let made = format!(in alloc;
         "{{\"do\":\"product\",\"product\":\"P1\",\"max\":{max},\"low\":{low},\"check\":{check}}}"
     )?;
-    let _ = ask(alloc, store, "office", 1, made.as_str())?;
+    ask(alloc, store, "office", 1, made)?;
     let lot = format!(in alloc;
         "{{\"do\":\"lot\",\"lot\":\"L1\",\"product\":\"P1\",\"first\":1,\"count\":{records}}}"
     )?;
-    let _ = ask(alloc, store, "office", 2, lot.as_str())?;
+    ask(alloc, store, "office", 2, lot)?;
     let import = post(alloc, "/c/office/3/batch/B1/P1", raw)?;
-    let _ = reply_to(alloc, store, import.as_slice())?;
+    reply_to(alloc, store, import.as_slice())?;
     Ok(())
 }
 
+// What a request is told.
 fn ask<S: JobStore>(
     alloc: Global,
     store: &mut S,
     client: &str,
     number: u64,
-    body: &str,
+    body: String,
 ) -> Result<Option<Reply>, CaseFault> {
     let target = format!(in alloc; "/c/{client}/{number}")?;
     let input = post(alloc, target.as_str(), body.as_bytes())?;
     reply_to(alloc, store, input.as_slice())
+}
+
+// Opens the next record, with this blank, under this number, and answers all its commands. Gives the next number.
+fn make_card<S: JobStore>(
+    alloc: Global,
+    store: &mut S,
+    number: u64,
+    blank: usize,
+    text: &mut String,
+) -> Result<u64, CaseFault> {
+    let open = format!(in alloc; "{{\"do\":\"open\",\"batch\":\"B1\",\"blank\":{blank}}}")?;
+    match ask(alloc, store, "m1", number, open)? {
+        Some(
+            Reply::Opened {
+                command,
+                rec,
+                session,
+                ..
+            },
+        ) => {
+            put_name(alloc, text, rec.bytes())?;
+            put_command(alloc, text, command.as_slice())?;
+            personalise(alloc, store, session, number.saturating_add(1), text)
+        }
+        _ => {
+            text.push_str("no record is opened\n")?;
+            Ok(number)
+        }
+    }
 }
 
 // Answers each command of a session until its card is good, and gives the next number.
@@ -88,7 +101,7 @@ fn personalise<S: JobStore>(
         let body = format!(in alloc;
             "{{\"do\":\"answer\",\"session\":{session},\"index\":{index},\"sw\":\"9000\"}}"
         )?;
-        match ask(alloc, store, "m1", number, body.as_str())? {
+        match ask(alloc, store, "m1", number, body)? {
             Some(Reply::Next { command, .. }) => put_command(alloc, text, command.as_slice())?,
             Some(Reply::Good { .. }) => return Ok(number.saturating_add(1)),
             _ => break,

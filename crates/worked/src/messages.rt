@@ -1,27 +1,19 @@
 //! Messages as bytes, and the bytes that answer them.
 use crate::exchanges::exchange;
-use crate::ways::{Exchange, Fresh, Way, check_bytes, check_same, check_wanted, connected, served};
+use crate::ways::{
+    Exchange, Fresh, ONE_BY_ONE, WHOLE, Way, check_bytes, check_wanted, check_way, connected,
+    inputs, served,
+};
 use case_files::{Case, CaseFault, Line, Wanted, put_bytes};
-use std::alloc::Global;
+use job_core::JobStore;
+use server::Replied;
+use std::alloc::{AllocError, Global};
 
-const WHOLE: Way = Way {
-    name: "whole",
-    most: 8192,
+const PIECES: Way = Way {
+    name: "in pieces of 7 bytes",
+    most: 7,
     behind: b"",
 };
-
-const PIECES: [Way; 2] = [
-    Way {
-        name: "in pieces of 7 bytes",
-        most: 7,
-        behind: b"",
-    },
-    Way {
-        name: "one byte at a time",
-        most: 1,
-        behind: b"",
-    },
-];
 
 const BEHIND: Way = Way {
     name: "with bytes behind",
@@ -36,20 +28,24 @@ pub fn check_messages<S: Fresh + Drop>(alloc: Global, case: &Case) -> Result<(),
         _ => (false, case.lines.as_slice()),
     };
     let exchanges = messages_of(alloc, lines)?;
-    let exchanges = exchanges.as_slice();
-    let first = served::<S>(alloc, exchanges, WHOLE)?;
-    let first = first.replies();
-    check_wanted(alloc, exchanges, WHOLE.name, first, true)?;
-    for way in PIECES {
-        let again = served::<S>(alloc, exchanges, way)?;
-        check_same(alloc, exchanges, way.name, first, again.replies())?;
-    }
-    if are_answered(exchanges) {
-        let again = served::<S>(alloc, exchanges, BEHIND)?;
-        check_same(alloc, exchanges, BEHIND.name, first, again.replies())?;
-    }
+    let first = served::<S>(alloc, exchanges.as_slice(), WHOLE)?;
+    check_ways::<S>(alloc, exchanges.as_slice(), first.replies())?;
     if is_cut {
-        check_cut::<S>(alloc, exchanges)?;
+        check_cut::<S>(alloc, exchanges.as_slice())?;
+    }
+    Ok(())
+}
+
+fn check_ways<S: Fresh + Drop>(
+    alloc: Global,
+    exchanges: &[Exchange],
+    first: &[Replied],
+) -> Result<(), CaseFault> {
+    check_wanted(alloc, exchanges, WHOLE.name, first, true)?;
+    check_way::<S>(alloc, exchanges, PIECES, first)?;
+    check_way::<S>(alloc, exchanges, ONE_BY_ONE, first)?;
+    if are_answered(exchanges) {
+        check_way::<S>(alloc, exchanges, BEHIND, first)?;
     }
     Ok(())
 }
@@ -92,27 +88,35 @@ fn messages_of(alloc: Global, lines: &[Line]) -> Result<Vec<Exchange>, CaseFault
 fn check_cut<S: Fresh + Drop>(alloc: Global, exchanges: &[Exchange]) -> Result<(), CaseFault> {
     let mut store = S::fresh(alloc)?;
     for exchange in exchanges {
-        let mut inputs = Vec::new(alloc);
-        for cut in 0..exchange.input.len() {
-            let front = exchange.input.as_slice().get(..cut).unwrap_or(&[]);
-            inputs.push(front.to_vec(alloc)?)?;
-        }
-        let cut = connected(alloc, &mut store, inputs, 8192)?;
-        for replied in cut.replies() {
-            let came = replied.written.as_slice();
-            check_bytes(alloc, exchange.line, "cut", b"", came)?;
-        }
-        let mut whole = Vec::new(alloc);
-        whole.push(exchange.input.as_slice().to_vec(alloc)?)?;
-        let whole = connected(alloc, &mut store, whole, 8192)?;
+        check_fronts(alloc, &mut store, exchange)?;
         let one = std::slice::from_ref(exchange);
-        check_wanted(
-            alloc,
-            one,
-            "whole behind the cut ones",
-            whole.replies(),
-            false,
-        )?;
+        let whole = connected(alloc, &mut store, inputs(alloc, one, b"")?, WHOLE.most)?;
+        let way = "whole behind the cut ones";
+        check_wanted(alloc, one, way, whole.replies(), false)?;
     }
     Ok(())
+}
+
+// Nothing is written where a message is cut.
+fn check_fronts<S: JobStore>(
+    alloc: Global,
+    store: &mut S,
+    exchange: &Exchange,
+) -> Result<(), CaseFault> {
+    let fronts = fronts(alloc, exchange.input.as_slice())?;
+    let cut = connected(alloc, store, fronts, WHOLE.most)?;
+    for replied in cut.replies() {
+        let came = replied.written.as_slice();
+        check_bytes(alloc, exchange.line, "cut", b"", came)?;
+    }
+    Ok(())
+}
+
+// The beginnings of an input.
+fn fronts(alloc: Global, input: &[u8]) -> Result<Vec<Vec<u8>>, AllocError> {
+    let mut fronts = Vec::new(alloc);
+    for cut in 0..input.len() {
+        fronts.push(input[..cut].to_vec(alloc)?)?;
+    }
+    Ok(fronts)
 }

@@ -33,22 +33,57 @@ pub fn check_plan<S: Fresh + Drop>(alloc: Global, case: &Case) -> Result<(), Cas
     };
     let raw = raw.as_slice();
     let printed = printed(alloc, &product, raw)?;
-    let totals = totals(alloc, &product, raw)?;
-    check_answers(alloc, head.number, lines, printed.as_str(), totals.as_str())?;
+    check_printed::<S>(
+        alloc,
+        &Batch {
+            line: head.number,
+            product,
+            raw,
+        },
+        lines,
+        printed.as_str(),
+    )
+}
+
+// A case's batch file, the product of its options, and its line.
+#[derive(Clone, Copy)]
+struct Batch<'a> {
+    line: u64,
+    product: Product,
+    raw: &'a [u8],
+}
+
+// Every way gives what was printed, which is what must come out.
+fn check_printed<S: Fresh + Drop>(
+    alloc: Global,
+    batch: &Batch<'_>,
+    lines: &[Line],
+    printed: &str,
+) -> Result<(), CaseFault>
+    requires { IsProduct batch.now.product }
+{
+    let totals = totals(alloc, &batch.product, batch.raw)?;
+    let totals = totals.as_str();
+    check_answers(alloc, batch.line, lines, printed, totals)?;
     if printed.starts_with("refused 413") {
         return Ok(());
     }
-    check_rows(alloc, head.number, &product, raw, totals.as_str())?;
+    check_rows(alloc, batch, totals)?;
     if printed.starts_with("refused ") {
-        return check_bytes(
-            alloc,
-            head.number,
-            "check_batch",
-            printed.as_bytes(),
-            totals.as_bytes(),
-        );
+        return check_text(alloc, batch.line, "check_batch", printed, totals);
     }
-    check_commands::<S>(alloc, head.number, &product, raw, printed.as_str())
+    check_commands::<S>(alloc, batch, printed)
+}
+
+// Two texts are one.
+fn check_text(
+    alloc: Global,
+    line: u64,
+    way: &'static str,
+    wanted: &str,
+    came: &str,
+) -> Result<(), CaseFault> {
+    check_bytes(alloc, line, way, wanted.as_bytes(), came.as_bytes())
 }
 
 // What the next word of a case's first line is.
@@ -165,65 +200,80 @@ fn check_answers(
     printed: &str,
     totals: &str,
 ) -> Result<(), CaseFault> {
-    let mut wanted = String::new(alloc);
-    for answer in lines.iter().filter(|line| line.is_answer) {
-        wanted.push_str(answer.text.as_str())?;
-        wanted.push('\n')?;
-    }
+    let wanted = answers(alloc, lines)?;
     let wanted = wanted.as_str();
     if wanted == "any\n" {
         return Ok(());
     }
     if wanted.starts_with("accepted ") {
-        return check_bytes(
-            alloc,
-            line,
-            "check_batch",
-            wanted.as_bytes(),
-            totals.as_bytes(),
-        );
+        return check_text(alloc, line, "check_batch", wanted, totals);
     }
-    check_bytes(alloc, line, "plan", wanted.as_bytes(), printed.as_bytes())
+    check_text(alloc, line, "plan", wanted, printed)
+}
+
+fn answers(alloc: Global, lines: &[Line]) -> Result<String, AllocError> {
+    let mut wanted = String::new(alloc);
+    for line in lines {
+        if line.is_answer {
+            wanted.push_str(line.text.as_str())?;
+            wanted.push('\n')?;
+        }
+    }
+    Ok(wanted)
 }
 
 // The rows one by one are as many as the check counts, or end in the same fault; and `read_batch` gives the same.
-fn check_rows(
+fn check_rows(alloc: Global, batch: &Batch<'_>, totals: &str) -> Result<(), CaseFault>
+    requires { IsProduct batch.now.product }
+{
+    let (count, fault) = streamed(alloc, &batch.product, batch.raw)?;
+    let one_by_one = match fault {
+        Some(fault) => refused(alloc, fault)?,
+        None => format!(in alloc; "accepted {count} rows")?,
+    };
+    let read = read(alloc, &batch.product, batch.raw)?;
+    // The faults of the whole file, 40 and 21 to 23, are no row's.
+    let is_of_file = fault.is_none()
+        && totals.starts_with("refused ")
+        && !totals.starts_with("refused 3");
+    if (is_of_file || totals.starts_with(one_by_one.as_str()))
+        && totals.starts_with(read.as_str())
+    {
+        return Ok(());
+    }
+    let came = format!(in alloc; "{one_by_one} one by one, {read} by read_batch")?;
+    check_text(alloc, batch.line, "rows", totals, came.as_str())
+}
+
+// How many rows come one by one, and the fault that ends them.
+fn streamed(
     alloc: Global,
-    line: u64,
     product: &Product,
     raw: &[u8],
-    totals: &str,
-) -> Result<(), CaseFault>
+) -> Result<(u32, Option<RowFault>), CaseFault>
     requires { IsProduct product.now }
 {
     let mut stream = rows(alloc, raw, product);
-    let mut count = 0u32;
-    let mut fault = String::new(alloc);
-    for _ in 0..PAST_ROWS {
+    for count in 0..PAST_ROWS {
         match stream.next() {
-            Ok(Some(_)) => count = count.saturating_add(1),
-            Ok(None) => break,
-            Err(ImportFault::At(told)) => {
-                fault = refused(alloc, told)?;
-                break;
-            }
-            Err(ImportFault::Memory) => return Err(CaseFault::Memory),
+            Ok(Some(_)) => {}
+            Ok(None) => return Ok((count, None)),
+            Err(ImportFault::At(fault)) => return Ok((count, Some(fault))),
+            Err(ImportFault::Memory) => break,
         }
     }
-    let read = match read_batch(alloc, raw, product) {
-        Ok(batch) => format!(in alloc; "accepted {} rows", batch.rows.len())?,
-        Err(ImportFault::At(told)) => refused(alloc, told)?,
-        Err(ImportFault::Memory) => return Err(CaseFault::Memory),
-    };
-    let streamed = format!(in alloc; "accepted {count} rows")?;
-    // The faults of the whole file, 40 and 21 to 23, are no row's.
-    let is_row = fault.is_empty() && !totals.starts_with("refused 3") || fault.as_str() == totals;
-    let is_count = totals.starts_with("refused ") || totals.starts_with(streamed.as_str());
-    if is_row && is_count && totals.starts_with(read.as_str()) {
-        return Ok(());
+    Err(CaseFault::Memory)
+}
+
+// What `read_batch` gives.
+fn read(alloc: Global, product: &Product, raw: &[u8]) -> Result<String, CaseFault>
+    requires { IsProduct product.now }
+{
+    match read_batch(alloc, raw, product) {
+        Ok(batch) => Ok(format!(in alloc; "accepted {} rows", batch.rows.len())?),
+        Err(ImportFault::At(fault)) => Ok(refused(alloc, fault)?),
+        Err(ImportFault::Memory) => Err(CaseFault::Memory),
     }
-    let came = format!(in alloc; "{streamed} {fault} one by one, {read} by read_batch")?;
-    check_bytes(alloc, line, "rows", totals.as_bytes(), came.as_bytes())
 }
 
 // The rows of each record.
@@ -240,31 +290,17 @@ fn records(alloc: Global, product: &Product, raw: &[u8]) -> Result<Vec<Vec<Row>>
 // The list and the cursor give the commands that were printed, and so does a machine.
 fn check_commands<S: Fresh + Drop>(
     alloc: Global,
-    line: u64,
-    product: &Product,
-    raw: &[u8],
+    batch: &Batch<'_>,
     printed: &str,
 ) -> Result<(), CaseFault>
-    requires { IsProduct product.now }
+    requires { IsProduct batch.now.product }
 {
-    let records = records(alloc, product, raw)?;
-    let text = text_of(alloc, product, records.as_slice())?;
-    check_bytes(
-        alloc,
-        line,
-        "list and cursor",
-        printed.as_bytes(),
-        text.as_bytes(),
-    )?;
-    if raw.len() > MOST_FILE || printed.lines().count() > MOST_COMMANDS {
+    let records = records(alloc, &batch.product, batch.raw)?;
+    let text = text_of(alloc, &batch.product, records.as_slice())?;
+    check_text(alloc, batch.line, "list and cursor", printed, text.as_str())?;
+    if batch.raw.len() > MOST_FILE || printed.lines().count() > MOST_COMMANDS {
         return Ok(());
     }
-    let handed = handed_out::<S>(alloc, product, raw, records.len())?;
-    check_bytes(
-        alloc,
-        line,
-        "a machine",
-        printed.as_bytes(),
-        handed.as_bytes(),
-    )
+    let handed = handed_out::<S>(alloc, &batch.product, batch.raw, records.len())?;
+    check_text(alloc, batch.line, "a machine", printed, handed.as_str())
 }

@@ -31,41 +31,47 @@ pub fn check_table(alloc: Global, table: Table, case: &Case) -> Result<(), CaseF
             _ if line.text.is_empty() => continue,
             _ => return Err(CaseFault::Form { line: line.number }),
         };
-        let came = match table {
-            Table::Groupings => grouping(alloc, line)?,
-            Table::Records => record(alloc, line)?,
-            Table::Words => word(alloc, line)?,
-        };
-        let wanted = answer.text.as_bytes();
-        check_bytes(alloc, line.number, "table", wanted, came.as_bytes())?;
+        check_row(alloc, table, line, answer)?;
     }
     Ok(())
+}
+
+fn check_row(alloc: Global, table: Table, line: &Line, answer: &Line) -> Result<(), CaseFault> {
+    let came = match table {
+        Table::Groupings => grouping(alloc, line)?,
+        Table::Records => record(alloc, line)?,
+        Table::Words => word(alloc, line)?,
+    };
+    let wanted = answer.text.as_bytes();
+    check_bytes(alloc, line.number, "table", wanted, came.as_bytes())
 }
 
 // The sent form of a grouping's text, or its first fault.
 fn grouping(alloc: Global, line: &Line) -> Result<String, CaseFault> {
     let text = line.text.as_str();
-    let found = from_hex_text(alloc, text.as_bytes());
-    let told = match &found {
+    let told = match &from_hex_text(alloc, text.as_bytes()) {
         Ok(sent) => hex::encode_upper(alloc, sent.as_slice())?,
         Err(fault) => fault_text(alloc, *fault)?,
     };
-    let Ok(bytes) = hex::decode(alloc, text) else {
-        return Ok(told);
-    };
-    let read = match read_whole(bytes.as_slice()) {
-        Ok(grouping) => written(alloc, &grouping)?,
-        Err(fault) => fault_text(alloc, fault)?,
-    };
-    let one = match read_one(bytes.as_slice()) {
-        Ok((_, [_, ..])) => fault_text(alloc, DgiFault::Trailing)?,
-        Ok((grouping, [])) => written(alloc, &grouping)?,
-        Err(fault) => fault_text(alloc, fault)?,
-    };
-    if read != told || one != told {
-        return Ok(format!(in alloc; "{told}, {read} by read_whole, {one} by read_one")?);
+    match hex::decode(alloc, text) {
+        Ok(bytes) => by_bytes(alloc, bytes.as_slice(), told),
+        Err(_) => Ok(told),
     }
-    Ok(told)
+}
+
+// The same by the bytes of the text.
+fn by_bytes(alloc: Global, bytes: &[u8], told: String) -> Result<String, CaseFault> {
+    let one = match read_one(bytes) {
+        Ok((grouping, [])) => Ok(grouping),
+        Ok(_) => Err(DgiFault::Trailing),
+        Err(fault) => Err(fault),
+    };
+    let read = written(alloc, read_whole(bytes))?;
+    let one = written(alloc, one)?;
+    if read == told && one == told {
+        return Ok(told);
+    }
+    Ok(format!(in alloc; "{told}, {read} by read_whole, {one} by read_one")?)
 }
 
 fn fault_text(alloc: Global, fault: DgiFault) -> Result<String, CaseFault> {
@@ -75,13 +81,17 @@ fn fault_text(alloc: Global, fault: DgiFault) -> Result<String, CaseFault> {
     }
 }
 
-// A grouping written in its sent form.
-fn written(alloc: Global, grouping: &Grouping<'_>) -> Result<String, CaseFault> {
+// A grouping that was read, written in its sent form.
+fn written(alloc: Global, read: Result<Grouping<'_>, DgiFault>) -> Result<String, CaseFault> {
+    let grouping = match read {
+        Ok(grouping) => grouping,
+        Err(fault) => return fault_text(alloc, fault),
+    };
     if grouping.body.len() > MAX_BODY {
         return Ok(String::from_str(alloc, "too long")?);
     }
-    let mut out = vec![in alloc; 0u8; coded_len(grouping)]?;
-    let size = write_coded(grouping, out.as_mut_slice());
+    let mut out = vec![in alloc; 0u8; coded_len(&grouping)]?;
+    let size = write_coded(&grouping, out.as_mut_slice());
     let sent = out.as_slice().get(..size).unwrap_or(&[]);
     Ok(hex::encode_upper(alloc, sent)?)
 }

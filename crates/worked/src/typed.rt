@@ -7,7 +7,7 @@ ghost use Rattle.wire.specs.Sending.{IsSendable};
 use crate::ways::{Exchange, Fresh, check_bytes};
 use case_files::{CaseFault, JSON, TEXT, reply_bytes};
 use job_core::{Arrival, JobStore, Refusal, Reply, Request};
-use reply_store::{body_of, handle, run, status_of};
+use reply_store::{Kept, body_of, handle, run, status_of};
 use reports::{AccountFault, batch_counts, blank_counts, close_report};
 use server::Replied;
 use std::alloc::Global;
@@ -45,15 +45,25 @@ pub fn check_handled<S: Fresh + Drop>(
 ) -> Result<(), CaseFault> {
     let mut store = S::fresh(alloc)?;
     for (exchange, replied) in exchanges.iter().zip(first) {
-        let came = match asked(alloc, exchange.input.as_slice())? {
-            Some(Asked::Arrival(arrival)) => handled(alloc, &mut store, &arrival)?,
-            Some(Asked::Account(wanted)) => account(alloc, &mut store, wanted)?,
-            None => continue,
-        };
-        let wanted = replied.written.as_slice();
-        check_bytes(alloc, exchange.line, "handle", wanted, came.as_slice())?;
+        if let Some(came) = answered(alloc, &mut store, exchange.input.as_slice())? {
+            let wanted = replied.written.as_slice();
+            check_bytes(alloc, exchange.line, "handle", wanted, came.as_slice())?;
+        }
     }
     Ok(())
+}
+
+// The reply to a message that asks for something.
+fn answered<S: JobStore>(
+    alloc: Global,
+    store: &mut S,
+    input: &[u8],
+) -> Result<Option<Vec<u8>>, CaseFault> {
+    match asked(alloc, input)? {
+        Some(Asked::Arrival(arrival)) => Ok(Some(handled(alloc, store, &arrival)?)),
+        Some(Asked::Account(wanted)) => Ok(Some(account(alloc, store, wanted)?)),
+        None => Ok(None),
+    }
 }
 
 fn handled<S: JobStore>(
@@ -126,11 +136,20 @@ pub fn check_run<S: Fresh + Drop>(
         let Some(Ok(kept)) = outcomes.next() else {
             return Err(CaseFault::Memory);
         };
-        let came = reply_bytes(alloc, kept.status, JSON, None, kept.body.as_slice())?;
-        let wanted = replied.written.as_slice();
-        check_bytes(alloc, exchange.line, "run", wanted, came.as_slice())?;
+        check_kept(alloc, exchange.line, replied, &kept)?;
     }
     Ok(())
+}
+
+fn check_kept(alloc: Global, line: u64, replied: &Replied, kept: &Kept) -> Result<(), CaseFault> {
+    let came = reply_bytes(alloc, kept.status, JSON, None, kept.body.as_slice())?;
+    check_bytes(
+        alloc,
+        line,
+        "run",
+        replied.written.as_slice(),
+        came.as_slice(),
+    )
 }
 
 fn arrivals(alloc: Global, exchanges: &[Exchange]) -> Result<Vec<Arrival>, CaseFault>
@@ -154,39 +173,52 @@ pub fn check_parsed(
 ) -> Result<(), CaseFault> {
     for (exchange, replied) in exchanges.iter().zip(first) {
         let written = replied.written.as_slice();
-        let again = match parse_reply(alloc, written)? {
-            Some(reply) => told(alloc, &reply)?,
-            None => match asked(alloc, exchange.input.as_slice())? {
-                Some(Asked::Arrival(_)) => Vec::new(alloc),
-                _ => continue,
-            },
-        };
-        check_bytes(
-            alloc,
-            exchange.line,
-            "parse_reply",
-            written,
-            again.as_slice(),
-        )?;
+        if let Some(again) = written_again(alloc, exchange, written)? {
+            check_bytes(
+                alloc,
+                exchange.line,
+                "parse_reply",
+                written,
+                again.as_slice(),
+            )?;
+        }
     }
     Ok(())
+}
+
+// A reply read back and written again; no bytes where an arrival's can't be read, and none where no arrival was asked.
+fn written_again(
+    alloc: Global,
+    exchange: &Exchange,
+    written: &[u8],
+) -> Result<Option<Vec<u8>>, CaseFault> {
+    if let Some(reply) = parse_reply(alloc, written)? {
+        return Ok(Some(told(alloc, &reply)?));
+    }
+    match asked(alloc, exchange.input.as_slice())? {
+        Some(Asked::Arrival(_)) => Ok(Some(Vec::new(alloc))),
+        _ => Ok(None),
+    }
 }
 
 /// The inputs with each request written anew by `request_text`.
 pub fn written_anew(alloc: Global, exchanges: &[Exchange]) -> Result<Vec<Vec<u8>>, CaseFault> {
     let mut inputs = Vec::new(alloc);
     for exchange in exchanges {
-        let input = exchange.input.as_slice();
-        let text = match asked(alloc, input)? {
-            Some(Asked::Arrival(arrival)) => anew(alloc, &arrival)?,
-            _ => None,
-        };
-        match text {
-            Some(text) => inputs.push(text.as_slice().to_vec(alloc)?)?,
-            None => inputs.push(input.to_vec(alloc)?)?,
-        }
+        inputs.push(input_anew(alloc, exchange.input.as_slice())?)?;
     }
     Ok(inputs)
+}
+
+fn input_anew(alloc: Global, input: &[u8]) -> Result<Vec<u8>, CaseFault> {
+    let text = match asked(alloc, input)? {
+        Some(Asked::Arrival(arrival)) => anew(alloc, &arrival)?,
+        _ => None,
+    };
+    match text {
+        Some(text) => Ok(text.as_slice().to_vec(alloc)?),
+        None => Ok(input.to_vec(alloc)?),
+    }
 }
 
 fn anew(alloc: Global, arrival: &Arrival) -> Result<Option<Bytes>, CaseFault>

@@ -39,7 +39,11 @@ fn put_record(
     if !is_walked(&plan, commands.as_slice()) {
         text.push_str("the cursor differs\n")?;
     }
-    for command in &commands {
+    Ok(put_commands(alloc, text, commands.as_slice())?)
+}
+
+fn put_commands(alloc: Global, text: &mut String, commands: &[Vec<u8>]) -> Result<(), AllocError> {
+    for command in commands {
         put_command(alloc, text, command.as_slice())?;
     }
     Ok(())

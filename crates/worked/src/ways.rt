@@ -34,20 +34,55 @@ pub struct Way {
     pub behind: &'static [u8],
 }
 
+/// All at once.
+pub const WHOLE: Way = Way {
+    name: "whole",
+    most: 8192,
+    behind: b"",
+};
+
+/// One byte at a time.
+pub const ONE_BY_ONE: Way = Way {
+    name: "one byte at a time",
+    most: 1,
+    behind: b"",
+};
+
 /// The connections of a case, served in turn over a store of their own.
 pub fn served<S: Fresh + Drop>(
     alloc: Global,
     exchanges: &[Exchange],
     way: Way,
 ) -> Result<MemoryConnections, CaseFault> {
+    let mut store = S::fresh(alloc)?;
+    let inputs = inputs(alloc, exchanges, way.behind)?;
+    connected(alloc, &mut store, inputs, way.most)
+}
+
+/// The inputs, each with these bytes behind it.
+pub fn inputs(
+    alloc: Global,
+    exchanges: &[Exchange],
+    behind: &[u8],
+) -> Result<Vec<Vec<u8>>, AllocError> {
     let mut inputs = Vec::new(alloc);
     for exchange in exchanges {
         let mut input = exchange.input.as_slice().to_vec(alloc)?;
-        input.extend_from_slice(way.behind)?;
+        input.extend_from_slice(behind)?;
         inputs.push(input)?;
     }
-    let mut store = S::fresh(alloc)?;
-    connected(alloc, &mut store, inputs, way.most)
+    Ok(inputs)
+}
+
+/// The same comes out of the connections of a case on another way.
+pub fn check_way<S: Fresh + Drop>(
+    alloc: Global,
+    exchanges: &[Exchange],
+    way: Way,
+    first: &[Replied],
+) -> Result<(), CaseFault> {
+    let again = served::<S>(alloc, exchanges, way)?;
+    check_same(alloc, exchanges, way.name, first, again.replies())
 }
 
 /// These inputs, served in turn over this store.
@@ -74,27 +109,31 @@ pub fn check_wanted(
     may_break: bool,
 ) -> Result<(), CaseFault> {
     for (exchange, replied) in exchanges.iter().zip(replies) {
-        let came = replied.written.as_slice();
-        let end = replied.served.end;
-        let is_right = match &exchange.wanted {
-            Wanted::Any => {
-                let ends = end == End::Answered || may_break && end == End::Broken;
-                ends && !came.starts_with(b"HTTP/1.1 503")
-            }
-            Wanted::Nothing => end == End::Broken && came.is_empty(),
-            Wanted::Bytes(bytes) => end == End::Answered && came == bytes.as_slice(),
-        };
-        if !is_right {
+        if !is_wanted(&exchange.wanted, replied, may_break) {
             let wanted = wanted_text(alloc, &exchange.wanted)?;
+            let came = String::from_utf8_lossy(alloc, replied.written.as_slice())?;
+            let line = exchange.line;
             return Err(CaseFault::Differs {
-                line: exchange.line,
+                line,
                 way,
                 wanted,
-                came: String::from_utf8_lossy(alloc, came)?,
+                came,
             });
         }
     }
     Ok(())
+}
+
+fn is_wanted(wanted: &Wanted, replied: &Replied, may_break: bool) -> bool {
+    let (came, end) = (replied.written.as_slice(), replied.served.end);
+    match wanted {
+        Wanted::Any => {
+            let ends = end == End::Answered || may_break && end == End::Broken;
+            ends && !came.starts_with(b"HTTP/1.1 503")
+        }
+        Wanted::Nothing => end == End::Broken && came.is_empty(),
+        Wanted::Bytes(bytes) => end == End::Answered && came == bytes.as_slice(),
+    }
 }
 
 fn wanted_text(alloc: Global, wanted: &Wanted) -> Result<String, AllocError> {

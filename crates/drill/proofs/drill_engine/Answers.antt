@@ -1,6 +1,6 @@
 use Rattle.std.proofs.Common.{List, ℕ, map, subst}
 use Rattle.std.proofs.lemmas.Result.{err_from_is_err_and}
-use Rattle.text_writer.specs.Written.{AppendsBeginning}
+use Rattle.text_io.specs.Written.{AppendsBeginning}
 use Rattle.drill.specs.Scripts.{IsScript}
 use Rattle.drill.proofs.drill_engine.Goals as goal
 

@@ -20,7 +20,8 @@ pub(crate) fn command<S: JobStore>(
     cursor: &Cursor,
 ) -> Result<Option<Bytes>, StoreFault>
     ensures stays { Stays (S.state store.old) (S.state store.new) }
-    ensures value { Reads (S.state store.old) (S.state store.new) result (λ c answer. (plan : Plan) (k : ℕ) → plan_for c.facts batch.now rec.now ≡ Some plan
+    ensures value { Reads (S.state store.old) (S.state store.new) result
+        (λ c answer. (plan : Plan) (k : ℕ) → plan_for c.facts batch.now rec.now ≡ Some plan
         → IsPlan plan → cursor_at plan k ≡ Some cursor.now → answer ≡ slice_get (sequence plan) k) }
     ensures cause { HasCause (S.state store.new) result }
 {
@@ -30,7 +31,8 @@ pub(crate) fn command<S: JobStore>(
     }
 }
 
-// The command at a cursor, from the segment there. A cursor that stands in no such segment has none.
+// The command at a cursor, from the segment there. A cursor that stands in no such segment has
+// none.
 fn command_in(
     alloc: Global,
     segment: &SegmentRow,
@@ -38,7 +40,8 @@ fn command_in(
 ) -> Result<Option<Bytes>, AllocError>
     requires { segment.now.low ≤ 31 }
     ensures { (plan : Plan) (k : ℕ) → IsPlan plan → cursor_at plan k ≡ Some cursor.now
-        → segment_at plan cursor.now.app cursor.now.segment ≡ Some (placed_of segment.now) → plan.max ≡ segment.now.max → plan.low ≡ segment.now.low
+        → segment_at plan cursor.now.app cursor.now.segment ≡ Some (placed_of segment.now)
+        → plan.max ≡ segment.now.max → plan.low ≡ segment.now.low
         → IfOk result (λ answer. answer ≡ slice_get (sequence plan) k) }
 {
     let view = view(segment);

@@ -58,7 +58,8 @@ fn product_by(
     products: u64,
 ) -> Decision<'static>
     requires { IsProduct product.now }
-    ensures { (f : Facts) → IsSound f → kept ≡ product_named f.products product.now.code → products ≡ length f.products
+    ensures { (f : Facts) → IsSound f → kept ≡ product_named f.products product.now.code
+        → products ≡ length f.products
         → Decides f client.now (request.Product product.now) result.0 result.1 }
 {
     let code = product.code;
@@ -114,7 +115,8 @@ pub(crate) fn lot<S: JobStore>(
     Ok(lot_by(client, lot, kept, product, overlaps, lots))
 }
 
-// By the lot that is kept under its name, its product, whether a serial of it lies in a lot, and how many lots there are.
+// By the lot that is kept under its name, its product, whether a serial of it lies in a lot, and
+// how many lots there are.
 #[tactic(auto, unfolding(crate::specs::Steps::step))]
 fn lot_by(
     client: &Name,
@@ -125,7 +127,8 @@ fn lot_by(
     lots: u64,
 ) -> Decision<'static>
     requires { IsLotRange lot.now }
-    ensures { (f : Facts) → IsSound f → kept ≡ lot_named f.lots lot.now.name → product ≡ product_named f.products lot.now.product
+    ensures { (f : Facts) → IsSound f → kept ≡ lot_named f.lots lot.now.name
+        → product ≡ product_named f.products lot.now.product
         → overlaps ≡ any_overlaps f.lots lot.now.first lot.now.count → lots ≡ length f.lots
         → Decides f client.now (request.Lot lot.now) result.0 result.1 }
 {
@@ -142,7 +145,8 @@ fn lot_by(
 // A lot under a new name.
 fn new_lot(lot: &Lot, product: Option<Product>, overlaps: bool, lots: u64) -> Decision<'static>
     requires { IsLotRange lot.now }
-    ensures { (f : Facts) → IsSound f → lot_named f.lots lot.now.name ≡ None → product ≡ product_named f.products lot.now.product
+    ensures { (f : Facts) → IsSound f → lot_named f.lots lot.now.name ≡ None
+        → product ≡ product_named f.products lot.now.product
         → overlaps ≡ any_overlaps f.lots lot.now.first lot.now.count → lots ≡ length f.lots
         → Makes f (new_lot f lot.now) result.0 result.1 }
 {
@@ -170,7 +174,8 @@ pub(crate) fn import<'a, S: JobStore>(
 ) -> Result<Decision<'a>, StoreFault>
     ensures stays { Stays (S.state store.old) (S.state store.new) }
     ensures value { Reads (S.state store.old) (S.state store.new) result
-        (λ c answer. Decides c.facts client.now (request.Import batch.now product.now raw.now) answer.0 answer.1) }
+        (λ c answer. Decides c.facts client.now (request.Import batch.now product.now raw.now)
+        answer.0 answer.1) }
     ensures cause { HasCause (S.state store.new) result }
 {
     let kept = store.batch(batch)?;
@@ -182,7 +187,8 @@ pub(crate) fn import<'a, S: JobStore>(
     )
 }
 
-// By the batch that is kept under its name, whether it has these bytes, the product, and how many batches there are.
+// By the batch that is kept under its name, whether it has these bytes, the product, and how many
+// batches there are.
 #[tactic(auto, unfolding(crate::specs::Steps::step))]
 fn import_by<'a>(
     alloc: Global,
@@ -196,9 +202,11 @@ fn import_by<'a>(
     batches: u64,
 ) -> Result<Decision<'a>, StoreFault>
     requires { IfSome under IsProduct }
-    ensures value { (f : Facts) → IsSound f → kept ≡ batch_row_of f batch.now → same ≡ batch_has f batch.now raw.now
+    ensures value { (f : Facts) → IsSound f → kept ≡ batch_row_of f batch.now
+        → same ≡ batch_has f batch.now raw.now
         → under ≡ product_named f.products product.now → batches ≡ length f.batches
-        → IfOk result (λ answer. Decides f client.now (request.Import batch.now product.now raw.now) answer.0 answer.1) }
+        → IfOk result (λ answer. Decides f client.now (request.Import batch.now product.now raw.now)
+        answer.0 answer.1) }
     ensures cause { IfErr result (λ fault. fault ≡ Memory) }
 {
     let Some(kept) = kept else {
@@ -226,8 +234,11 @@ fn new_batch<'a>(
     batches: u64,
 ) -> Result<Decision<'a>, StoreFault>
     requires { IfSome under IsProduct }
-    ensures value { (f : Facts) → IsSound f → batch_named f.batches batch.now ≡ None → under ≡ product_named f.products product.now
-        → batches ≡ length f.batches → IfOk result (λ answer. Makes f (new_batch f batch.now product.now raw.now) answer.0 answer.1) }
+    ensures value { (f : Facts) → IsSound f → batch_named f.batches batch.now ≡ None
+        → under ≡ product_named f.products product.now
+        → batches ≡ length f.batches
+        → IfOk result (λ answer. Makes f (new_batch f batch.now product.now raw.now)
+        answer.0 answer.1) }
     ensures cause { IfErr result (λ fault. fault ≡ Memory) }
 {
     match under {
@@ -246,8 +257,12 @@ fn taken_in<'a>(
     under: &Product,
 ) -> Result<Decision<'a>, StoreFault>
     requires { IsProduct under.now }
-    ensures value { (f : Facts) → IsSound f → batch_named f.batches batch.now ≡ None → product_named f.products product.now ≡ Some under.now
-        → length f.batches < 4096 → IfOk result (λ answer. Makes f (taken_in f batch.now product.now raw.now (batch_of under.now raw.now)) answer.0 answer.1) }
+    ensures value { (f : Facts) → IsSound f → batch_named f.batches batch.now ≡ None
+        → product_named f.products product.now ≡ Some under.now
+        → length f.batches < 4096
+        → IfOk result (λ answer.
+        Makes f (taken_in f batch.now product.now raw.now (batch_of under.now raw.now))
+        answer.0 answer.1) }
     ensures cause { IfErr result (λ fault. fault ≡ Memory) }
 {
     let _is_name = batch.bytes();

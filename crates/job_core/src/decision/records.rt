@@ -1,10 +1,10 @@
 //! The decisions on blanks, records and closing.
-ghost use Rattle.std.specs.Prelude.{◌≡◌, Some, false};
+ghost use Rattle.std.specs.Prelude.{◌≡◌, ℕ, List};
 ghost use Rattle.job_core.specs.Facts.{Facts};
+ghost use Rattle.job_core.specs.Handing.{IsOpenBatch, IsOpenRecord};
 ghost use Rattle.job_core.specs.Rows.{batch_row_of};
-ghost use Rattle.job_core.specs.Sound.{Decides, IsSound, Makes};
-ghost use Rattle.job_core.specs.States.{is_batch_finished, is_charged, is_closed, lot_of, record_state_of};
-ghost use Rattle.job_core.specs.Steps.{remade, withdrawn};
+ghost use Rattle.job_core.specs.Sound.{Decides, IsSound};
+ghost use Rattle.job_core.specs.States.{is_batch_finished, is_charged, lot_of, record_state_of};
 ghost use Rattle.job_core.specs.Store.{HasCause, Reads, Stays};
 ghost use Rattle.job_core.specs.declared.request.Request.TheVariants as request;
 
@@ -55,7 +55,8 @@ pub(crate) fn remake<S: JobStore>(
 ) -> Result<Decision<'static>, StoreFault>
     ensures stays { Stays (S.state store.old) (S.state store.new) }
     ensures value { Reads (S.state store.old) (S.state store.new) result
-        (λ c answer. Decides c.facts client.now (request.Remake batch.now rec.now) answer.0 answer.1) }
+        (λ c answer. Decides c.facts client.now (request.Remake batch.now rec.now)
+        answer.0 answer.1) }
     ensures cause { HasCause (S.state store.new) result }
 {
     let row = store.batch(batch)?;
@@ -72,31 +73,18 @@ fn remake_by(
     row: Option<BatchRow>,
     stands: Option<RecordState>,
 ) -> Decision<'static>
-    ensures { (f : Facts) → IsSound f → row ≡ batch_row_of f batch.now → stands ≡ record_state_of f batch.now rec.now
+    ensures { (f : Facts) → IsSound f → row ≡ batch_row_of f batch.now
+        → stands ≡ record_state_of f batch.now rec.now
         → Decides f client.now (request.Remake batch.now rec.now) result.0 result.1 }
 {
-    match row {
-        None => refused(Refusal::BatchUnknown),
-        Some(row) if row.is_closed => refused(Refusal::BatchClosed),
-        Some(_) => match stands {
-            None => refused(Refusal::RecordUnknown),
-            Some(stands) => remade(batch, rec, stands),
-        },
-    }
-}
-
-// A record of a batch that is not closed.
-fn remade(batch: &Name, rec: &Name, stands: RecordState) -> Decision<'static>
-    ensures { (f : Facts) → IsSound f → is_closed f batch.now ≡ false → record_state_of f batch.now rec.now ≡ Some stands
-        → Makes f (remade f batch.now rec.now stands) result.0 result.1 }
-{
     let (batch, rec) = (*batch, *rec);
-    match stands {
-        RecordState::Failed => (
+    match in_record(row, stands) {
+        Err(refusal) => refused(refusal),
+        Ok(RecordState::Failed) => (
             Reply::Waiting { batch, rec },
             Change::Remakes { batch, rec },
         ),
-        _ => refused(Refusal::NotFailed),
+        Ok(_) => refused(Refusal::NotFailed),
     }
 }
 
@@ -109,7 +97,8 @@ pub(crate) fn withdraw<S: JobStore>(
 ) -> Result<Decision<'static>, StoreFault>
     ensures stays { Stays (S.state store.old) (S.state store.new) }
     ensures value { Reads (S.state store.old) (S.state store.new) result
-        (λ c answer. Decides c.facts client.now (request.Withdraw batch.now rec.now) answer.0 answer.1) }
+        (λ c answer. Decides c.facts client.now (request.Withdraw batch.now rec.now)
+        answer.0 answer.1) }
     ensures cause { HasCause (S.state store.new) result }
 {
     let row = store.batch(batch)?;
@@ -126,33 +115,40 @@ fn withdraw_by(
     row: Option<BatchRow>,
     stands: Option<RecordState>,
 ) -> Decision<'static>
-    ensures { (f : Facts) → IsSound f → row ≡ batch_row_of f batch.now → stands ≡ record_state_of f batch.now rec.now
+    ensures { (f : Facts) → IsSound f → row ≡ batch_row_of f batch.now
+        → stands ≡ record_state_of f batch.now rec.now
         → Decides f client.now (request.Withdraw batch.now rec.now) result.0 result.1 }
-{
-    match row {
-        None => refused(Refusal::BatchUnknown),
-        Some(row) if row.is_closed => refused(Refusal::BatchClosed),
-        Some(_) => match stands {
-            None => refused(Refusal::RecordUnknown),
-            Some(stands) => withdrawn(batch, rec, stands),
-        },
-    }
-}
-
-// A record of a batch that is not closed.
-fn withdrawn(batch: &Name, rec: &Name, stands: RecordState) -> Decision<'static>
-    ensures { (f : Facts) → IsSound f → is_closed f batch.now ≡ false → record_state_of f batch.now rec.now ≡ Some stands
-        → Makes f (withdrawn f batch.now rec.now stands) result.0 result.1 }
 {
     let (batch, rec) = (*batch, *rec);
     let withdrawn = (
         Reply::Withdrawn { batch, rec },
         Change::Withdraws { batch, rec },
     );
-    match stands {
-        RecordState::Waiting => withdrawn,
-        RecordState::Failed => withdrawn,
-        _ => refused(Refusal::NotWithdrawable),
+    match in_record(row, stands) {
+        Err(refusal) => refused(refusal),
+        Ok(RecordState::Waiting) => withdrawn,
+        Ok(RecordState::Failed) => withdrawn,
+        Ok(_) => refused(Refusal::NotWithdrawable),
+    }
+}
+
+// The state of a record of a batch that is not closed, or the refusal.
+fn in_record(row: Option<BatchRow>, stands: Option<RecordState>) -> Result<RecordState, Refusal>
+    ensures { (f : Facts) (b r : List ℕ) → row ≡ batch_row_of f b → stands ≡ record_state_of f b r
+        → IsOpenRecord f b r result }
+{
+    in_batch(row)?;
+    stands.ok_or(Refusal::RecordUnknown)
+}
+
+/// The row of a batch that is not closed, or the refusal.
+pub(crate) fn in_batch(row: Option<BatchRow>) -> Result<BatchRow, Refusal>
+    ensures { (f : Facts) (b : List ℕ) → row ≡ batch_row_of f b → IsOpenBatch f b result }
+{
+    match row {
+        None => Err(Refusal::BatchUnknown),
+        Some(row) if row.is_closed => Err(Refusal::BatchClosed),
+        Some(row) => Ok(row),
     }
 }
 
@@ -175,14 +171,14 @@ pub(crate) fn close<S: JobStore>(
 // By the batch, and whether each record of it is good or withdrawn.
 #[tactic(auto, unfolding(crate::specs::Steps::step))]
 fn close_by(client: &Name, batch: &Name, row: Option<BatchRow>, finished: bool) -> Decision<'static>
-    ensures { (f : Facts) → IsSound f → row ≡ batch_row_of f batch.now → finished ≡ is_batch_finished f batch.now
+    ensures { (f : Facts) → IsSound f → row ≡ batch_row_of f batch.now
+        → finished ≡ is_batch_finished f batch.now
         → Decides f client.now (request.Close batch.now) result.0 result.1 }
 {
     let batch = *batch;
-    match row {
-        None => refused(Refusal::BatchUnknown),
-        Some(row) if row.is_closed => refused(Refusal::BatchClosed),
-        Some(_) if finished => (Reply::Closed { batch }, Change::Closes { batch }),
-        Some(_) => refused(Refusal::NotFinished),
+    match in_batch(row) {
+        Err(refusal) => refused(refusal),
+        Ok(_) if finished => (Reply::Closed { batch }, Change::Closes { batch }),
+        Ok(_) => refused(Refusal::NotFinished),
     }
 }

@@ -16,6 +16,7 @@ ghost use Rattle.job_core.specs.declared.rows.SessionRow.{SessionRow as SessionR
 ghost use Rattle.std.specs.List.{slice_get};
 
 use super::commands::{command, view};
+use super::records::in_batch;
 use super::{Decision, refused};
 use crate::change::Change;
 use crate::facts::{Lot, SessionState};
@@ -44,7 +45,8 @@ pub(crate) fn abort<S: JobStore>(
 // By the session.
 #[tactic(auto, unfolding(crate::specs::Steps::step))]
 fn abort_by(client: &Name, session: u64, row: Option<SessionRow>) -> Decision<'static>
-    ensures { (f : Facts) → IsSound f → row ≡ session_row_of f session → Decides f client.now (request.Abort session) result.0 result.1 }
+    ensures { (f : Facts) → IsSound f → row ≡ session_row_of f session
+        → Decides f client.now (request.Abort session) result.0 result.1 }
 {
     match running(client, session, row) {
         Err(refusal) => refused(refusal),
@@ -54,8 +56,10 @@ fn abort_by(client: &Name, session: u64, row: Option<SessionRow>) -> Decision<'s
 
 // The row of a session that is the client's and runs, or the refusal.
 fn running(client: &Name, session: u64, row: Option<SessionRow>) -> Result<SessionRow, Refusal>
-    ensures is { (f : Facts) → row ≡ session_row_of f session → IsRunning f client.now session result }
-    ensures ranged { IfSome row (λ (x : SessionRowValue). IsCursor x.cursor) → IfOk result (λ (x : SessionRowValue). IsCursor x.cursor) }
+    ensures is { (f : Facts) → row ≡ session_row_of f session
+        → IsRunning f client.now session result }
+    ensures ranged { IfSome row (λ (x : SessionRowValue). IsCursor x.cursor)
+        → IfOk result (λ (x : SessionRowValue). IsCursor x.cursor) }
 {
     match row {
         None => Err(Refusal::SessionUnknown),
@@ -82,7 +86,8 @@ pub(crate) fn reset<S: JobStore>(
 // By the running session.
 #[tactic(auto, unfolding(crate::specs::Steps::step))]
 fn reset_by(client: &Name, session: Option<u64>) -> Decision<'static>
-    ensures { (f : Facts) → IsSound f → session ≡ running_session f client.now → Decides f client.now request.Reset result.0 result.1 }
+    ensures { (f : Facts) → IsSound f → session ≡ running_session f client.now
+        → Decides f client.now request.Reset result.0 result.1 }
 {
     match session {
         None => (Reply::Reset { session: 0 }, Change::Nothing),
@@ -116,8 +121,8 @@ pub(crate) fn open<S: JobStore>(
     }
 }
 
-// The record that is opened, or the reply in place of that: by the batch, the client's running session, the blank's lot and
-// charge, and the first waiting record.
+// The record that is opened, or the reply in place of that: by the batch, the client's running
+// session, the blank's lot and charge, and the first waiting record.
 fn to_open(
     client: &Name,
     batch: &Name,
@@ -128,23 +133,25 @@ fn to_open(
     charged: bool,
     waiting: Option<Name>,
 ) -> Result<Name, Reply>
-    ensures { (f : Facts) → row ≡ batch_row_of f batch.now → busy ≡ running_session f client.now → lot ≡ lot_of f.lots blank
-        → charged ≡ is_charged f blank → waiting ≡ first_waiting f batch.now → OpensOrTells f client.now batch.now blank result }
+    ensures { (f : Facts) → row ≡ batch_row_of f batch.now → busy ≡ running_session f client.now
+        → lot ≡ lot_of f.lots blank
+        → charged ≡ is_charged f blank → waiting ≡ first_waiting f batch.now
+        → OpensOrTells f client.now batch.now blank result }
 {
-    let refusal = match row {
-        None => Refusal::BatchUnknown,
-        Some(row) if row.is_closed => Refusal::BatchClosed,
-        Some(row) => match busy {
-            Some(session) => return Err(Reply::Busy { session }),
-            None => match lot {
-                None => Refusal::BlankUnknown,
-                Some(lot) if lot.product != row.product => Refusal::BlankOfOtherProduct,
-                Some(_) if charged => Refusal::BlankUsed,
-                Some(_) => match waiting {
-                    None => Refusal::NothingWaiting,
-                    Some(rec) => return Ok(rec),
-                },
-            },
+    let product = match in_batch(row) {
+        Err(refusal) => return Err(Reply::Refused { refusal }),
+        Ok(row) => row.product,
+    };
+    if let Some(session) = busy {
+        return Err(Reply::Busy { session });
+    }
+    let refusal = match lot {
+        None => Refusal::BlankUnknown,
+        Some(lot) if lot.product != product => Refusal::BlankOfOtherProduct,
+        Some(_) if charged => Refusal::BlankUsed,
+        Some(_) => match waiting {
+            None => Refusal::NothingWaiting,
+            Some(rec) => return Ok(rec),
         },
     };
     Err(Reply::Refused { refusal })
@@ -162,7 +169,8 @@ fn opening<S: JobStore>(
 ) -> Result<Decision<'static>, StoreFault>
     ensures stays { Stays (S.state store.old) (S.state store.new) }
     ensures value { Reads (S.state store.old) (S.state store.new) result
-        (λ c answer. MayOpen c.facts client.now batch.now blank rec → session ≡ length c.facts.sessions + 1
+        (λ c answer. MayOpen c.facts client.now batch.now blank rec
+        → session ≡ length c.facts.sessions + 1
         → Makes c.facts (opened c.facts client.now batch.now blank rec) answer.0 answer.1) }
     ensures cause { HasCause (S.state store.new) result }
 {
@@ -180,7 +188,8 @@ fn opened(
     session: u64,
     command: Option<Bytes>,
 ) -> Decision<'static>
-    ensures { (f : Facts) (plan : Plan) → IsSound f → MayOpen f client.now batch.now blank rec → session ≡ length f.sessions + 1
+    ensures { (f : Facts) (plan : Plan) → IsSound f → MayOpen f client.now batch.now blank rec
+        → session ≡ length f.sessions + 1
         → plan_for f batch.now rec ≡ Some plan → command ≡ slice_get (sequence plan) 0
         → Makes f (opened f client.now batch.now blank rec) result.0 result.1 }
 {
@@ -224,7 +233,8 @@ pub(crate) fn answer<S: JobStore>(
 ) -> Result<Decision<'static>, StoreFault>
     ensures stays { Stays (S.state store.old) (S.state store.new) }
     ensures value { Reads (S.state store.old) (S.state store.new) result
-        (λ c answer. Decides c.facts client.now (request.Answer session index sw) answer.0 answer.1) }
+        (λ c answer. Decides c.facts client.now (request.Answer session index sw)
+        answer.0 answer.1) }
     ensures cause { HasCause (S.state store.new) result }
 {
     let row = match running(client, session, store.session(session)?) {
@@ -249,7 +259,8 @@ fn taking_word<S: JobStore>(
     requires { IsCursor row.now.cursor }
     ensures stays { Stays (S.state store.old) (S.state store.new) }
     ensures value { Reads (S.state store.old) (S.state store.new) result
-        (λ c answer. (x : Session) (plan : Plan) → Runs c.facts session x plan → row.now ≡ session_row c.facts x → index ≡ length x.words
+        (λ c answer. (x : Session) (plan : Plan) → Runs c.facts session x plan
+        → row.now ≡ session_row c.facts x → index ≡ length x.words
         → Makes c.facts (take_word c.facts session index sw x) answer.0 answer.1) }
     ensures cause { HasCause (S.state store.new) result }
 {
@@ -268,8 +279,10 @@ fn next_command<S: JobStore>(
 ) -> Result<Option<Bytes>, StoreFault>
     ensures stays { Stays (S.state store.old) (S.state store.new) }
     ensures value { Reads (S.state store.old) (S.state store.new) result
-        (λ c answer. (plan : Plan) (k : ℕ) → plan_for c.facts row.now.batch row.now.rec ≡ Some plan → IsPlan plan
-        → IfSome next.now (λ (cursor : CursorValue). cursor_at plan (k + 1) ≡ Some cursor) → Hands plan k next.now answer) }
+        (λ c answer. (plan : Plan) (k : ℕ) → plan_for c.facts row.now.batch row.now.rec ≡ Some plan
+        → IsPlan plan
+        → IfSome next.now (λ (cursor : CursorValue). cursor_at plan (k + 1) ≡ Some cursor)
+        → Hands plan k next.now answer) }
     ensures cause { HasCause (S.state store.new) result }
 {
     match next {
@@ -281,8 +294,10 @@ fn next_command<S: JobStore>(
 // Where the card stands after this word for the command at the cursor, if it goes.
 fn after_word(cursor: &Cursor, segment: Option<SegmentRow>, sw: u16) -> Option<Cursor>
     requires { IsCursor cursor.now }
-    ensures { (plan : Plan) (k : ℕ) → IsPlan plan → cursor_at plan k ≡ Some cursor.now → k < length (commands_of plan)
-        → segment ≡ option_map (segment_row plan) (segment_at plan cursor.now.app cursor.now.segment) → Went plan k sw result }
+    ensures { (plan : Plan) (k : ℕ) → IsPlan plan → cursor_at plan k ≡ Some cursor.now
+        → k < length (commands_of plan)
+        → segment ≡ option_map (segment_row plan) (segment_at plan cursor.now.app cursor.now.segment)
+        → Went plan k sw result }
 {
     let segment = segment?;
     let view = view(&segment);
@@ -306,8 +321,10 @@ fn took_word(
     next: Option<Cursor>,
     command: Option<Bytes>,
 ) -> Decision<'static>
-    ensures { (f : Facts) (x : Session) (plan : Plan) → IsSound f → Runs f session x plan → index ≡ length x.words → cursor ≡ session_cursor f x
-        → Went plan index sw next → Hands plan index next command → Makes f (take_word f session index sw x) result.0 result.1 }
+    ensures { (f : Facts) (x : Session) (plan : Plan) → IsSound f → Runs f session x plan
+        → index ≡ length x.words → cursor ≡ session_cursor f x
+        → Went plan index sw next → Hands plan index next command
+        → Makes f (take_word f session index sw x) result.0 result.1 }
 {
     let Some(next) = next else {
         let stands = SessionState::Spoiled;

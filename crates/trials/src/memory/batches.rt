@@ -37,7 +37,7 @@ fn are_of_the_file(rows: &[Row]) -> bool {
 }
 
 // The rows of the file by their records, if there is memory for them.
-fn records(alloc: Global, product: &Product) -> Result<Vec<Vec<Row>>, PlanStop>
+fn by_record(alloc: Global, product: &Product) -> Result<Vec<Vec<Row>>, PlanStop>
     requires { IsProduct product.now }
 {
     let batch = read_batch(alloc, FILE, product)?;
@@ -52,16 +52,11 @@ fn a_batch_is_read_after_refused_memory(rt: HostRuntime) -> Result<(), Fail> {
     let totals = at_last!(check_batch(rt.alloc(), FILE, &product))?;
     let (rows, records) = (3, 2);
     assert_eq!(rt; totals, Totals { rows, records });
-    Ok(())
-}
-
-#[test]
-fn rows_are_grouped_after_refused_memory(rt: HostRuntime) -> Result<(), Fail> {
-    let product = product(255, 0, false)?;
-    let records = at_last!(records(rt.alloc(), &product))?;
-    let sizes = [records.first(), records.get(1), records.get(2)];
-    let sizes = sizes.map(|rows| rows.map(|rows| rows.len()));
-    assert_eq!(rt; sizes, [Some(2), Some(1), None]);
+    let records = at_last!(by_record(rt.alloc(), &product))?;
+    let [first, second] = records.as_slice() else {
+        return Err(Fail::new("not two records"));
+    };
+    assert_eq!(rt; (first.len(), second.len()), (2, 1));
     Ok(())
 }
 

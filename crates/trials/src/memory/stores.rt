@@ -170,7 +170,8 @@ fn changes_are_made_once_after_refused_memory(rt: HostRuntime) -> Result<(), Fai
     commit_at_last(&rt, &mut store, 11, &Change::Withdraws { batch, rec })?;
     assert!(rt; at_last!(store.is_finished(&batch))?);
     commit_at_last(&rt, &mut store, 12, &Change::Closes { batch })?;
-    assert!(rt; at_last!(store.batch(&batch))?.is_some_and(|row| row.is_closed));
+    let row = at_last!(store.batch(&batch))?.ok_or("no batch")?;
+    assert!(rt; row.is_closed);
     commit_at_last(&rt, &mut store, 13, &Change::Discards { blank: 12 })?;
     commit_at_last(&rt, &mut store, 14, &Change::Nothing)?;
     let totals = at_last!(store.blank_totals(&name("P1")?))?;

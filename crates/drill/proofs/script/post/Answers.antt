@@ -1,8 +1,8 @@
-use Rattle.wire.specs.Sending.{sending_head}
+use Rattle.wire.specs.RequestHeads.{request_head}
 use Rattle.drill.proofs.script.post.Goals as goal
 
 pub returns : goal.returns
-unfolding sending_head
+unfolding request_head
 returns c = simp (
   c.in_ok-extend_from_slice-5.ensures.items,
   c.in_ok-extend_from_slice-4.ensures.items,

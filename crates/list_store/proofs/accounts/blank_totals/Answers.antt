@@ -16,13 +16,13 @@ returns-clause-value c =
     let count : List Lot → ℕ = λ lots. length (lots_for lots p) in
     let sum : List Lot → ℕ = λ lots. sum_by (λ (l : Lot). l.count) (lots_for lots p) in
     let discarded : List Lot → List ℕ → ℕ = λ lots blanks. count_by (λ blank. is_lot_of p (lot_of lots blank)) blanks in
-    blank_totals_of f p c.in_ok-states.states.items c.count_lots.result c.in_ok-sum_lots.field-0 c.count_good_sessions.result c.count_running_sessions.result
-    c.count_spoiled.result c.count_discarded.result
+    blank_totals_of f p c.in_ok-states.states.items c.count_lots.result c.in_ok-sum_lots.field-0 c.count_sessions.result c.count_sessions-2.result
+    c.count_sessions-3.result c.count_discarded.result
     (c.in_ok-states.ensures.value ∙ ap (λ (xs : List Session). map (session_state f) (filter (λ (s : Session). is_blank_of f p s.blank) xs)) sessions)
     (c.count_lots.ensures ∙ ap count (c.deref-2.ensures.value ∙ ap (λ (f : Facts). f.lots) c.facts.view_is))
     (c.in_ok-sum_lots.ensures.value ∙ ap sum (c.deref-3.ensures.value ∙ ap (λ (f : Facts). f.lots) c.facts.view_is))
-    (c.count_good_sessions.ensures ∙ ap (count_by is_good) c.deref-4.ensures.value)
-    (c.count_running_sessions.ensures ∙ ap (count_by is_running) c.deref-5.ensures.value)
-    (c.count_spoiled.ensures ∙ ap (count_by is_spoiled) c.deref-6.ensures.value)
+    (c.count_sessions.ensures ∙ ap (count_by is_good) c.deref-4.ensures.value)
+    (c.count_sessions-2.ensures ∙ ap (count_by is_running) c.deref-5.ensures.value)
+    (c.count_sessions-3.ensures ∙ ap (count_by is_spoiled) c.deref-6.ensures.value)
     (c.count_discarded.ensures ∙ ap (λ lots. discarded lots c.deref-8.result.now) (c.deref-7.ensures.value ∙ ap (λ (f : Facts). f.lots) c.facts.view_is)
     ∙ ap (discarded f.lots) (c.deref-8.ensures.value ∙ ap (λ (f : Facts). f.discarded) c.facts.view_is))

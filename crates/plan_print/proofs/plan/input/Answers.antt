@@ -1,18 +1,19 @@
-use Rattle.std.proofs.Common.{◌≤◌, [], length, unwrap_or, refl, arith}
-use Rattle.plan_print.proofs.TextLemmas.{tells_some, tells_whole}
+use Rattle.std.proofs.Common.{◌≡◌, ℕ, List, [], Result, Err, Vec, unwrap_or}
+use Rattle.std.specs.Global.{Global}
+use Rattle.std.proofs.lemmas.Result.{err_from_is_err_and}
+use Rattle.text_io.specs.declared.reading.ReadFault.{ReadFault}
+use Rattle.text_io.specs.declared.reading.ReadFault.TheVariants.{Failed, Memory}
+use Rattle.plan_print.specs.PlanEnds.{ReadsInput, unread}
+use Rattle.plan_print.specs.declared.plan.PlanStop.{PlanStop}
+use Rattle.plan_print.proofs.TextLemmas.{tells_some}
 use Rattle.plan_print.proofs.plan.input.Goals as goal
 
-pub returns-in-Ok-2 : goal.returns-in-Ok-2
-returns-in-Ok-2 g c =
-    let read = rw (c.take-limited.ensures.limit, c.take-limited.ensures.inner) at c.in-Ok-2.ensures.bytes in
-    let few : length c.read_to_end.new.buf.items ≤ 1048576 = omega (arith, c.read_to_end.new.buf.ok.0, c.len.ensures) in (
-      c.read_to_end.new.buf.items,
-      tells_whole (g.R.Read.remaining c.args.reader.now) 1048577 c.new-raw.result.items c.read_to_end.new.buf.items c.new-raw.ensures.items read (omega arith),
-      (refl, few),
-    )
+no_input : (raw : List ℕ) (r : Result (Vec ℕ Global) PlanStop) (stop : PlanStop) (fault : ReadFault) → r ≡ Err stop → stop ≡ unread fault → ReadsInput raw r
+no_input raw r stop Failed is of = rw (is, of) tt
+no_input raw r stop Memory is of = rw (is, of) tt
 
-pub returns-in-Err : goal.returns-in-Err
-returns-in-Err g c = (unwrap_or (g.R.Read.remaining c.args.reader.now) [], tells_some (g.R.Read.remaining c.args.reader.now), tt)
-
-pub returns : goal.returns
-returns g c = (unwrap_or (g.R.Read.remaining c.args.reader.now) [], tells_some (g.R.Read.remaining c.args.reader.now), tt)
+pub returns-in_err-raw : goal.returns-in_err-raw
+returns-in_err-raw g c =
+    let known = g.R.Read.remaining c.args.reader.now in
+    let p = err_from_is_err_and c.from_residual.result c.from_residual.ensures.1 in
+    (unwrap_or known [], tells_some known, no_input (unwrap_or known []) c.from_residual.result p.0 _ p.1 p.2)

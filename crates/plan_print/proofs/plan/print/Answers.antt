@@ -1,7 +1,7 @@
 use Rattle.std.proofs.Common.{length, refl}
 use Rattle.std.proofs.lemmas.Option.{slice_get_read}
 use Rattle.std.specs.List.{flat_map}
-use Rattle.text_writer.proofs.Pieces.{next_begun, stopped}
+use Rattle.text_io.proofs.Pieces.{next_begun, stopped}
 use Rattle.plan_print.specs.Printed.{text_of}
 use Rattle.plan_print.proofs.plan.print.Goals as goal
 

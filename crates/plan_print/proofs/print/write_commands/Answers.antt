@@ -3,9 +3,9 @@ use Rattle.std.specs.Io.KnownBytes.{Appends}
 use Rattle.std.specs.List.{flat_map}
 use Rattle.hex.specs.Hex.{encode_upper}
 use Rattle.store_data.specs.Sequence.{sequence}
-use Rattle.text_writer.specs.Written.{AppendsBeginning}
-use Rattle.text_writer.proofs.Pieces.{next_begun, next_written, stopped}
-use Rattle.text_writer.specs.Written.{line}
+use Rattle.text_io.specs.Written.{AppendsBeginning}
+use Rattle.text_io.proofs.Pieces.{next_begun, next_written, stopped}
+use Rattle.text_io.specs.Written.{line}
 use Rattle.plan_print.specs.Printed.{command_lines}
 use Rattle.plan_print.proofs.print.write_commands.Goals as goal
 

@@ -4,7 +4,7 @@ use Rattle.std.specs.List.{flat_map}
 use Rattle.hex.specs.Hex.{encode_upper}
 use Rattle.store_data.specs.Cursor.{cursor_at}
 use Rattle.store_data.specs.Sequence.{sequence}
-use Rattle.text_writer.specs.Written.{line}
+use Rattle.text_io.specs.Written.{line}
 use Rattle.plan_print.proofs.print.write_commands.Given as goal
 
 abbrev pub invariant-loop : goal.invariant-loop

@@ -1,9 +1,9 @@
 use Rattle.std.proofs.Common.{[], ◌∷◌, ◌++◌, codes, subst}
 use Rattle.std.proofs.KnownBytes.{Appends-nil, Appends-trans}
 use Rattle.std.specs.Io.KnownBytes.{Appends}
-use Rattle.text_writer.specs.Written.{AppendsBeginning}
-use Rattle.text_writer.proofs.Pieces.{begun, stopped, writes_then}
-use Rattle.text_writer.specs.Written.{line}
+use Rattle.text_io.specs.Written.{AppendsBeginning}
+use Rattle.text_io.proofs.Pieces.{begun, stopped, writes_then}
+use Rattle.text_io.specs.Written.{line}
 use Rattle.plan_print.proofs.print.write_name.Goals as goal
 
 pub returns-in_err-write_text : goal.returns-in_err-write_text

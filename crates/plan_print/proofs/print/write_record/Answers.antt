@@ -1,7 +1,7 @@
 use Rattle.std.proofs.Common.{[], ◌++◌, codes}
 use Rattle.std.proofs.KnownBytes.{Appends-nil}
-use Rattle.text_writer.proofs.Pieces.{begun, stopped, writes_then}
-use Rattle.text_writer.specs.Written.{line}
+use Rattle.text_io.proofs.Pieces.{begun, stopped, writes_then}
+use Rattle.text_io.specs.Written.{line}
 use Rattle.plan_print.specs.Printed.{command_lines, text_of}
 use Rattle.plan_print.proofs.print.write_record.Goals as goal
 

@@ -5,7 +5,7 @@ use Rattle.server.proofs.Serving.{serves_none, serves_more, moves_none, moves_mo
 use Rattle.server.proofs.many.serve_all.Goals as goal
 
 pub loop-turn-init : goal.loop-turn-init
-loop-turn-init g c = (omega arith, [], moves_none _, serves_none _, refl)
+loop-turn-init g c = (omega arith, [], moves_none _, serves_none g.S.JobStore.state c.left_in_turn.ensures _, refl)
 
 pub loop-turn-preserved : goal.loop-turn-preserved
 loop-turn-preserved g c =
@@ -20,6 +20,6 @@ loop-turn-preserved g c =
       es ++ e ∷ [],
       subst (λ (q : Option Queue). Moves (queue c.args.connections.now) q (es ++ e ∷ [])) (sym c.back.ensures)
           (moves_more (queue c.args.connections.now) (queue c.next.new.self) es e _ _ _ c.serve_one-served.result moves c.in_ok-incoming.ensures.opens one.1 one.2 one.3),
-      serves_more (state c.args.store.now) (state c.loop-turn.store) (state c.serve_one-served.new.store) es e so_far.3 one.4,
+      serves_more state c.left_in_turn.ensures c.args.store.now c.loop-turn.store c.serve_one-served.new.store es e so_far.3 one.4,
       length_push es e ∙ ap (λ (n : ℕ). n + 1) so_far.4,
     )

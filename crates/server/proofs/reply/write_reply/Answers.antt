@@ -1,7 +1,7 @@
 use Rattle.std.proofs.Common.{ℕ, List, subst}
 use Rattle.std.proofs.lemmas.Result.{err_from_is_err_and}
 use Rattle.std.specs.Io.KnownBytes.{Appends}
-use Rattle.text_writer.specs.Written.{AppendsBeginning}
+use Rattle.text_io.specs.Written.{AppendsBeginning}
 use Rattle.server.proofs.Writing.{begins_both, writes_both}
 use Rattle.server.proofs.reply.write_reply.Goals as goal
 

@@ -6,7 +6,7 @@ use Rattle.store_data.specs.Sequence.{goes_on, sequence}
 use Rattle.store_data.proofs.CursorLemmas.{segment_before, tolerance_there}
 use Rattle.job_core.specs.declared.rows.SegmentRow.{SegmentRow}
 use Rattle.job_core.specs.Rows.{segment_row}
-use Rattle.job_core.proofs.DecisionLemmas.{mapped}
+use Rattle.job_core.proofs.Lists.{mapped}
 use Rattle.job_core.proofs.RunningLemmas.{class_stops, goes_by, length_sequence}
 use Rattle.job_core.proofs.decision.sessions.after_word.Goals as goal
 use Rattle.job_core.proofs.decision.sessions.after_word.Goals.{else-segment, then-segment}

@@ -1,0 +1,11 @@
+pub use Rattle.heads.specs.FixedReplies
+pub use Rattle.heads.specs.Heads
+pub use Rattle.heads.specs.Messages
+pub use Rattle.heads.specs.RequestHeads
+pub mod Routes
+pub mod RouterRows
+pub mod Members
+pub mod Requests
+pub mod Asks
+pub mod Meant
+pub mod Posts

@@ -1,0 +1,13 @@
+//! What a message asks: its target, its method, its names and its JSON; and the messages that clients post.
+#![tactic(auto)]
+
+mod ask;
+mod meaning;
+pub mod members;
+mod post;
+mod request;
+mod route;
+
+pub use ask::{AskFault, Asked, Wanted, is_number, push_import_tail, to_ask};
+pub use meaning::{Meaning, read_meaning};
+pub use post::{import_text, job_text};

@@ -1,0 +1,112 @@
+-- The kinds of faults that a row of a batch file has, and the first row that has one (this project's profile).
+use Rattle.std.specs.Prelude.{◌==◌, ◌+◌, ◌&&◌, ◌||◌, ℕ, Bool, true, false, not, slice_index, List, [], ◌∷◌, ◌++◌, length, nat_le, nat_lt, is_none, Option, Some, None, Result, Ok, Err, bytes_eq}
+use Rattle.std.specs.List.{filter_map, find}
+use Rattle.std.specs.Cmp.Lexicographic.{pointwise}
+use Rattle.dgi.specs.Coding.{Content, whole_of}
+use Rattle.dgi.specs.declared.fault.DgiFault.{DgiFault}
+use Rattle.tlv_check.specs.RecordTest.{is_record_of}
+use Rattle.store_data.specs.Groups.{first_appearances}
+use Rattle.store_data.specs.declared.row.Enc.{Enc}
+use Rattle.store_data.specs.declared.row.Enc.TheVariants.{Plain}
+use Rattle.batch_import.specs.declared.fault.Kind.{Kind}
+use Rattle.batch_import.specs.declared.fault.Kind.TheVariants.{NotSixFields, Header, RecordName, Aid, Rank, Mark, Grouping, NotARecord, TooManyRows, TooManyRecords}
+use Rattle.batch_import.specs.declared.fault.RowFault.{RowFault}
+use Rattle.batch_import.specs.Fields.{Marks, Values, field, header, name_of_text, values_of}
+use Rattle.batch_import.specs.Kinds.{row_kinds}
+
+-- ---- row 1
+
+-- the six fields of the header
+abbrev pub is_header : List (List ℕ) → Bool
+is_header fields = pointwise bytes_eq fields header
+
+-- whether row 1 of a file, with these fields, has a fault of a kind
+abbrev pub header_has : List (List ℕ) → Kind → Bool
+header_has fields NotSixFields = not (length fields == 6)
+header_has fields Header = not (is_header fields)
+header_has fields kind = false
+
+-- ---- the record check
+
+-- whether a mark says that a grouping is plain
+abbrev pub is_plain : Enc → Bool
+is_plain Plain = true
+is_plain enc = false
+
+-- whether a grouping is one of a record: its first identifier byte is 01 to 0A and its second not 00 (EMV Book 3, SFI 1 to 10)
+abbrev pub is_for_record : List ℕ → Bool
+is_for_record coded = nat_le 1 (slice_index coded 0) && nat_le (slice_index coded 0) 10 && not (slice_index coded 1 == 0)
+
+-- whether the data of a grouping is one record (EMV Book 3)
+abbrev pub holds_record : Result Content DgiFault → Bool
+holds_record (Ok g) = is_record_of g.body
+holds_record (Err e) = false
+
+-- whether a grouping breaks the record check: only plain ones are looked into
+unfoldable pub breaks_check : Enc → List ℕ → Bool
+breaks_check enc coded = is_plain enc && is_for_record coded && not (holds_record (whole_of coded))
+
+-- the same of fields 4 and 6, where they stand for a mark and a grouping
+abbrev pub are_no_record : Option Enc → Option (List ℕ) → Bool
+are_no_record (Some enc) (Some coded) = breaks_check enc coded
+are_no_record enc coded = false
+
+-- ---- a data row
+
+-- a data row as it stands in its file: the data rows before it, its fields, and what they stand for
+pub record PlacedRow : Type 0 where
+  pub before : List (List (List ℕ))
+  pub fields : List (List ℕ)
+  pub values : Values
+
+-- the names of the records of data rows, each once
+abbrev pub record_names : List (List (List ℕ)) → List (List ℕ)
+record_names rows = first_appearances (filter_map (λ fields. name_of_text (field fields 0)) rows)
+
+-- whether a data row has a fault of a kind; `check` is the product's. 38: 4,096 data rows stand before it. 39: with it there
+-- are over 1,024 names of records
+abbrev pub row_has : Bool → PlacedRow → Kind → Bool
+row_has check row NotSixFields = not (length row.fields == 6)
+row_has check row RecordName = is_none row.values.name
+row_has check row Aid = is_none row.values.aid
+row_has check row Rank = is_none row.values.rank
+row_has check row Mark = is_none row.values.enc || is_none row.values.tol
+row_has check row Grouping = is_none row.values.coded
+row_has check row NotARecord = check && are_no_record row.values.enc row.values.coded
+row_has check row TooManyRows = nat_le 4096 (length row.before)
+row_has check row TooManyRecords = nat_lt 1024 (length (record_names (row.before ++ row.fields ∷ [])))
+row_has check row kind = false
+
+-- ---- the first fault
+
+-- a fault told with a row
+abbrev pub told_at : ℕ → Option Kind → Option RowFault
+told_at n None = None
+told_at n (Some k) = Some (record { row = n; kind = k })
+
+-- the least kind that a row has, told with its number
+abbrev pub least_fault : ℕ → (Kind → Bool) → Option RowFault
+least_fault number has = told_at number (find has row_kinds)
+
+-- the fault of row 1
+abbrev pub header_fault : List (List ℕ) → Option RowFault
+header_fault fields = least_fault 1 (header_has fields)
+
+-- the fault of a data row; the first one is row 2
+abbrev pub row_fault : Bool → PlacedRow → Option RowFault
+row_fault check row = least_fault (length row.before + 2) (row_has check row)
+
+abbrev pub or_else : {A : Type 0} → Option A → Option A → Option A
+or_else (Some x) more = Some x
+or_else None more = more
+
+-- the fault of the first of these that has one
+abbrev pub first_fault : {A : Type 0} → (A → Option RowFault) → List A → Option RowFault
+first_fault fault [] = None
+first_fault fault (x ∷ more) = or_else (fault x) (first_fault fault more)
+
+-- data rows as they stand, behind others
+abbrev pub placed : Marks → List (List (List ℕ)) → List (List (List ℕ)) → List PlacedRow
+placed marks before [] = []
+placed marks before (fields ∷ more) =
+    record { before = before; fields = fields; values = values_of marks fields } ∷ placed marks (before ++ fields ∷ []) more

@@ -1,0 +1,7 @@
+pub mod Texts
+pub mod HeadLemmas
+pub mod LineLemmas
+pub mod EndLemmas
+pub mod AloneLemmas
+pub mod BodyLemmas
+pub mod SentHeads

@@ -1,0 +1,9 @@
+pub mod Texts
+pub mod FixedReplies
+pub mod Heads
+pub mod HeadTests
+pub mod PieceBytes
+pub mod HeadEnd
+pub mod Messages
+pub mod RequestHeads
+pub mod ReplyParts

@@ -1,0 +1,72 @@
+//! An input, read to its end.
+ghost use Rattle.std.specs.Prelude.{◌≡◌, ℕ, List, IfOk, IfSome};
+ghost use Rattle.std.specs.IoError.{error_kind};
+ghost use Rattle.text_io.specs.Inputs.{IsWithin, Tells, fault_of, fault_text};
+
+use std::alloc::Global;
+use std::error::Error;
+use std::fmt;
+use std::io::{self, ErrorKind, Read};
+
+/// Why an input wasn't read.
+#[derive(Clone, Copy, Debug, PartialEq, Eq)]
+pub enum ReadFault {
+    /// A read failed.
+    Failed,
+    /// Memory was refused.
+    Memory,
+}
+
+impl From<io::Error> for ReadFault {
+    ghost from_gives = { λ error fault. fault ≡ fault_of (error_kind error) };
+
+    fn from(error: io::Error) -> ReadFault {
+        if error.kind() == ErrorKind::OutOfMemory {
+            ReadFault::Memory
+        } else {
+            ReadFault::Failed
+        }
+    }
+}
+
+impl fmt::Display for ReadFault {
+    ghost use Rattle.std.specs.Prelude.{Some};
+
+    ghost output = { λ fault. Some (fault_text fault) };
+
+    fn fmt<W: fmt::Write>(&self, f: &mut fmt::Formatter<W>) -> fmt::Result {
+        match self {
+            ReadFault::Failed => f.write_str("the reader failed"),
+            ReadFault::Memory => f.write_str("memory was refused"),
+        }
+    }
+}
+
+impl Error for ReadFault {}
+
+/// All that a reader gives. Errors: a failed read; refused memory.
+pub fn read_whole<R: Read>(alloc: Global, reader: &mut R) -> Result<Vec<u8>, ReadFault>
+    ensures { IfOk result (λ raw. Tells (R.remaining reader.old) raw.items) }
+{
+    let mut raw = Vec::new(alloc);
+    reader.read_to_end(&mut raw)?;
+    Ok(raw)
+}
+
+/// All that a reader gives, or `None` where that is over `most` bytes: one more is read at most.
+/// Errors: a failed read; refused memory.
+pub fn read_within<R: Read>(
+    alloc: Global,
+    reader: &mut R,
+    most: u32,
+) -> Result<Option<Vec<u8>>, ReadFault>
+    ensures { IfOk result (λ read. (raw : List ℕ)
+        × Tells (R.remaining reader.old) raw × IsWithin most raw read) }
+{
+    let mut limited = (&mut *reader).take(u64::from(most) + 1);
+    let raw = read_whole(alloc, &mut limited)?;
+    if raw.len() as u64 > u64::from(most) {
+        return Ok(None);
+    }
+    Ok(Some(raw))
+}
