@@ -12,7 +12,7 @@ use Rattle.matchit.specs.Seek.{has_slash}
 use Rattle.store_data.specs.Name.{is_name, is_name_char}
 use Rattle.job_core.specs.declared.request.Request.{Request}
 use Rattle.job_core.specs.declared.request.Request.TheVariants as request
-use Rattle.heads.specs.Heads.{most_body}
+use Rattle.text_io.specs.Inputs.{most_input}
 use Rattle.heads.specs.Messages.{Brings, IsHeardAs, MessageParts}
 use Rattle.heads.specs.RequestHeads.{IsHeardBefore, IsTarget, is_visible, posted, request_head}
 use Rattle.asks.specs.Asks.{arrival_of, ask_with, asked_at, asked_of, import_of, import_tail, is_number, name_in, number_in, or_malformed}
@@ -147,7 +147,7 @@ target_is_one : (client : List ℕ) (number : ℕ) (tail : List ℕ) → IsTrue 
 target_is_one client number tail name small t =
     (omega arith, simp (list_all-append, name_is_visible client name, plain_is_visible (decimal number) (decimal_is_plain number small), t))
 
-head_is_short : (client : List ℕ) (number : ℕ) (tail : List ℕ) (size : ℕ) → IsTrue (is_name client) → number < 2 ^ 64 → length tail ≤ 72 → size ≤ most_body
+head_is_short : (client : List ℕ) (number : ℕ) (tail : List ℕ) (size : ℕ) → IsTrue (is_name client) → number < 2 ^ 64 → length tail ≤ 72 → size ≤ most_input
     → length (request_head (target_with client number tail) size) ≤ 8192
 unfolding request_head
 head_is_short client number tail size name small t b =
@@ -155,8 +155,8 @@ head_is_short client number tail size name small t b =
     simp length-append (omega (arith, name_is_short client name, few number small, few size fits, t))
 
 pub post_is_heard : (client : List ℕ) (number : ℕ) (tail body text : List ℕ) → IsTrue (is_name client) → number < 2 ^ 64 → list_all is_visible tail ≡ true → length tail ≤ 72
-    → (IsTarget (target_with client number tail) → length body ≤ most_body → length (request_head (target_with client number tail) (length body)) ≤ 8192 → IsHeardBefore (target_with client number tail) (length body))
-    → text ≡ post_with client number tail body → length body ≤ most_body → IsHeardAs text (Brings (posted (target_with client number tail) body))
+    → (IsTarget (target_with client number tail) → length body ≤ most_input → length (request_head (target_with client number tail) (length body)) ≤ 8192 → IsHeardBefore (target_with client number tail) (length body))
+    → text ≡ post_with client number tail body → length body ≤ most_input → IsHeardAs text (Brings (posted (target_with client number tail) body))
 post_is_heard client number tail body text name small seen t heard is b =
     subst (λ (x : List ℕ). IsHeardAs x (Brings (posted (target_with client number tail) body))) (sym is)
     (heard (target_is_one client number tail name small seen) b (head_is_short client number tail (length body) name small t b) body refl)

@@ -1,11 +1,13 @@
 //! What a message asks for.
-ghost use Rattle.std.specs.Prelude.{◌≡◌, ◌<◌, ◌≤◌, ◌^◌, ◌++◌, [], ◌∷◌, Err, IfOk, IfSome, Ok, OnOk, bytes_eq, codes, if◌then◌else◌, true};
+ghost use Rattle.std.specs.Prelude.{◌≡◌, ◌<◌, ◌≤◌, ◌^◌, ◌++◌, [], ◌∷◌, Err, IfOk, IfSome, Ok, OnOk};
+ghost use Rattle.std.specs.Prelude.{bytes_eq, codes, if◌then◌else◌, true};
 ghost use Rattle.std.specs.Char.{is_ascii_digit};
 ghost use Rattle.std.specs.List.{list_all};
 ghost use Rattle.std.specs.Str.Parse.{digits_value};
 ghost use Rattle.store_data.specs.Name.{is_name};
 ghost use Rattle.job_core.specs.Sound.{IsName};
-ghost use Rattle.asks.specs.Asks.{IsAsked, IsInRange, ask_in, ask_with, asked_of, import_tail, is_number, method_text, number_in, or_malformed};
+ghost use Rattle.asks.specs.Asks.{IsAsked, IsInRange, ask_in, ask_with, asked_of, import_tail};
+ghost use Rattle.asks.specs.Asks.{is_number, method_text, number_in, or_malformed};
 ghost use Rattle.heads.specs.Messages.{as_parts};
 ghost use Rattle.asks.specs.RouterRows.{shown};
 ghost use Rattle.asks.specs.Routes.{Import, Job};
@@ -165,7 +167,8 @@ fn import(
     product: &[u8],
     body: Bytes,
 ) -> Result<Asked, AskFault>
-    ensures asked { IsAsked (or_malformed (ask_in (Import client.now number.now batch.now product.now) body)) result }
+    ensures asked { IsAsked
+        (or_malformed (ask_in (Import client.now number.now batch.now product.now) body)) result }
     ensures ranged { IfOk result IsInRange }
 {
     let client = name_in(client)?;
@@ -213,7 +216,8 @@ fn import_ask(alloc: Global, batch: &Name, product: &Name, body: &[u8]) -> Resul
 
 /// Adds what follows the number in an import's target.
 pub fn push_import_tail(text: &mut Vec<u8>, batch: &Name, product: &Name) -> Result<(), AllocError>
-    ensures tail { OnOk result (text.new.items ≡ text.old.items ++ import_tail batch.now product.now) }
+    ensures tail { OnOk result (text.new.items ≡ text.old.items
+        ++ import_tail batch.now product.now) }
     ensures names { OnOk result (IsName batch.now × IsName product.now) }
 {
     text.extend_from_slice(b"/batch/")?;

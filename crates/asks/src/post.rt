@@ -3,7 +3,7 @@ ghost use Rattle.std.specs.Prelude.{◌≡◌, ◌<◌, ◌≤◌, ◌^◌, [], 
 ghost use Rattle.std.specs.List.{list_all};
 ghost use Rattle.job_core.specs.Sound.{IsName};
 ghost use Rattle.job_core.specs.declared.request.Request.TheVariants as request;
-ghost use Rattle.heads.specs.Heads.{most_body};
+ghost use Rattle.text_io.specs.Inputs.{most_input};
 ghost use Rattle.heads.specs.Messages.{Brings, IsHeardAs};
 ghost use Rattle.heads.specs.RequestHeads.{is_visible, posted};
 ghost use Rattle.asks.specs.Asks.{import_tail};
@@ -26,8 +26,9 @@ pub fn job_text(alloc: Global, client: &Name, number: u64, body: &[u8]) -> Resul
     requires least { 1 ≤ number }
     requires most { number < 10 ^ 18 }
     ensures text { IfOk result (λ text. text ≡ post_with client.now number [] body.now) }
-    ensures means { length body.now ≤ most_body
-        → IfOk result (λ text. Means text (posted_with client.now number [] body.now (request_in body.now))) }
+    ensures means { length body.now ≤ most_input
+        → IfOk result (λ text. Means text
+        (posted_with client.now number [] body.now (request_in body.now))) }
 {
     text_with(alloc, client, number, b"", body)
 }
@@ -44,9 +45,11 @@ pub fn import_text(
 ) -> Result<Bytes, AllocError>
     requires least { 1 ≤ number }
     requires most { number < 10 ^ 18 }
-    ensures text { IfOk result (λ text. text ≡ post_with client.now number (import_tail batch.now product.now) raw.now) }
-    ensures means { length raw.now ≤ most_body
-        → IfOk result (λ text. Means text (posted_with client.now number (import_tail batch.now product.now) raw.now
+    ensures text { IfOk result
+        (λ text. text ≡ post_with client.now number (import_tail batch.now product.now) raw.now) }
+    ensures means { length raw.now ≤ most_input
+        → IfOk result (λ text. Means text
+        (posted_with client.now number (import_tail batch.now product.now) raw.now
         (Some (request.Import batch.now product.now raw.now)))) }
 {
     let mut tail = Vec::new(alloc);
@@ -65,8 +68,9 @@ fn text_with(
     requires seen { list_all is_visible tail.now ≡ true }
     requires short { length tail.now ≤ 72 }
     ensures text { IfOk result (λ text. text ≡ post_with client.now number tail.now body.now) }
-    ensures heard { length body.now ≤ most_body
-        → IfOk result (λ text. IsHeardAs text (Brings (posted (target_with client.now number tail.now) body.now))) }
+    ensures heard { length body.now ≤ most_input
+        → IfOk result (λ text. IsHeardAs text
+        (Brings (posted (target_with client.now number tail.now) body.now))) }
     ensures name { OnOk result (IsName client.now) }
 {
     let target = target_with(alloc, client, number, tail)?;

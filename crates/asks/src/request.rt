@@ -7,7 +7,10 @@ ghost use Rattle.store_data.specs.Name.{is_name};
 ghost use Rattle.job_core.specs.Requests.{IsRequest};
 ghost use Rattle.serde_json.specs.View.{view};
 ghost use Rattle.asks.specs.Members.{passing};
-ghost use Rattle.asks.specs.Requests.{abort_in, answer_in, close_in, count_in, discard_in, flag_at, is_word, lot_in, number_within, open_in, product_in, remake_in, request_by_word, request_in, request_of_value, serial_at, session_in, withdraw_in, word_in};
+ghost use Rattle.asks.specs.Requests.{abort_in, answer_in, close_in, count_in, discard_in, flag_at};
+ghost use Rattle.asks.specs.Requests.{is_word, lot_in, number_within, open_in, product_in};
+ghost use Rattle.asks.specs.Requests.{remake_in, request_by_word, request_in, request_of_value};
+ghost use Rattle.asks.specs.Requests.{serial_at, session_in, withdraw_in, word_in};
 
 use crate::members::{name_at, number_at, text_at, value_in};
 use job_core::{Lot, Request};

@@ -114,7 +114,8 @@ fn route_by<'a>(form: Form, params: &Params<'_, 'a>) -> Option<Route<'a>>
 
 // What the parameter of this name took.
 fn part<'a>(params: &Params<'_, 'a>, name: &str) -> Option<&'a [u8]>
-    ensures { AllText (taken params.now) → option_map (λ part. part.now) result ≡ named name.now (taken params.now) }
+    ensures { AllText (taken params.now)
+        → option_map (λ part. part.now) result ≡ named name.now (taken params.now) }
 {
     Some(params.get(name)?.as_bytes())
 }

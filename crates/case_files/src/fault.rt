@@ -1,5 +1,5 @@
 //! Why a case is not what its file says.
-use std::alloc::{AllocError, AllocFailed};
+use std::alloc::{AllocError, AllocFailed, Global};
 
 /// Why a case fails.
 #[derive(Debug, Drop)]
@@ -31,4 +31,23 @@ impl<T: Drop> From<AllocFailed<T>> for CaseFault {
     fn from(_error: AllocFailed<T>) -> CaseFault {
         CaseFault::Memory
     }
+}
+
+/// Two byte strings are one.
+pub fn check_bytes(
+    alloc: Global,
+    line: u64,
+    way: &'static str,
+    wanted: &[u8],
+    came: &[u8],
+) -> Result<(), CaseFault> {
+    if wanted == came {
+        return Ok(());
+    }
+    Err(CaseFault::Differs {
+        line,
+        way,
+        wanted: String::from_utf8_lossy(alloc, wanted)?,
+        came: String::from_utf8_lossy(alloc, came)?,
+    })
 }

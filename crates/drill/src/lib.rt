@@ -95,7 +95,8 @@ pub fn drill_engine<R: Read, W: Write>(
     reader: &mut R,
     writer: &mut W,
 ) -> Result<(), DrillStop>
-    ensures { DrillEnds (R.remaining reader.old) (W.contents writer.old) (W.contents writer.new) result }
+    ensures { DrillEnds (R.remaining reader.old) (W.contents writer.old)
+        (W.contents writer.new) result }
 {
     let raw = read_whole(alloc, reader)?;
     let script = read_script(alloc, raw.as_slice())?;

@@ -1,9 +1,12 @@
 //! A drill's script, and the messages that its lines stand for.
-ghost use Rattle.std.specs.Prelude.{◌≡◌, ◌++◌, ◌==◌, ◌≤◌, IfOk, IfSome, bytes_eq, codes, drop, length, map, option_map, position};
+ghost use Rattle.std.specs.Prelude.{◌≡◌, ◌++◌, ◌==◌, ◌≤◌, IfOk, IfSome, bytes_eq, codes, drop};
+ghost use Rattle.std.specs.Prelude.{length, map, option_map, position};
 ghost use Rattle.std.specs.List.{flat_map};
 ghost use Rattle.wire.specs.Asks.{import_tail};
 ghost use Rattle.text_io.specs.Written.{line};
-ghost use Rattle.drill.specs.Scripts.{IsScript, asked, get, import_of, lines, numbered, office_of, post, shown, step_by, step_of, target_of, without_end, word_of};
+ghost use Rattle.drill.specs.Scripts.{IsScript, asked, get, import_of, lines, numbered, office_of};
+ghost use Rattle.drill.specs.Scripts.{post, shown, step_by, step_of, target_of, without_end};
+ghost use Rattle.drill.specs.Scripts.{word_of};
 
 use itoa::Buffer;
 use std::alloc::{AllocError, Global};
@@ -19,7 +22,8 @@ pub(crate) struct Script {
 
 /// Reads a script.
 pub(crate) fn read_script(alloc: Global, text: &[u8]) -> Result<Script, AllocError>
-    ensures { IfOk result (λ s. IsScript text.now (map (λ m. m.items) s.messages.items) s.bad_line) }
+    ensures { IfOk result
+        (λ s. IsScript text.now (map (λ m. m.items) s.messages.items) s.bad_line) }
 {
     let lines = lines_of(alloc, text)?;
     let mut messages = Vec::new(alloc);
@@ -66,7 +70,9 @@ fn asked(
     line: &[u8],
     behind: &[&[u8]],
 ) -> Result<Option<(Vec<u8>, usize)>, AllocError>
-    ensures value { IfOk result (λ found. option_map (λ p. (p.0.items, drop p.1 (map (λ l. l.now) behind.now))) found ≡ asked line.now (map (λ l. l.now) behind.now)) }
+    ensures value { IfOk result
+        (λ found. option_map (λ p. (p.0.items, drop p.1 (map (λ l. l.now) behind.now))) found
+        ≡ asked line.now (map (λ l. l.now) behind.now)) }
     ensures within { IfOk result (λ found. IfSome found (λ p. p.1 ≤ length behind.now)) }
 {
     match step_of(line) {

@@ -13,7 +13,8 @@ use Rattle.std.proofs.lemmas.Option.{get_or_from_slice_get, slice_get_within}
 use Rattle.httparse.specs.declared.spans.HeaderSpan.{HeaderSpan}
 use Rattle.httparse.specs.Spans.{header_bytes, span_bytes}
 use Rattle.heads.specs.declared.fixed.FixedReply.TheVariants.{Malformed}
-use Rattle.heads.specs.Heads.{most_body, Pair, body_size, is_named, size_in}
+use Rattle.heads.specs.Heads.{Pair, body_size, is_named, size_in}
+use Rattle.text_io.specs.Inputs.{most_input}
 use Rattle.heads.specs.HeadTests.{counted, one_more, size_after, size_by, values}
 
 pub all_at : (p : ℕ → Bool) (xs : List ℕ) (i : ℕ) → list_all p xs ≡ true → i < length xs → p (slice_index xs i) ≡ true
@@ -22,16 +23,16 @@ all_at p xs i h inside = AllPass-from_list_all p xs h i 0 inside
 pub digit_of : (c : ℕ) → is_ascii_digit c ≡ true → digit_value c ≡ c - 48
 digit_of c h = grind (arith, nat_tests)
 
-pub capped_more : (v d : ℕ) → min (min v (most_body + 1) * 10 + d) (most_body + 1) ≡ min (v * 10 + d) (most_body + 1)
+pub capped_more : (v d : ℕ) → min (min v (most_input + 1) * 10 + d) (most_input + 1) ≡ min (v * 10 + d) (most_input + 1)
 capped_more v d = omega arith
 
-pub one_digit_more : (text : List ℕ) (i number : ℕ) → i < length text → is_ascii_digit (slice_index text i) ≡ true → number ≡ min (digits_value 10 (take i text)) (most_body + 1)
-    → min (number * 10 + (slice_index text i - 48)) (most_body + 1) ≡ min (digits_value 10 (take (i + 1) text)) (most_body + 1)
+pub one_digit_more : (text : List ℕ) (i number : ℕ) → i < length text → is_ascii_digit (slice_index text i) ≡ true → number ≡ min (digits_value 10 (take i text)) (most_input + 1)
+    → min (number * 10 + (slice_index text i - 48)) (most_input + 1) ≡ min (digits_value 10 (take (i + 1) text)) (most_input + 1)
 one_digit_more text i number inside digit so_far =
-    ap (λ n. min (n * 10 + (slice_index text i - 48)) (most_body + 1)) so_far
-    ∙ ap (λ d. min (min (digits_value 10 (take i text)) (most_body + 1) * 10 + d) (most_body + 1)) (sym (digit_of (slice_index text i) digit))
+    ap (λ n. min (n * 10 + (slice_index text i - 48)) (most_input + 1)) so_far
+    ∙ ap (λ d. min (min (digits_value 10 (take i text)) (most_input + 1) * 10 + d) (most_input + 1)) (sym (digit_of (slice_index text i) digit))
     ∙ capped_more (digits_value 10 (take i text)) (digit_value (slice_index text i))
-    ∙ ap (λ n. min n (most_body + 1)) (sym (ap (digits_value 10) (take_more text i 0 inside) ∙ digits_value_push 10 (take i text) (slice_index text i)))
+    ∙ ap (λ n. min n (most_input + 1)) (sym (ap (digits_value 10) (take_more text i 0 inside) ∙ digits_value_push 10 (take i text) (slice_index text i)))
 
 -- ---- fields
 

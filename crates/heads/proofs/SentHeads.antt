@@ -23,7 +23,8 @@ use Rattle.httparse.proofs.GrammarLemmas.{cons-append, request_unique}
 use Rattle.httparse.proofs.OnLiterals.{httparse_on_literals}
 use Rattle.httparse.proofs.TrimLemmas.{trim_ows_space}
 use Rattle.std.specs.Option.{option_or}
-use Rattle.heads.specs.Heads.{most_body, HeadParts, IsJudged, bare_lf_after, body_size, ends_head, has_bare_lf, head_end, least, pairs, pairs_after, parts_of, size_text, sized}
+use Rattle.heads.specs.Heads.{HeadParts, IsJudged, bare_lf_after, body_size, ends_head, has_bare_lf, head_end, least, pairs, pairs_after, parts_of, size_text, sized}
+use Rattle.text_io.specs.Inputs.{most_input}
 use Rattle.heads.specs.Messages.{Brings, Broken, IsHeard, IsHeardAs, IsHeardBy, after_head, end_of_head}
 use Rattle.heads.specs.RequestHeads.{IsHeardBefore, IsTarget, is_visible, posted, request_head}
 use Rattle.heads.proofs.AloneLemmas.{heard_as}
@@ -268,15 +269,15 @@ reads target digits t d some = (
   tree_is_printed target digits ∙ sym (append-nil (print_request (tree target digits))),
 )
 
-size_of_decimal : (n : ℕ) → n ≤ most_body → size_text (decimal n) ≡ Ok n
+size_of_decimal : (n : ℕ) → n ≤ most_input → size_text (decimal n) ≡ Ok n
 unfolding size_text
 size_of_decimal n fits =
     let numeral = decimal_is_IsNumeral n (omega (arith, fits)) in
     let some : nat_lt 0 (length (decimal n)) ≡ true = grind (arith, nat_tests, numeral.0.0) in
-    let few : nat_le n most_body ≡ true = grind (arith, nat_tests, fits) in
+    let few : nat_le n most_input ≡ true = grind (arith, nat_tests, fits) in
     rw (some, digits_are_digits (decimal n) numeral.0.1, numeral.1, few) refl
 
-tree_parts : (target : List ℕ) (n : ℕ) → n ≤ most_body → parts_of (tree target (decimal n)) ≡ Ok (record { method = codes "POST"; target = target; size = n })
+tree_parts : (target : List ℕ) (n : ℕ) → n ≤ most_input → parts_of (tree target (decimal n)) ≡ Ok (record { method = codes "POST"; target = target; size = n })
 unfolding tree host size_field httparse_on_literals body_size
 tree_parts target n fits =
     let d = decimal_is_seen n (omega (arith, fits)) in
@@ -284,7 +285,7 @@ tree_parts target n fits =
     let bare : trim_ows (32 ∷ digits) ≡ digits = trim_ows_space digits (seen_skip digits d) (seen_skip (reverse digits) (seen_reverse digits d)) in
     ap (λ (l : List ℕ). sized (codes "POST") target (size_text l)) bare ∙ ap (sized (codes "POST") target) (size_of_decimal n fits)
 
-judged : (target : List ℕ) (n : ℕ) → are_seen target ≡ true → 0 < length target → n ≤ most_body → IsJudged (laid target (decimal n)) (Ok (record { method = codes "POST"; target = target; size = n }))
+judged : (target : List ℕ) (n : ℕ) → are_seen target ≡ true → 0 < length target → n ≤ most_input → IsJudged (laid target (decimal n)) (Ok (record { method = codes "POST"; target = target; size = n }))
 judged target n t some fits =
     let d = decimal_is_seen n (omega (arith, fits)) in
     let own = reads target (decimal n) t d some in
@@ -293,7 +294,7 @@ judged target n t some fits =
 
 -- ---- a whole message
 
-is_heard : (target body : List ℕ) → are_seen target ≡ true → 0 < length target → length (request_head target (length body)) ≤ 8192 → length body ≤ most_body
+is_heard : (target body : List ℕ) → are_seen target ≡ true → 0 < length target → length (request_head target (length body)) ≤ 8192 → length body ≤ most_input
     → IsHeard (request_head target (length body) ++ body) (Brings (posted target body))
 is_heard target body t some short fits =
     let d = decimal_is_seen (length body) (omega (arith, fits)) in
@@ -313,8 +314,8 @@ is_heard target body t some short fits =
           ∙ ap (λ (b : List ℕ). Brings (record { method = codes "POST"; target = target; body = b })) (take_all (length body) body (omega arith))),
     )
 
-pub sent_is_heard : (target : List ℕ) (size : ℕ) → IsTarget target → size ≤ most_body → length (request_head target size) ≤ 8192 → IsHeardBefore target size
+pub sent_is_heard : (target : List ℕ) (size : ℕ) → IsTarget target → size ≤ most_input → length (request_head target size) ≤ 8192 → IsHeardBefore target size
 sent_is_heard target size (some, seen) fits short = λ body is.
     subst (λ (n : ℕ). IsHeardAs (request_head target n ++ body) (Brings (posted target body))) is
     (heard_as (request_head target (length body) ++ body) (Brings (posted target body))
-    (is_heard target body seen some (subst (λ (n : ℕ). length (request_head target n) ≤ 8192) (sym is) short) (subst (λ (n : ℕ). n ≤ most_body) (sym is) fits)))
+    (is_heard target body seen some (subst (λ (n : ℕ). length (request_head target n) ≤ 8192) (sym is) short) (subst (λ (n : ℕ). n ≤ most_input) (sym is) fits)))

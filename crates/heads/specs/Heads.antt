@@ -4,6 +4,7 @@ use Rattle.std.specs.List.{ends_with, list_all, list_any}
 use Rattle.std.specs.Char.{is_ascii_digit}
 use Rattle.std.specs.Str.{str_eq_ignore_ascii_case}
 use Rattle.std.specs.Str.Parse.{digits_value}
+use Rattle.text_io.specs.Inputs.{most_input}
 use Rattle.httparse.specs.Grammar.{RequestHead, ReadsRequest}
 use Rattle.httparse.specs.Spans.{name_and_value}
 use Rattle.std.specs.Option.{option_or}
@@ -53,15 +54,11 @@ Pair = List ℕ × List ℕ
 abbrev pub is_named : List ℕ → Pair → Bool
 is_named name field = str_eq_ignore_ascii_case field.0 name
 
--- the most bytes of a body (this project's profile)
-abbrev pub most_body : ℕ
-most_body = 1048576
-
 -- one or more decimal digits, of at most so many
 unfoldable pub size_text : List ℕ → Result ℕ FixedReply
 size_text text =
     if not (nat_lt 0 (length text) && list_all is_ascii_digit text) then Err Malformed
-    else if nat_le (digits_value 10 text) most_body then Ok (digits_value 10 text)
+    else if nat_le (digits_value 10 text) most_input then Ok (digits_value 10 text)
     else Err TooLarge
 
 -- by the values of the fields that tell it

@@ -14,7 +14,7 @@ pub enum FixedReply {
     NoRoute,
     /// The target has another method: 405.
     OnlyMethod(Method),
-    /// The body has over `MOST_BODY` bytes: 413.
+    /// The body has over `MOST_INPUT` bytes: 413.
     TooLarge,
     /// The head has over 8,192 bytes, or over 34 pairs CR LF: 431.
     HeadTooLarge,

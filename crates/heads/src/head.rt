@@ -3,16 +3,18 @@ ghost use Rattle.std.specs.Prelude.{◌≡◌, ◌+◌, ◌&&◌, All, length, m
 ghost use Rattle.std.specs.List.{list_all};
 ghost use Rattle.std.specs.Char.{is_ascii_digit};
 ghost use Rattle.std.specs.Str.Parse.{digits_value};
+ghost use Rattle.text_io.specs.Inputs.{most_input};
 ghost use Rattle.httparse.specs.Spans.{IsHeaderWithin, header_bytes};
-ghost use Rattle.heads.specs.Heads.{IsJudged, body_size, has_bare_lf, is_named, most_body, pairs, size_text};
+ghost use Rattle.heads.specs.Heads.{IsJudged, body_size, has_bare_lf, is_named, pairs, size_text};
 ghost use Rattle.heads.specs.HeadTests.{IsRead, parts, found_of, one_more, size_by, values};
 
 use crate::fixed::FixedReply;
 use httparse::Status;
 use httparse::spans::{EMPTY_HEADER_SPAN, HeaderSpan, RequestSpans, parse_request};
+use text_io::MOST_INPUT;
 
-/// The most bytes of a body (this project's profile).
-pub const MOST_BODY: usize = 1_048_576;
+/// The most bytes of a body.
+const MOST_BODY: usize = MOST_INPUT as usize;
 
 /// The most pairs CR LF of a head: its first line, 32 header lines and its end (this project's profile).
 const MOST_PAIRS: usize = 34;
@@ -184,7 +186,7 @@ fn all_digits(text: &[u8]) -> bool
 // The number of decimal digits, or one more than the most where it is larger.
 fn capped(digits: &[u8]) -> usize
     requires { list_all is_ascii_digit digits.now ≡ true }
-    ensures { result ≡ min (digits_value 10 digits.now) (most_body + 1) }
+    ensures { result ≡ min (digits_value 10 digits.now) (most_input + 1) }
 {
     let mut number = 0;
     for digit in digits {

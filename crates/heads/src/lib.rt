@@ -11,7 +11,6 @@ mod request_head;
 mod source;
 
 pub use fixed::FixedReply;
-pub use head::MOST_BODY;
 pub use message::{Message, Reading, read_message};
 pub use parts::reply_parts;
 pub use reply::{Content, Method, reply_head};

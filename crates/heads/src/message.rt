@@ -1,7 +1,8 @@
 //! Messages: a head, and the body that it asks for.
 ghost use Rattle.std.specs.Prelude.{◌≡◌, ◌++◌, ℕ, List, IfOk, Ok, length};
 ghost use Rattle.heads.specs.HeadTests.{parts};
-ghost use Rattle.heads.specs.Messages.{IsBody, IsFilled, IsReading, IsReadingAfter, IsReadingBy, Tells, as_parts};
+ghost use Rattle.heads.specs.Messages.{IsBody, IsFilled, IsReading, IsReadingAfter, IsReadingBy};
+ghost use Rattle.heads.specs.Messages.{Tells, as_parts};
 
 use crate::fixed::FixedReply;
 use crate::head::{HeadParts, judge};
@@ -48,7 +49,8 @@ pub fn read_message<I: ByteSource>(alloc: Global, incoming: &mut I) -> Reading
 
 // Reads what follows a head, the first bytes of which came with it.
 fn read_rest<I: ByteSource>(alloc: Global, incoming: &mut I, head: &[u8], begun: &[u8]) -> Reading
-    ensures { (more : List ℕ) × Tells (I.brings incoming.old) more × IsReadingAfter head.now (begun.now ++ more) result }
+    ensures { (more : List ℕ) × Tells (I.brings incoming.old) more
+        × IsReadingAfter head.now (begun.now ++ more) result }
 {
     match judge(head) {
         Ok(head) => match read_body(alloc, incoming, head.size, begun) {
@@ -61,7 +63,8 @@ fn read_rest<I: ByteSource>(alloc: Global, incoming: &mut I, head: &[u8], begun:
 
 // What is read where this body came, or none.
 fn with_body(alloc: Global, head: HeadParts<'_>, body: Option<Bytes>) -> Reading
-    ensures { (rest : List ℕ) → IsBody head.entry.size rest body → IsReadingBy (parts (Ok head.entry)) rest result }
+    ensures { (rest : List ℕ) → IsBody head.entry.size rest body
+        → IsReadingBy (parts (Ok head.entry)) rest result }
 {
     let Some(body) = body else {
         return Reading::Broken;
@@ -74,7 +77,12 @@ fn with_body(alloc: Global, head: HeadParts<'_>, body: Option<Bytes>) -> Reading
 
 // A message of this head and body.
 fn message_with(alloc: Global, head: HeadParts<'_>, body: Bytes) -> Result<Message, AllocError>
-    ensures { IfOk result (λ m. as_parts m ≡ record { method = head.entry.method.now; target = head.entry.target.now; body = body }) }
+    ensures { IfOk result
+        (λ m. as_parts m ≡ record {
+          method = head.entry.method.now;
+          target = head.entry.target.now;
+          body = body;
+        }) }
 {
     let method = Bytes::from_vec(head.method.to_vec(alloc)?);
     let target = Bytes::from_vec(head.target.to_vec(alloc)?);
@@ -92,7 +100,8 @@ fn read_body<I: ByteSource>(
     size: usize,
     begun: &[u8],
 ) -> Result<Option<Bytes>, AllocError>
-    ensures { (more : List ℕ) × Tells (I.brings incoming.old) more × IfOk result (IsBody size (begun.now ++ more)) }
+    ensures { (more : List ℕ) × Tells (I.brings incoming.old) more
+        × IfOk result (IsBody size (begun.now ++ more)) }
 {
     let mut body = vec![in alloc; 0; size]?;
     if bring_body(incoming, begun, &mut body) {
@@ -105,7 +114,8 @@ fn read_body<I: ByteSource>(
 // Fills a body, the first bytes of which came already; not if too few come.
 fn bring_body<I: ByteSource>(incoming: &mut I, begun: &[u8], body: &mut [u8]) -> bool
     ensures size { length body.new ≡ length body.old }
-    ensures filled { (more : List ℕ) × Tells (I.brings incoming.old) more × IsFilled body.new (begun.now ++ more) result }
+    ensures filled { (more : List ℕ) × Tells (I.brings incoming.old) more
+        × IsFilled body.new (begun.now ++ more) result }
 {
     let begun = &begun[..body.len().min(begun.len())];
     body[..begun.len()].copy_from_slice(begun);

@@ -55,8 +55,10 @@ pub(crate) fn find_end(bytes: &[u8], from: usize) -> Option<usize>
 
 /// Fills a buffer, unless the bytes end before.
 pub(crate) fn fill<I: ByteSource>(incoming: &mut I, buf: &mut [u8]) -> bool
-    ensures full { OnTrue result (Consumes (I.brings incoming.old) (I.brings incoming.new) buf.new) }
-    ensures early { OnFalse result ((more : List ℕ) × Tells (I.brings incoming.old) more × (length more < length buf.new)) }
+    ensures full { OnTrue result
+        (Consumes (I.brings incoming.old) (I.brings incoming.new) buf.new) }
+    ensures early { OnFalse result ((more : List ℕ) × Tells (I.brings incoming.old) more
+        × (length more < length buf.new)) }
 {
     let mut at = 0;
     while at < buf.len() {

@@ -57,7 +57,8 @@ fn put(out: &mut [u8; 256], at: usize, text: &[u8]) -> usize
 fn put_status(out: &mut [u8; 256], at: usize, status: StatusCode) -> usize
     requires room { at + 35 ≤ 256 }
     requires few { length (phrase status) ≤ 31 }
-    ensures text { take result out.new ≡ take at out.old ++ (code_digits status ++ codes " " ++ phrase status) }
+    ensures text { take result out.new ≡ take at out.old
+        ++ (code_digits status ++ codes " " ++ phrase status) }
     ensures end { result ≡ at + 4 + length (phrase status) }
 {
     let at = put(out, at, status.as_str().as_bytes());

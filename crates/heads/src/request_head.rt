@@ -1,6 +1,6 @@
 //! The heads of requests, as clients send them.
 ghost use Rattle.std.specs.Prelude.{◌≡◌, ◌≤◌, ◌++◌, OnOk, length};
-ghost use Rattle.heads.specs.Heads.{most_body};
+ghost use Rattle.text_io.specs.Inputs.{most_input};
 ghost use Rattle.heads.specs.RequestHeads.{IsHeardBefore, IsTarget, request_head};
 
 use itoa::Buffer;
@@ -10,7 +10,8 @@ use std::alloc::AllocError;
 #[tactic(auto, using(crate::proofs::SentHeads::sent_is_heard))]
 pub fn push_request_head(text: &mut Vec<u8>, target: &[u8], size: usize) -> Result<(), AllocError>
     ensures text { OnOk result (text.new.items ≡ text.old.items ++ request_head target.now size) }
-    ensures heard { IsTarget target.now → size ≤ most_body → length (request_head target.now size) ≤ 8192
+    ensures heard { IsTarget target.now → size ≤ most_input
+        → length (request_head target.now size) ≤ 8192
         → IsHeardBefore target.now size }
 {
     let mut digits = Buffer::new();

@@ -49,9 +49,13 @@ pub trait JobStore {
     ghost use Rattle.job_core.specs.declared.rows.SegmentRow.{SegmentRow as SegmentRowValue};
     ghost use Rattle.job_core.specs.declared.rows.SessionRow.{SessionRow as SessionRowValue};
     ghost use Rattle.job_core.specs.Accounts.{batch_totals, blank_totals, record_line_at};
-    ghost use Rattle.job_core.specs.Rows.{batch_has, batch_row_of, counts_of, segment_row_of, session_row_of};
-    ghost use Rattle.job_core.specs.States.{any_overlaps, first_waiting, is_batch_finished, is_charged, lot_named, lot_of, product_named, record_state_of, running_session};
-    ghost use Rattle.job_core.specs.Store.{AreSound, Commits, Contents, HasCause, Reads, State, Stays, entry_of, reply_of_entry};
+    ghost use Rattle.job_core.specs.Rows.{batch_has, batch_row_of, counts_of, segment_row_of};
+    ghost use Rattle.job_core.specs.Rows.{session_row_of};
+    ghost use Rattle.job_core.specs.States.{any_overlaps, first_waiting, is_batch_finished};
+    ghost use Rattle.job_core.specs.States.{is_charged, lot_named, lot_of, product_named};
+    ghost use Rattle.job_core.specs.States.{record_state_of, running_session};
+    ghost use Rattle.job_core.specs.Store.{AreSound, Commits, Contents, HasCause, Reads, State};
+    ghost use Rattle.job_core.specs.Store.{Stays, entry_of, reply_of_entry};
 
     /// What it stands for, and what a crash may leave of it.
     ghost state: { Self → State };
@@ -205,7 +209,13 @@ pub trait JobStore {
         change: &Change<'_>,
     ) -> Result<(), StoreFault>
         ensures all_or_nothing { Commits (state self.old) (state self.new) result change.now
-            (record { client = client.now; number = number; ask = ask.now; status = status; body = body.now }) }
+            (record {
+              client = client.now;
+              number = number;
+              ask = ask.now;
+              status = status;
+              body = body.now;
+            }) }
         ensures cause { HasCause (state self.new) result };
 
     /// What it stands for is sound.

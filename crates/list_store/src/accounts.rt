@@ -1,8 +1,11 @@
 //! The accounts of batches, records and blanks.
-ghost use Rattle.std.specs.Prelude.{◌≡◌, ◌∷◌, ◌&&◌, IfErr, IfOk, bytes_eq, count_by, filter, find, length, map, option_map, sum_by};
+ghost use Rattle.std.specs.Prelude.{◌≡◌, ◌∷◌, ◌&&◌, IfErr, IfOk, bytes_eq, count_by, filter, find};
+ghost use Rattle.std.specs.Prelude.{length, map, option_map, sum_by};
 ghost use Rattle.job_core.specs.declared.store.StoreFault.TheVariants.{Memory};
 ghost use Rattle.job_core.specs.declared.facts.Lot.{Lot as LotValue};
-ghost use Rattle.job_core.specs.Accounts.{batch_totals, blank_states, blank_totals, count_records, is_blank_of, is_lot_of, record_line, record_line_at, record_states, session_states};
+ghost use Rattle.job_core.specs.Accounts.{batch_totals, blank_states, blank_totals, count_records};
+ghost use Rattle.job_core.specs.Accounts.{is_blank_of, is_lot_of, record_line, record_line_at};
+ghost use Rattle.job_core.specs.Accounts.{record_states, session_states};
 ghost use Rattle.job_core.specs.Facts.{Session};
 ghost use Rattle.job_core.specs.States.{is_good, lot_of, record_state, session_state};
 ghost use Rattle.list_store.specs.Sessions.{lots_for, sessions_of_record};

@@ -41,7 +41,13 @@ pub(crate) fn row(
     body: &[u8],
 ) -> Result<KeptRow, StoreFault>
     ensures value { IfOk result
-        (λ row. row ≡ record { client = client.now; number = number; ask = ask.now; status = status; body = body.now }) }
+        (λ row. row ≡ record {
+          client = client.now;
+          number = number;
+          ask = ask.now;
+          status = status;
+          body = body.now;
+        }) }
     ensures cause { IfErr result (λ fault. fault ≡ Memory) }
 {
     Ok(KeptRow {

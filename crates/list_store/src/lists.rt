@@ -78,7 +78,14 @@ impl Model for KeptSession {
 
     ghost Value = { Session };
 
-    ghost view = { λ s. record { machine = s.machine; batch = s.batch; rec = s.rec; blank = s.blank; words = s.words.items; ended = s.ended } };
+    ghost view = { λ s. record {
+      machine = s.machine;
+      batch = s.batch;
+      rec = s.rec;
+      blank = s.blank;
+      words = s.words.items;
+      ended = s.ended;
+    } };
 }
 
 impl KeptSession {
@@ -175,5 +182,11 @@ impl Model for KeptRow {
 
     ghost Value = { Entry };
 
-    ghost view = { λ r. record { client = r.client; number = r.number; ask = r.ask; status = r.status; body = r.body } };
+    ghost view = { λ r. record {
+      client = r.client;
+      number = r.number;
+      ask = r.ask;
+      status = r.status;
+      body = r.body;
+    } };
 }

@@ -8,7 +8,8 @@ ghost use Rattle.batch_import.specs.Batch.{batch_of, records_of_rows};
 ghost use Rattle.batch_import.specs.SoundRecords.{AreSoundRecords};
 ghost use Rattle.job_core.specs.declared.store.StoreFault.TheVariants.{Memory};
 ghost use Rattle.job_core.specs.Rows.{batch_has, batch_row_of};
-ghost use Rattle.job_core.specs.States.{is_closed, plan_for, records_named, records_of, rows_of, rows_of_record, rows_or_none};
+ghost use Rattle.job_core.specs.States.{is_closed, plan_for, records_named, records_of, rows_of};
+ghost use Rattle.job_core.specs.States.{rows_of_record, rows_or_none};
 
 use crate::lists::{FactLists, KeptBatch};
 use crate::names::{batch_named, product_named};
@@ -76,8 +77,11 @@ fn rows(alloc: Global, facts: &FactLists, batch: &KeptBatch) -> Result<Vec<Row>,
 // How many rows and records a batch has.
 #[tactic(auto, unfolding(job_core::specs::States::rows_of, store_data::specs::Groups::grouped))]
 fn totals(alloc: Global, facts: &FactLists, batch: &KeptBatch) -> Result<Totals, StoreFault>
-    ensures rows { IfOk result (λ totals. totals.rows ≡ length (rows_of facts.now.products batch.now)) }
-    ensures records { IfOk result (λ totals. totals.records ≡ length (records_of_rows (rows_of facts.now.products batch.now))) }
+    ensures rows { IfOk result
+        (λ totals. totals.rows ≡ length (rows_of facts.now.products batch.now)) }
+    ensures records { IfOk result
+        (λ totals. totals.records
+        ≡ length (records_of_rows (rows_of facts.now.products batch.now))) }
     ensures cause { IfErr result (λ fault. fault ≡ Memory) }
 {
     let none = Totals {
@@ -165,7 +169,8 @@ pub(crate) fn record_rows(
 
 // The records of these rows, by first appearance.
 fn names(alloc: Global, rows: &[Row]) -> Result<Vec<Name>, StoreFault>
-    ensures value { IfOk result (λ names. names.items ≡ first_appearances (map (λ (row : RowValue). row.rec) rows.now)) }
+    ensures value { IfOk result
+        (λ names. names.items ≡ first_appearances (map (λ (row : RowValue). row.rec) rows.now)) }
     ensures cause { IfErr result (λ fault. fault ≡ Memory) }
 {
     let mut names = Vec::new(alloc);

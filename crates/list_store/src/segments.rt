@@ -21,7 +21,8 @@ pub(crate) fn segment_row_of(
     app: u16,
     segment: u16,
 ) -> Result<Option<SegmentRow>, StoreFault>
-    ensures value { IfOk result (λ row. row ≡ segment_row_of facts.now batch.now rec.now app segment) }
+    ensures value { IfOk result
+        (λ row. row ≡ segment_row_of facts.now batch.now rec.now app segment) }
     ensures ranged { IfOk result (λ row. IfSome row (λ (row : SegmentRowValue). row.low ≤ 31)) }
     ensures cause { IfErr result (λ fault. fault ≡ Memory) }
 {

@@ -11,16 +11,13 @@ use Rattle.batch_import.specs.Batch.{batch_of}
 use Rattle.batch_import.specs.Outlines.{AreBatchRows}
 use Rattle.batch_import.specs.SoundRecords.{AreSoundRecords}
 use Rattle.store_data.specs.Groups.{grouped}
+use Rattle.text_io.specs.Inputs.{most_input}
 use Rattle.text_io.specs.Written.{AppendsBeginning}
 use Rattle.text_io.specs.declared.reading.ReadFault.{ReadFault}
 use Rattle.text_io.specs.declared.reading.ReadFault.TheVariants as read
 use Rattle.plan_print.specs.Printed.{printed}
 use Rattle.plan_print.specs.declared.plan.PlanStop.{PlanStop}
 use Rattle.plan_print.specs.declared.plan.PlanStop.TheVariants as stop
-
--- the most bytes of a batch (this project's profile)
-abbrev pub most_input : ℕ
-most_input = 1048576
 
 -- for the input `raw` the text of its batch was written, a beginning of it where the writer failed, or nothing and a refusal
 abbrev pub PlanEnds : Product → List ℕ → Option (List ℕ) → Option (List ℕ) → Result (Unit {0}) PlanStop → Type 0

@@ -13,17 +13,14 @@ use batch_import::{ImportFault, RowFault, read_batch};
 use std::alloc::{AllocError, Global};
 use std::io::{Read, Write};
 use store_data::{Product, Row, grouped, plan_of_sound};
-use text_io::{ReadFault, WriteFailed, read_within};
-
-/// The most bytes of a batch (this project's profile).
-const MOST_INPUT: u32 = 1_048_576;
+use text_io::{MOST_INPUT, ReadFault, WriteFailed, read_within};
 
 /// Why `persod plan` stopped.
 #[derive(Clone, Copy, Debug, PartialEq, Eq)]
 pub enum PlanStop {
     /// The batch has a fault.
     Refused(RowFault),
-    /// The input has over 1,048,576 bytes.
+    /// The input has over `MOST_INPUT` bytes.
     TooLarge,
     /// A read failed.
     ReadFailed,
@@ -154,7 +151,8 @@ fn planned<'a>(alloc: Global, product: &Product, rows: &'a [Row]) -> Result<Plan
 
 // Writes the lines of each record, or a beginning of them where the writer fails.
 fn print<W: Write>(writer: &mut W, plans: &[Planned<'_>]) -> Result<(), WriteFailed>
-    ensures { Writes (W.contents writer.old) (W.contents writer.new) (flat_map text_of plans.now) result }
+    ensures { Writes (W.contents writer.old) (W.contents writer.new)
+        (flat_map text_of plans.now) result }
 {
     for record in plans {
         write_record(writer, record)?;

@@ -1,5 +1,6 @@
 //! Printing a plan: a record's name line, and each command by the cursor, a line each.
-ghost use Rattle.std.specs.Prelude.{◌≡◌, ◌+◌, ◌*◌, ◌++◌, ◌<◌, ◌≤◌, length, slice_index, take, codes};
+ghost use Rattle.std.specs.Prelude.{◌≡◌, ◌+◌, ◌*◌, ◌++◌, ◌<◌, ◌≤◌, length, slice_index, take};
+ghost use Rattle.std.specs.Prelude.{codes};
 ghost use Rattle.hex.specs.Hex.{encode_upper, upper_digits};
 ghost use Rattle.text_io.specs.Written.{Writes, line};
 ghost use Rattle.plan_print.specs.Printed.{command_lines, text_of};
@@ -27,7 +28,8 @@ pub fn write_record<W: Write>(writer: &mut W, planned: &Planned<'_>) -> Result<(
 
 // Writes a record's name line.
 fn write_name<W: Write>(writer: &mut W, name: &Name) -> Result<(), WriteFailed>
-    ensures { Writes (W.contents writer.old) (W.contents writer.new) (line (codes "record " ++ name.now)) result }
+    ensures { Writes (W.contents writer.old) (W.contents writer.new)
+        (line (codes "record " ++ name.now)) result }
 {
     write_text(writer, b"record ")?;
     write_text(writer, name.bytes())?;
@@ -36,7 +38,8 @@ fn write_name<W: Write>(writer: &mut W, name: &Name) -> Result<(), WriteFailed>
 
 // Writes the commands of a plan, as the cursor goes over them.
 fn write_commands<W: Write>(writer: &mut W, plan: &RecordPlan<'_>) -> Result<(), WriteFailed>
-    ensures { Writes (W.contents writer.old) (W.contents writer.new) (command_lines plan.now) result }
+    ensures { Writes (W.contents writer.old) (W.contents writer.new)
+        (command_lines plan.now) result }
 {
     let mut cursor = Cursor::start();
     let mut command = [0; 260];

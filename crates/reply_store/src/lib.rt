@@ -47,7 +47,12 @@ pub fn handle<S: JobStore>(
     requires most { number < 10 ^ 18 }
     requires ranged { IsRequest request.now }
     ensures handled { Handles (S.state store.old) (S.state store.new)
-        (record { client = client.now; number = number; ask = ask.now; request = request.now }) result }
+        (record {
+          client = client.now;
+          number = number;
+          ask = ask.now;
+          request = request.now;
+        }) result }
     // A law of the plain machine, whatever is answered: a command that it hands out is the next.
     ensures next { (c : Contents) → (S.state store.old).holds c
         → HandsOutNext c.facts (step c.facts client.now request.now).1 }
@@ -132,7 +137,13 @@ fn settle<S: JobStore>(
     change: &Change<'_>,
 ) -> Result<Kept, StoreFault>
     ensures commits { Commits (S.state store.old) (S.state store.new) (done result) change.now
-        (record { client = client.now; number = number; ask = ask.now; status = status_of reply.now; body = body_of reply.now }) }
+        (record {
+          client = client.now;
+          number = number;
+          ask = ask.now;
+          status = status_of reply.now;
+          body = body_of reply.now;
+        }) }
     ensures value { IfOk result (λ k. told k ≡ told_of reply.now) }
     ensures cause { HasCause (S.state store.new) result }
 {

@@ -7,9 +7,11 @@ ghost use Rattle.job_core.specs.Accounts.{batch_totals, blank_totals, record_lin
 ghost use Rattle.job_core.specs.States.{records_named};
 ghost use Rattle.job_core.specs.Store.{Contents, HasCause, Reads, Stays};
 ghost use Rattle.job_core.specs.declared.refusal.Refusal.TheVariants.{BatchUnknown, ProductUnknown};
-ghost use Rattle.reports.specs.Accounts.{AreAllCounted, AreAllStanding, batch_account, blank_account};
+ghost use Rattle.reports.specs.Accounts.{AreAllCounted, AreAllStanding, batch_account};
+ghost use Rattle.reports.specs.Accounts.{blank_account};
 ghost use Rattle.reports.specs.Report.{report_text};
-ghost use Rattle.reports.specs.Told.{HasFaultCause, HasReportCause, KeepsUntold, Reports, TellsText};
+ghost use Rattle.reports.specs.Told.{HasFaultCause, HasReportCause, KeepsUntold, Reports};
+ghost use Rattle.reports.specs.Told.{TellsText};
 
 mod accounts;
 mod fault;

@@ -6,7 +6,8 @@ ghost use Rattle.reports.specs.Report.{report_text};
 ghost use Rattle.reports.specs.Told.{TellsText};
 ghost use Rattle.reply_store.specs.Told.{told_of};
 ghost use Rattle.job_core.specs.declared.reply.Reply.TheVariants.{Refused};
-ghost use Rattle.server.specs.Replies.{account_kind, account_of, account_text, told_text, unknown_of};
+ghost use Rattle.server.specs.Replies.{account_kind, account_of, account_text, told_text};
+ghost use Rattle.server.specs.Replies.{unknown_of};
 ghost use Rattle.server.specs.Answers.{answer_text};
 
 use asks::Wanted;
@@ -32,7 +33,8 @@ pub(crate) fn account_answer<S: JobStore>(
     wanted: Wanted,
 ) -> Result<Answer, StoreFault>
     ensures stays { Stays (S.state store.old) (S.state store.new) }
-    ensures value { Reads (S.state store.old) (S.state store.new) result (λ c answer. answer_text answer ≡ account_text c.facts wanted) }
+    ensures value { Reads (S.state store.old) (S.state store.new) result
+        (λ c answer. answer_text answer ≡ account_text c.facts wanted) }
 {
     match account(alloc, store, wanted) {
         Ok(body) => Ok(Answer {
@@ -59,7 +61,8 @@ fn kind_of(wanted: Wanted) -> Content
 
 fn account<S: JobStore>(alloc: Global, store: &mut S, wanted: Wanted) -> Result<Bytes, AccountFault>
     ensures stays { Stays (S.state store.old) (S.state store.new) }
-    ensures tells { TellsText (S.state store.old) (S.state store.new) (unknown_of wanted) (λ c. account_of c.facts wanted) result }
+    ensures tells { TellsText (S.state store.old) (S.state store.new) (unknown_of wanted)
+        (λ c. account_of c.facts wanted) result }
 {
     match wanted {
         Wanted::Batch(batch) => batch_counts(alloc, store, &batch),
@@ -71,7 +74,8 @@ fn account<S: JobStore>(alloc: Global, store: &mut S, wanted: Wanted) -> Result<
 // A write into memory fails where memory is refused.
 fn report<S: JobStore>(alloc: Global, store: &mut S, batch: &Name) -> Result<Bytes, AccountFault>
     ensures stays { Stays (S.state store.old) (S.state store.new) }
-    ensures tells { TellsText (S.state store.old) (S.state store.new) BatchUnknown (λ c. report_text c.facts batch.now) result }
+    ensures tells { TellsText (S.state store.old) (S.state store.new) BatchUnknown
+        (λ c. report_text c.facts batch.now) result }
 {
     let mut text = Vec::new(alloc);
     match close_report(alloc, store, batch, &mut text) {

@@ -50,10 +50,12 @@ pub trait Connections {
         ensures same { queue self.new ≡ queue self.old }
         ensures cause { IfErr result (λ fault. refuses self.new fault) }
         ensures out { OnOk result (awaits self.new) }
-        ensures opens { IfOk result (λ pair. Opens (queue self.new) (Self.In.brings pair.0) (Self.Out.contents pair.1)) };
+        ensures opens { IfOk result
+            (λ pair. Opens (queue self.new) (Self.In.brings pair.0) (Self.Out.contents pair.1)) };
 
     /// Takes back the connection that is out, with what became of it.
     fn back(&mut self, incoming: Self::In, writer: Self::Out, served: Served)
         requires { awaits self.old }
-        ensures { queue self.new ≡ option_map (moved (Self.Out.contents writer) served) (queue self.old) };
+        ensures { queue self.new
+            ≡ option_map (moved (Self.Out.contents writer) served) (queue self.old) };
 }

@@ -16,8 +16,10 @@ pub fn serve_all<S: JobStore, C: Connections>(
     connections: &mut C,
     turns: u64,
 ) -> Result<(), NextFault>
-    ensures served { (es : List Exchange) × Moves (C.queue connections.old) (C.queue connections.new) es
-        × ServesAll (S.state store.old) (S.state store.new) es × OnOk result (length es ≡ turns) × OnErr result (length es < turns) }
+    ensures served { (es : List Exchange)
+        × Moves (C.queue connections.old) (C.queue connections.new) es
+        × ServesAll (S.state store.old) (S.state store.new) es × OnOk result (length es ≡ turns)
+        × OnErr result (length es < turns) }
     ensures cause { IfErr result (λ fault. C.refuses connections.new fault) }
 {
     left_in_turn::<S>();

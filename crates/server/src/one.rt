@@ -34,7 +34,8 @@ pub fn serve_one<S: JobStore, I: ByteSource, W: Write>(
     incoming: &mut I,
     writer: &mut W,
 ) -> Served
-    ensures { (e : Exchange) × Tells (I.brings incoming.old) e.input × Appends (W.contents writer.old) (W.contents writer.new) e.written
+    ensures { (e : Exchange) × Tells (I.brings incoming.old) e.input
+        × Appends (W.contents writer.old) (W.contents writer.new) e.written
         × (e.served ≡ result) × Serves (S.state store.old) (S.state store.new) e }
 {
     match read_meaning(alloc, incoming) {
@@ -74,7 +75,8 @@ fn serve_arrival<S: JobStore, W: Write>(
 ) -> Served
     requires { IsArrival arrival.now }
     ensures { (written : List ℕ) × Appends (W.contents writer.old) (W.contents writer.new) written
-        × MayServe (Asks (asked.Arrival arrival.now)) (S.state store.old) (S.state store.new) result written }
+        × MayServe (Asks (asked.Arrival arrival.now)) (S.state store.old)
+        (S.state store.new) result written }
 {
     match handle_arrival(alloc, store, arrival) {
         Ok(kept) => Served {
@@ -121,7 +123,8 @@ fn serve_account<S: JobStore, W: Write>(
     writer: &mut W,
 ) -> Served
     ensures { (written : List ℕ) × Appends (W.contents writer.old) (W.contents writer.new) written
-        × MayServe (Asks (asked.Account wanted)) (S.state store.old) (S.state store.new) result written }
+        × MayServe (Asks (asked.Account wanted)) (S.state store.old)
+        (S.state store.new) result written }
 {
     match account_answer(alloc, store, wanted) {
         Ok(answer) => Served {

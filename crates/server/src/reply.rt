@@ -29,7 +29,8 @@ fn write_reply<W: Write>(
     kind: Content,
     body: &[u8],
 ) -> Result<(), WriteFailed>
-    ensures { Writes (W.contents writer.old) (W.contents writer.new) (reply_text status kind body.now) result }
+    ensures { Writes (W.contents writer.old) (W.contents writer.new)
+        (reply_text status kind body.now) result }
 {
     let mut head = [0; 256];
     let size = reply_head(status, kind, body.len(), &mut head);
@@ -39,7 +40,8 @@ fn write_reply<W: Write>(
 
 /// Writes a fixed reply.
 pub(crate) fn refuse<W: Write>(writer: &mut W, why: FixedReply) -> Served
-    ensures written { (written : List ℕ) × Appends (W.contents writer.old) (W.contents writer.new) written
+    ensures written { (written : List ℕ)
+        × Appends (W.contents writer.old) (W.contents writer.new) written
         × IsWritten result.end (refusal_text why) written }
     ensures decided { result.decided ≡ false }
 {

@@ -6,6 +6,10 @@ use Rattle.std.specs.declared.io.ErrorKind.TheVariants as kind
 use Rattle.text_io.specs.declared.reading.ReadFault.{ReadFault}
 use Rattle.text_io.specs.declared.reading.ReadFault.TheVariants.{Failed, Memory}
 
+-- the most bytes of a batch file, and of a request's body (this project's profile)
+abbrev pub most_input : ℕ
+most_input = 1048576
+
 -- the bytes are those that are known, if they are
 abbrev pub Tells : Option (List ℕ) → List ℕ → Type 0
 Tells known bytes = IfSome known (λ told. told ≡ bytes)

@@ -4,5 +4,5 @@
 mod reading;
 mod writing;
 
-pub use reading::{ReadFault, read_whole, read_within};
+pub use reading::{MOST_INPUT, ReadFault, read_whole, read_within};
 pub use writing::{WriteFailed, write_text};

@@ -8,6 +8,9 @@ use std::error::Error;
 use std::fmt;
 use std::io::{self, ErrorKind, Read};
 
+/// The most bytes of a batch file, and of a request's body (this project's profile).
+pub const MOST_INPUT: u32 = 1_048_576;
+
 /// Why an input wasn't read.
 #[derive(Clone, Copy, Debug, PartialEq, Eq)]
 pub enum ReadFault {

@@ -16,7 +16,7 @@ use Rattle.store_data.specs.Name.{is_name, is_name_char}
 use Rattle.job_core.specs.declared.request.Request.{Request}
 use Rattle.job_core.specs.declared.request.Request.TheVariants as request
 use Rattle.reply_store.specs.Values.{flag_text}
-use Rattle.heads.specs.Heads.{most_body}
+use Rattle.text_io.specs.Inputs.{most_input}
 use Rattle.asks.specs.Members.{passing, name_at, text_at}
 use Rattle.asks.specs.Requests.{abort_in, answer_in, close_in, discard_in, flag_at, is_lot, is_within, is_word, lot_in, number_within, open_in, product_in, remake_in, request_by_word, request_in, request_of_value, withdraw_in, word_in, with_two, with_three, with_four}
 use Rattle.wire.specs.Sending.{AreNames, IsSendable, body_of, value_of, word_text}
@@ -141,7 +141,7 @@ flag_is_short false = omega arith
 few : (n : ℕ) → n < 2 ^ 64 → length (decimal n) ≤ 20
 few n h = length-decimal-le 20 n (omega arith) (omega (arith, h)) h
 
-pub body_is_short : (r : Request) → AreNames r → IsSendable r → IsNoImport r → length (body_of r) ≤ most_body
+pub body_is_short : (r : Request) → AreNames r → IsSendable r → IsNoImport r → length (body_of r) ≤ most_input
 unfolding body_of encode_with
 body_is_short (request.Product p) h s other =
     simp length-append (omega (arith, flag_is_short p.check, few p.low (omega (arith, s.low)), few p.max (omega (arith, s.most)), name_is_short p.code h))

@@ -11,7 +11,7 @@ use Rattle.asks.specs.declared.ask.Asked.TheVariants as asked
 use Rattle.asks.specs.Asks.{ask_with, import_tail}
 use Rattle.asks.specs.Meant.{Asks, Means}
 use Rattle.asks.specs.Posts.{post_with}
-use Rattle.heads.specs.Heads.{most_body}
+use Rattle.text_io.specs.Inputs.{most_input}
 
 -- ---- what callers owe
 
@@ -19,7 +19,7 @@ use Rattle.heads.specs.Heads.{most_body}
 abbrev pub IsSendable : Request → Type 0
 IsSendable (request.Product p) = IsRequest (request.Product p)
 IsSendable (request.Lot l) = IsRequest (request.Lot l)
-IsSendable (request.Import b p raw) = length raw ≤ most_body
+IsSendable (request.Import b p raw) = length raw ≤ most_input
 IsSendable (request.Open b blank) = blank < 10 ^ 18
 IsSendable (request.Answer s k sw) = (1 ≤ s) × (s < 10 ^ 18) × (k < 2 ^ 32) × (sw < 2 ^ 16)
 IsSendable (request.Abort s) = (1 ≤ s) × (s < 10 ^ 18)

@@ -6,8 +6,8 @@ mod sending;
 
 pub use asks::{AskFault, Asked, Wanted, is_number, to_ask};
 pub use heads::{
-    ByteSource, Content, FixedReply, MOST_BODY, Message, Method, Pieces, Reading, read_message,
-    reply_head, reply_parts,
+    ByteSource, Content, FixedReply, Message, Method, Pieces, Reading, read_message, reply_head,
+    reply_parts,
 };
 pub use parse::parse_reply;
 pub use sending::request_text;

@@ -1,10 +1,13 @@
 //! Replies, read back from their bytes.
-ghost use Rattle.std.specs.Prelude.{◌≡◌, ◌≢◌, ◌<◌, ◌≤◌, ◌^◌, ◌↔◌, ◌++◌, ℕ, List, length, slice_index, Some, IfOk, IfSome, IsTrue};
+ghost use Rattle.std.specs.Prelude.{◌≡◌, ◌≢◌, ◌<◌, ◌≤◌, ◌^◌, ◌↔◌, ◌++◌, ℕ, List, length};
+ghost use Rattle.std.specs.Prelude.{slice_index, Some, IfOk, IfSome, IsTrue};
 ghost use Rattle.hex.specs.Hex.{IsBytes};
 ghost use Rattle.job_core.specs.Sound.{IsName};
 ghost use Rattle.job_core.specs.declared.reply.Reply.{Reply as ReplyValue};
 ghost use Rattle.serde_json.specs.View.{view};
-ghost use Rattle.wire.specs.ReplyReading.{HasNoBrace, accepted_in, bytes_at, command_in, count_at, ended_in, import_in, made_in, next_in, noted_in, opened_in, refused_in, reply_in};
+ghost use Rattle.wire.specs.ReplyReading.{HasNoBrace, accepted_in, bytes_at, command_in, count_at};
+ghost use Rattle.wire.specs.ReplyReading.{ended_in, import_in, made_in, next_in, noted_in};
+ghost use Rattle.wire.specs.ReplyReading.{opened_in, refused_in, reply_in};
 ghost use Rattle.wire.specs.ReplyText.{IsReply, reply_bytes};
 ghost use Rattle.asks.specs.Members.{name_at, number_at, text_at};
 
@@ -21,8 +24,10 @@ use store_data::{Bytes, Name};
 /// The reply to a request that these bytes are, status line to body, or `None` where they are no such reply. It fails only where
 /// memory is refused.
 pub fn parse_reply(alloc: Global, bytes: &[u8]) -> Result<Option<Reply>, AllocError>
-    ensures is { IfOk result (λ found. IfSome found (λ r. IsReply r × (bytes.now ≡ reply_bytes r))) }
-    ensures found { (r : ReplyValue) → IsReply r → bytes.now ≡ reply_bytes r → IfOk result (λ found. found ≡ Some r) }
+    ensures is { IfOk result
+        (λ found. IfSome found (λ r. IsReply r × (bytes.now ≡ reply_bytes r))) }
+    ensures found { (r : ReplyValue) → IsReply r → bytes.now ≡ reply_bytes r
+        → IfOk result (λ found. found ≡ Some r) }
 {
     let Some(value) = value_in(alloc, body_in(bytes))? else {
         return Ok(None);
@@ -40,7 +45,8 @@ pub fn parse_reply(alloc: Global, bytes: &[u8]) -> Result<Option<Reply>, AllocEr
 // From the first brace on: a head has none, and a body begins with one.
 fn body_in(bytes: &[u8]) -> &[u8]
     ensures few { length bytes.now < 2 ^ 64 }
-    ensures body { (head body : List ℕ) → bytes.now ≡ head ++ body → HasNoBrace head → slice_index body 0 ≡ 123 → result.now ≡ body }
+    ensures body { (head body : List ℕ) → bytes.now ≡ head ++ body → HasNoBrace head
+        → slice_index body 0 ≡ 123 → result.now ≡ body }
 {
     &bytes[first_brace(bytes)..]
 }

@@ -2,7 +2,8 @@
 ghost use Rattle.std.specs.Prelude.{◌≡◌, ◌≤◌, ◌<◌, ◌^◌, IfOk, OnOk, string_bytes};
 ghost use Rattle.serde_json.specs.View.{view};
 ghost use Rattle.job_core.specs.Sound.{IsName};
-ghost use Rattle.wire.specs.Sending.{AreNames, Arrives, IsSendable, record_request, sending_of, value_of, word_text};
+ghost use Rattle.wire.specs.Sending.{AreNames, Arrives, IsSendable, record_request, sending_of};
+ghost use Rattle.wire.specs.Sending.{value_of, word_text};
 
 use asks::{import_text, job_text};
 use job_core::{Lot, Request};

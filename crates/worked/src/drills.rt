@@ -1,6 +1,6 @@
 //! Scripts of drills, and what is printed.
-use crate::ways::check_bytes;
-use case_files::{Case, CaseFault, Line};
+use case_exchanges::Scripted;
+use case_files::{Case, CaseFault, Line, check_bytes};
 use drill::{DrillStop, drill_engine};
 use std::alloc::{AllocError, Global};
 
@@ -32,6 +32,17 @@ pub fn check_script(alloc: Global, case: &Case) -> Result<(), CaseFault> {
         wanted.as_bytes(),
         printed.as_slice(),
     )
+}
+
+/// A drill prints the status and the body of each reply.
+pub fn check_scripted(alloc: Global, scripted: &Scripted) -> Result<(), CaseFault> {
+    let mut input = scripted.script.as_bytes();
+    let mut printed = Vec::new(alloc);
+    if drill_engine(alloc, &mut input, &mut printed).is_err() {
+        return Err(CaseFault::Memory);
+    }
+    let (wanted, came) = (scripted.printed.as_slice(), printed.as_slice());
+    check_bytes(alloc, scripted.line, "drill", wanted, came)
 }
 
 fn put_line(text: &mut String, line: &Line) -> Result<(), AllocError> {

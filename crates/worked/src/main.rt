@@ -2,25 +2,15 @@
 #![tactic(auto)]
 
 mod drills;
-mod exchanges;
-mod machine;
-mod messages;
-mod plans;
-mod tables;
-mod typed;
-mod walks;
-mod ways;
 
+use case_exchanges::{check_exchanges, check_machine, check_messages};
 use case_files::{Case, CaseFault, Repeats, cases};
-use drills::check_script;
-use exchanges::check_exchanges;
+use case_plans::{Table, check_plan, check_table};
+use drills::{check_script, check_scripted};
 use list_store::ListStore;
-use messages::check_messages;
-use plans::check_plan;
 use std::alloc::Global;
 use std::process::ExitCode;
 use std::{env, fs, io};
-use tables::{Table, check_table};
 
 const USAGE: &str =
     "usage: worked FILE.. (.plan, .exchange, .message, .drill, .grouping, .record, .word)";
@@ -110,8 +100,14 @@ fn run_cases(rt: &HostRuntime, name: &str, kind: Kind, cases: Vec<Case>) -> io::
 
 fn run_case(alloc: Global, kind: Kind, case: Case) -> Result<(), CaseFault> {
     match kind {
-        Kind::Plan => check_plan::<ListStore>(alloc, &case),
-        Kind::Exchange => check_exchanges::<ListStore>(alloc, case),
+        Kind::Plan => match check_plan(alloc, &case)? {
+            Some(printed) => check_machine::<ListStore>(alloc, &printed),
+            None => Ok(()),
+        },
+        Kind::Exchange => match check_exchanges::<ListStore>(alloc, case)? {
+            Some(scripted) => check_scripted(alloc, &scripted),
+            None => Ok(()),
+        },
         Kind::Message => check_messages::<ListStore>(alloc, &case),
         Kind::Drill => check_script(alloc, &case),
         Kind::Table(table) => check_table(alloc, table, &case),

@@ -1,5 +1,6 @@
 //! The decisions on sessions.
-ghost use Rattle.std.specs.Prelude.{◌≡◌, ◌<◌, ◌+◌, ℕ, Some, IfSome, length, option_map, unwrap_or, [], IfOk, OnOk};
+ghost use Rattle.std.specs.Prelude.{◌≡◌, ◌<◌, ◌+◌, ℕ, Some, IfSome, length, option_map, unwrap_or};
+ghost use Rattle.std.specs.Prelude.{[], IfOk, OnOk};
 ghost use Rattle.store_data.specs.Cursor.{IsCursor, cursor_at, segment_at};
 ghost use Rattle.store_data.specs.Sequence.{IsPlan, Plan, commands_of, sequence};
 ghost use Rattle.job_core.specs.Facts.{Facts, Session};
@@ -7,7 +8,8 @@ ghost use Rattle.job_core.specs.Handing.{Hands, IsRunning, MayOpen, OpensOrTells
 ghost use Rattle.job_core.specs.Rows.{batch_row_of, segment_row, session_row, session_row_of};
 ghost use Rattle.store_data.specs.declared.cursor.Cursor.{Cursor as CursorValue};
 ghost use Rattle.job_core.specs.Sound.{Decides, IsSound, Makes};
-ghost use Rattle.job_core.specs.States.{first_waiting, is_charged, lot_of, plan_for, running_session, session_cursor};
+ghost use Rattle.job_core.specs.States.{first_waiting, is_charged, lot_of, plan_for};
+ghost use Rattle.job_core.specs.States.{running_session, session_cursor};
 ghost use Rattle.job_core.specs.Steps.{opened, take_word};
 ghost use Rattle.job_core.specs.Store.{HasCause, Reads, Stays};
 ghost use Rattle.job_core.specs.declared.change.Change.TheVariants.{AddsWord};
@@ -296,7 +298,8 @@ fn after_word(cursor: &Cursor, segment: Option<SegmentRow>, sw: u16) -> Option<C
     requires { IsCursor cursor.now }
     ensures { (plan : Plan) (k : ℕ) → IsPlan plan → cursor_at plan k ≡ Some cursor.now
         → k < length (commands_of plan)
-        → segment ≡ option_map (segment_row plan) (segment_at plan cursor.now.app cursor.now.segment)
+        → segment ≡ option_map (segment_row plan)
+        (segment_at plan cursor.now.app cursor.now.segment)
         → Went plan k sw result }
 {
     let segment = segment?;

@@ -1,5 +1,5 @@
 use Rattle.std.proofs.Common.{rules, ◌≡◌, ◌<◌, ◌≤◌, ◌^◌, ◌∙◌, ℕ, List, length, subst, arith}
-use Rattle.heads.specs.Heads.{most_body}
+use Rattle.text_io.specs.Inputs.{most_input}
 use Rattle.heads.specs.RequestHeads.{IsHeardBefore, IsTarget, request_head}
 use Rattle.asks.specs.Posts.{post_with, target_with}
 use Rattle.asks.proofs.PostLemmas.{post_is_heard}
@@ -14,5 +14,5 @@ returns-clause-heard c = λ fits.
     let target : c.deref.result.now ≡ target_with client number tail = c.deref.ensures.value ∙ c.in_ok-target.ensures.target in
     let small : number < 2 ^ 64 = omega (arith, c.ranges.number.fits) in
     let text : c.from_vec.result ≡ post_with client number tail body = search rules in
-    let heard = subst (λ (t : List ℕ). IsTarget t → length body ≤ most_body → length (request_head t (length body)) ≤ 8192 → IsHeardBefore t (length body)) target c.push_request_head.ensures.heard in
+    let heard = subst (λ (t : List ℕ). IsTarget t → length body ≤ most_input → length (request_head t (length body)) ≤ 8192 → IsHeardBefore t (length body)) target c.push_request_head.ensures.heard in
     post_is_heard client number tail body c.from_vec.result c.in_ok-target.ensures.name small c.requires.seen c.requires.short heard text fits

@@ -1,7 +1,7 @@
 use Rattle.std.proofs.Common.{◌∙◌, ◌+◌, ◌*◌, ap}
 use Rattle.std.specs.Prelude.{min}
 use Rattle.std.specs.Char.{is_ascii_digit}
-use Rattle.heads.specs.Heads.{most_body}
+use Rattle.text_io.specs.Inputs.{most_input}
 use Rattle.heads.proofs.HeadLemmas.{all_at, one_digit_more}
 use Rattle.heads.proofs.head.capped.Goals as goal
 
@@ -10,5 +10,5 @@ loop-digit-preserved c =
     let digits = c.args.digits.now in
     let i = c.loop-digit.digit-index in
     let digit = all_at is_ascii_digit digits i c.requires c.loop-digit-test.true in
-    c.min-number.ensures ∙ ap (λ d. min (c.loop-digit.number * 10 + d) (most_body + 1)) c.from.ensures
+    c.min-number.ensures ∙ ap (λ d. min (c.loop-digit.number * 10 + d) (most_input + 1)) c.from.ensures
     ∙ one_digit_more digits i c.loop-digit.number c.loop-digit-test.true digit c.loop-digit.invariant

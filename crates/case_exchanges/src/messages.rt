@@ -1,10 +1,9 @@
 //! Messages as bytes, and the bytes that answer them.
 use crate::exchanges::exchange;
 use crate::ways::{
-    Exchange, Fresh, ONE_BY_ONE, WHOLE, Way, check_bytes, check_wanted, check_way, connected,
-    inputs, served,
+    Exchange, Fresh, ONE_BY_ONE, WHOLE, Way, check_wanted, check_way, connected, inputs, served,
 };
-use case_files::{Case, CaseFault, Line, Wanted, put_bytes};
+use case_files::{Case, CaseFault, Line, Wanted, check_bytes, put_bytes};
 use job_core::JobStore;
 use server::Replied;
 use std::alloc::{AllocError, Global};

@@ -2,11 +2,9 @@
 ghost use Rattle.std.specs.Prelude.{All, IfOk, IfSome};
 ghost use Rattle.store_data.specs.Sequence.{AreRows, IsProduct};
 
-use crate::machine::handed_out;
 use crate::walks::text_of;
-use crate::ways::{Fresh, check_bytes};
 use batch_import::{ImportFault, RowFault, check_batch, read_batch, rows};
-use case_files::{Case, CaseFault, Line, put_bytes};
+use case_files::{Case, CaseFault, Line, check_bytes, put_bytes};
 use plan_print::{PlanStop, plan_engine};
 use std::alloc::{AllocError, Global};
 use store_data::{Name, Product, Row, grouped};
@@ -19,8 +17,22 @@ const MOST_FILE: usize = 16_384;
 /// More than the rows of any batch (this project's profile).
 const PAST_ROWS: u32 = 5000;
 
-/// Runs a case on every way.
-pub fn check_plan<S: Fresh + Drop>(alloc: Global, case: &Case) -> Result<(), CaseFault> {
+/// A batch whose commands were printed, few enough for a machine to be handed them too.
+#[derive(Drop)]
+pub struct Printed {
+    /// The line of the file that asks.
+    pub line: u64,
+    pub product: Product,
+    /// The batch file.
+    pub raw: Vec<u8>,
+    /// How many records it has.
+    pub records: usize,
+    /// A line for each record's name and for each of its commands.
+    pub text: String,
+}
+
+/// Runs a case on every way that needs no store. Gives what a machine is to be handed, if it has commands.
+pub fn check_plan(alloc: Global, case: &Case) -> Result<Option<Printed>, CaseFault> {
     let form = CaseFault::Form { line: case.number };
     let Some((head, lines)) = case.lines.split_first() else {
         return Err(form);
@@ -31,18 +43,23 @@ pub fn check_plan<S: Fresh + Drop>(alloc: Global, case: &Case) -> Result<(), Cas
     let Some(raw) = file_of(alloc, is_bytes, lines)? else {
         return Err(form);
     };
-    let raw = raw.as_slice();
-    let printed = printed(alloc, &product, raw)?;
-    check_printed::<S>(
-        alloc,
-        &Batch {
-            line: head.number,
+    let text = plan_text(alloc, &product, raw.as_slice())?;
+    let line = head.number;
+    let batch = Batch {
+        line,
+        product,
+        raw: raw.as_slice(),
+    };
+    match check_printed(alloc, &batch, lines, text.as_str())? {
+        Some(records) => Ok(Some(Printed {
+            line,
             product,
             raw,
-        },
-        lines,
-        printed.as_str(),
-    )
+            records,
+            text,
+        })),
+        None => Ok(None),
+    }
 }
 
 // A case's batch file, the product of its options, and its line.
@@ -53,26 +70,27 @@ struct Batch<'a> {
     raw: &'a [u8],
 }
 
-// Every way gives what was printed, which is what must come out.
-fn check_printed<S: Fresh + Drop>(
+// Every way gives what was printed, which is what must come out. Gives the number of records that a machine is to make.
+fn check_printed(
     alloc: Global,
     batch: &Batch<'_>,
     lines: &[Line],
     printed: &str,
-) -> Result<(), CaseFault>
+) -> Result<Option<usize>, CaseFault>
     requires { IsProduct batch.now.product }
 {
     let totals = totals(alloc, &batch.product, batch.raw)?;
     let totals = totals.as_str();
     check_answers(alloc, batch.line, lines, printed, totals)?;
     if printed.starts_with("refused 413") {
-        return Ok(());
+        return Ok(None);
     }
     check_rows(alloc, batch, totals)?;
     if printed.starts_with("refused ") {
-        return check_text(alloc, batch.line, "check_batch", printed, totals);
+        check_text(alloc, batch.line, "check_batch", printed, totals)?;
+        return Ok(None);
     }
-    check_commands::<S>(alloc, batch, printed)
+    check_commands(alloc, batch, printed)
 }
 
 // Two texts are one.
@@ -158,7 +176,7 @@ fn file_of(alloc: Global, is_bytes: bool, lines: &[Line]) -> Result<Option<Vec<u
 }
 
 // What `persod plan` prints, or how it tells its refusal.
-fn printed(alloc: Global, product: &Product, raw: &[u8]) -> Result<String, CaseFault>
+fn plan_text(alloc: Global, product: &Product, raw: &[u8]) -> Result<String, CaseFault>
     requires { IsProduct product.now }
 {
     let mut input = raw;
@@ -287,20 +305,19 @@ fn records(alloc: Global, product: &Product, raw: &[u8]) -> Result<Vec<Vec<Row>>
     }
 }
 
-// The list and the cursor give the commands that were printed, and so does a machine.
-fn check_commands<S: Fresh + Drop>(
+// The list and the cursor give the commands that were printed. Gives the number of records where these are few.
+fn check_commands(
     alloc: Global,
     batch: &Batch<'_>,
     printed: &str,
-) -> Result<(), CaseFault>
+) -> Result<Option<usize>, CaseFault>
     requires { IsProduct batch.now.product }
 {
     let records = records(alloc, &batch.product, batch.raw)?;
     let text = text_of(alloc, &batch.product, records.as_slice())?;
     check_text(alloc, batch.line, "list and cursor", printed, text.as_str())?;
     if batch.raw.len() > MOST_FILE || printed.lines().count() > MOST_COMMANDS {
-        return Ok(());
+        return Ok(None);
     }
-    let handed = handed_out::<S>(alloc, &batch.product, batch.raw, records.len())?;
-    check_text(alloc, batch.line, "a machine", printed, handed.as_str())
+    Ok(Some(records.len()))
 }

@@ -1,5 +1,5 @@
 use Rattle.plan_print.proofs.PrintLemmas.{rows_of_records}
-use Rattle.worked.proofs.plans.records.Goals as goal
+use Rattle.case_plans.proofs.plans.records.Goals as goal
 
 pub returns-in_ok-grouped-in-Ok : goal.returns-in_ok-grouped-in-Ok
 returns-in_ok-grouped-in-Ok c =

@@ -1,5 +1,5 @@
 //! Connections in memory, and what comes out of them.
-use case_files::{CaseFault, Wanted};
+use case_files::{CaseFault, Wanted, check_bytes};
 use job_core::JobStore;
 use list_store::ListStore;
 use server::{End, MemoryConnections, Replied, serve_all};
@@ -162,23 +162,4 @@ pub fn check_same(
         }
     }
     Ok(())
-}
-
-/// Two byte strings are one.
-pub fn check_bytes(
-    alloc: Global,
-    line: u64,
-    way: &'static str,
-    wanted: &[u8],
-    came: &[u8],
-) -> Result<(), CaseFault> {
-    if wanted == came {
-        return Ok(());
-    }
-    Err(CaseFault::Differs {
-        line,
-        way,
-        wanted: String::from_utf8_lossy(alloc, wanted)?,
-        came: String::from_utf8_lossy(alloc, came)?,
-    })
 }

@@ -4,20 +4,18 @@ ghost use Rattle.job_core.specs.Requests.{IsArrival, IsRequest};
 ghost use Rattle.wire.specs.Asks.{IsInRange};
 ghost use Rattle.wire.specs.Sending.{IsSendable};
 
-use crate::ways::{Exchange, Fresh, check_bytes};
-use case_files::{CaseFault, JSON, TEXT, reply_bytes};
+use crate::ways::{Exchange, Fresh};
+use case_files::{CaseFault, JSON, TEXT, check_bytes, reply_bytes};
 use job_core::{Arrival, JobStore, Refusal, Reply, Request};
 use reply_store::{Kept, body_of, handle, run, status_of};
 use reports::{AccountFault, batch_counts, blank_counts, close_report};
 use server::Replied;
 use std::alloc::Global;
 use store_data::{Bytes, Name};
+use text_io::MOST_INPUT;
 use wire::{
     AskFault, Asked, Pieces, Reading, Wanted, parse_reply, read_message, request_text, to_ask,
 };
-
-/// The most bytes of a body (this project's profile).
-const MOST_BODY: usize = 1_048_576;
 
 /// One more than the greatest serial or session (this project's profile).
 const PAST_NUMBERS: u64 = 1_000_000_000_000_000_000;
@@ -238,7 +236,7 @@ fn is_sendable(request: &Request) -> bool
     ensures { IsTrue result → IsSendable request.now }
 {
     match request {
-        Request::Import { raw, .. } => raw.as_slice().len() <= MOST_BODY,
+        Request::Import { raw, .. } => raw.as_slice().len() <= MOST_INPUT as usize,
         Request::Open { blank, .. } => *blank < PAST_NUMBERS,
         Request::Discard { blank } => *blank < PAST_NUMBERS,
         Request::Answer { session, index, sw } => {

@@ -1,11 +1,9 @@
 //! Asks and their replies.
 use crate::typed::{check_handled, check_parsed, check_run, written_anew};
 use crate::ways::{
-    Exchange, Fresh, ONE_BY_ONE, WHOLE, check_bytes, check_same, check_wanted, check_way,
-    connected, served,
+    Exchange, Fresh, ONE_BY_ONE, WHOLE, check_same, check_wanted, check_way, connected, served,
 };
 use case_files::{Case, CaseFault, Line, Repeats, cases, get, post, wanted_of};
-use drill::drill_engine;
 use server::Replied;
 use std::alloc::{AllocError, Global};
 use wire::reply_parts;
@@ -20,16 +18,33 @@ struct Asks {
     is_spelling: bool,
 }
 
-/// Runs a case on every way, each over a store of its own.
-pub fn check_exchanges<S: Fresh + Drop>(alloc: Global, case: Case) -> Result<(), CaseFault> {
+/// A script that asks of a drill what a case asks.
+#[derive(Drop)]
+pub struct Scripted {
+    /// The line of the file at which the case begins.
+    pub line: u64,
+    pub script: String,
+    /// The status and the body of each reply, a line for each.
+    pub printed: Vec<u8>,
+}
+
+/// Runs a case on every way, each over a store of its own. Gives what a drill is to print, if all asks are the office's.
+pub fn check_exchanges<S: Fresh + Drop>(
+    alloc: Global,
+    case: Case,
+) -> Result<Option<Scripted>, CaseFault> {
     let number = case.number;
     let lines = with_set_up(alloc, case)?;
     let asks = asks_of(alloc, lines.as_slice())?;
     let first = served::<S>(alloc, asks.exchanges.as_slice(), WHOLE)?;
     check_ways::<S>(alloc, &asks, first.replies())?;
     match script_of(alloc, lines.as_slice())? {
-        Some(script) => check_drill(alloc, number, script.as_str(), first.replies()),
-        None => Ok(()),
+        Some(script) => Ok(Some(Scripted {
+            line: number,
+            script,
+            printed: printed(alloc, first.replies())?,
+        })),
+        None => Ok(None),
     }
 }
 
@@ -62,18 +77,13 @@ fn check_anew<S: Fresh + Drop>(
     check_same(alloc, exchanges, "request_text", first, anew.replies())
 }
 
-// A drill prints the status and the body of each reply.
-fn check_drill(alloc: Global, line: u64, script: &str, first: &[Replied]) -> Result<(), CaseFault> {
-    let mut wanted = Vec::new(alloc);
-    for replied in first {
-        put_reply(&mut wanted, replied.written.as_slice())?;
+// The status and the body of each reply.
+fn printed(alloc: Global, replies: &[Replied]) -> Result<Vec<u8>, AllocError> {
+    let mut text = Vec::new(alloc);
+    for replied in replies {
+        put_reply(&mut text, replied.written.as_slice())?;
     }
-    let mut input = script.as_bytes();
-    let mut printed = Vec::new(alloc);
-    if drill_engine(alloc, &mut input, &mut printed).is_err() {
-        return Err(CaseFault::Memory);
-    }
-    check_bytes(alloc, line, "drill", wanted.as_slice(), printed.as_slice())
+    Ok(text)
 }
 
 fn put_reply(text: &mut Vec<u8>, reply: &[u8]) -> Result<(), AllocError> {

@@ -2,7 +2,7 @@ use Rattle.std.proofs.Common.{All, IfSome, subst, sym}
 use Rattle.std.proofs.lemmas.List.Elements.{All-push}
 use Rattle.job_core.specs.Requests.{IsArrival}
 use Rattle.wire.specs.Asks.{IsInRange}
-use Rattle.worked.proofs.typed.arrivals.Goals as goal
+use Rattle.case_exchanges.proofs.typed.arrivals.Goals as goal
 
 pub loop-exchange-preserved : goal.loop-exchange-preserved
 loop-exchange-preserved c =

@@ -2,9 +2,8 @@
 ghost use Rattle.std.specs.Prelude.{◌≤◌, length};
 ghost use Rattle.store_data.specs.Sequence.{IsProduct};
 
-use crate::ways::check_bytes;
 use batch_import::{ImportFault, Kind, RowFault, check_batch};
-use case_files::{Case, CaseFault, Line};
+use case_files::{Case, CaseFault, Line, check_bytes};
 use dgi::{
     DgiFault, Grouping, MAX_BODY, coded_len, from_hex_text, read_one, read_whole, write_coded,
 };

@@ -1,21 +1,24 @@
 //! A machine that makes every card of a batch.
 use crate::typed::reply_to;
-use crate::walks::{put_command, put_name};
 use crate::ways::Fresh;
-use case_files::{CaseFault, post};
+use case_files::{CaseFault, check_bytes, post};
+use case_plans::{Printed, put_command, put_name};
 use job_core::{JobStore, Reply};
 use std::alloc::Global;
 use store_data::Product;
 
-/// The commands that a machine is handed for so many records of a batch, each answered 9000, as they are printed.
-pub fn handed_out<S: Fresh + Drop>(
-    alloc: Global,
-    product: &Product,
-    raw: &[u8],
-    records: usize,
-) -> Result<String, CaseFault> {
+/// A machine is handed the commands that were printed.
+pub fn check_machine<S: Fresh + Drop>(alloc: Global, printed: &Printed) -> Result<(), CaseFault> {
+    let handed = handed_out::<S>(alloc, printed)?;
+    let (wanted, came) = (printed.text.as_bytes(), handed.as_bytes());
+    check_bytes(alloc, printed.line, "a machine", wanted, came)
+}
+
+// The commands that a machine is handed for each record of a batch, each answered 9000, as they are printed.
+fn handed_out<S: Fresh + Drop>(alloc: Global, printed: &Printed) -> Result<String, CaseFault> {
+    let records = printed.records;
     let mut store = S::fresh(alloc)?;
-    stock(alloc, &mut store, product, raw, records)?;
+    stock(alloc, &mut store, printed)?;
     let mut text = String::new(alloc);
     let mut number = 1;
     for blank in 1..records.saturating_add(1) {
@@ -25,14 +28,14 @@ pub fn handed_out<S: Fresh + Drop>(
 }
 
 // Makes known the product, as many blanks as records, and the batch.
-fn stock<S: JobStore>(
-    alloc: Global,
-    store: &mut S,
-    product: &Product,
-    raw: &[u8],
-    records: usize,
-) -> Result<(), CaseFault> {
-    let (max, low, check) = (product.max, product.low, product.check);
+fn stock<S: JobStore>(alloc: Global, store: &mut S, printed: &Printed) -> Result<(), CaseFault> {
+    let Product {
+        max,
+        low,
+        check,
+        ..
+    } = printed.product;
+    let records = printed.records;
     let made = format!(in alloc;
         "{{\"do\":\"product\",\"product\":\"P1\",\"max\":{max},\"low\":{low},\"check\":{check}}}"
     )?;
@@ -41,7 +44,7 @@ fn stock<S: JobStore>(
         "{{\"do\":\"lot\",\"lot\":\"L1\",\"product\":\"P1\",\"first\":1,\"count\":{records}}}"
     )?;
     ask(alloc, store, "office", 2, lot)?;
-    let import = post(alloc, "/c/office/3/batch/B1/P1", raw)?;
+    let import = post(alloc, "/c/office/3/batch/B1/P1", printed.raw.as_slice())?;
     reply_to(alloc, store, import.as_slice())?;
     Ok(())
 }
