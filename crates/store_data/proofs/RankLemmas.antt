@@ -11,8 +11,10 @@ use Rattle.std.proofs.lemmas.List.{append-nil, append_assoc, length-append, get_
 use Rattle.std.proofs.lemmas.List.Elements.{All-nil, All-cons, All-head, All-tail, All-append, All-push, All-weaker, filter-append}
 use Rattle.std.proofs.lemmas.List.FromFn.{length-range_with_len}
 use Rattle.std.proofs.lemmas.List.Sorted.{All-permutation}
+use Rattle.store_data.specs.declared.row.Row.{Row}
 use Rattle.store_data.specs.Groups.{joined_at}
 use Rattle.store_data.specs.Ranks.{IsRank, ranks, group_of, of_rank, by_rank}
+use Rattle.store_data.specs.Sequence.{rows_of_rank, segment_of, segments_of}
 
 -- ---- lists joined end to end
 
@@ -260,3 +262,14 @@ module _ {X : Type 0} (rank : X → ℕ) where
   length-by_rank items =
       subst (λ (n : ℕ). length (flat_map (λ r. group_of (of_rank rank items r)) ranks) ≤ n) length-ranks
       (length-flat_map-le (λ r. group_of (of_rank rank items r)) (λ r. length-group_of (of_rank rank items r)) ranks)
+
+-- an application's segments are those of its rows by rank
+segment_of-group : (rows : List Row) → flat_map segment_of (group_of rows) ≡ segment_of rows
+segment_of-group [] = refl
+segment_of-group (row ∷ more) = append-nil (segment_of (row ∷ more))
+
+pub segments_of-by_rank : (rows : List Row) → flat_map segment_of (by_rank (λ (row : Row). row.rank) rows) ≡ segments_of rows
+unfolding by_rank segments_of
+segments_of-by_rank rows =
+    flat_map-flat_map segment_of (λ r. group_of (rows_of_rank rows r)) ranks
+    ∙ flat_map-same (λ r. flat_map segment_of (group_of (rows_of_rank rows r))) (λ r. segment_of (rows_of_rank rows r)) (λ r. segment_of-group (rows_of_rank rows r)) ranks
