@@ -1,9 +1,7 @@
-use Rattle.std.proofs.Common.{◌≡◌, Some, None, length, map, ap, sym, ◌∙◌, inr, arith, nat_lt, map-id}
-use Rattle.std.specs.Prelude.{if◌then◌else◌}
+use Rattle.std.proofs.Common.{length, ap, sym, ◌∙◌, arith, nat_lt, map-id}
 use Rattle.std.proofs.lemmas.Iterator.Adapters.{YieldsList-from_vec}
 use Rattle.std.proofs.lemmas.Iterator.Consumers.{YieldsList-turn, YieldsList-end}
-use Rattle.store_data.specs.Faults.{fault_among, identifier_twice}
-use Rattle.store_data.specs.declared.faults.PlanFault.TheVariants.{MarksDiffer, IdentifierTwice, TooManyBlocks}
+use Rattle.store_data.specs.Faults.{identifier_twice}
 use Rattle.store_data.proofs.FaultLemmas.{ranks_few, ranks_short, marks_are, blocks_are, any_push, fault_found}
 use Rattle.store_data.proofs.faults.first_fault.Goals as goal
 

@@ -1,4 +1,4 @@
-use Rattle.std.proofs.Common.{map, length, ap, sym, ◌∙◌, subst, arith}
+use Rattle.std.proofs.Common.{length, ap, sym, ◌∙◌, subst, arith}
 use Rattle.std.specs.Prelude.{All}
 use Rattle.std.proofs.lemmas.Iterator.Adapters.{YieldsList-from_vec}
 use Rattle.std.proofs.lemmas.Iterator.Consumers.{YieldsList-turn}
