@@ -6,6 +6,7 @@ use Rattle.std.proofs.lemmas.Bool.{cases_Bool, false≢true}
 use Rattle.std.proofs.lemmas.List.Elements.{All-nil, All-cons, All-head, All-tail}
 use Rattle.std.proofs.lemmas.Option.{none-some}
 use Rattle.store_data.specs.Groups.{first_appearances, grouped, with_the_key}
+use Rattle.store_data.specs.Faults.{first_of, summaries_fault}
 use Rattle.store_data.specs.RecordFaults.{record_fault}
 use Rattle.store_data.specs.declared.faults.PlanFault.{PlanFault}
 use Rattle.store_data.specs.declared.faults.PlanFault.TheVariants.{IdentifierTwice, MarksDiffer, Memory, TooManyBlocks}
@@ -31,7 +32,7 @@ no_group_fault m (group ∷ more) none =
     All-cons (λ g. group_fault m g ≡ None) group more both.0 (no_group_fault m more both.1)
 
 -- a fault that tests find is none of memory
-fault_by_tests : (marks twice blocks : Bool) → cond marks (Some MarksDiffer) (cond twice (Some IdentifierTwice) (cond blocks (Some TooManyBlocks) None)) ≡ Some Memory → ⊥
+fault_by_tests : (marks twice blocks : Bool) → first_of marks twice blocks ≡ Some Memory → ⊥
 fault_by_tests true twice blocks e = cc
 fault_by_tests false true blocks e = cc
 fault_by_tests false false true e = cc
@@ -45,7 +46,7 @@ told-None n (Some IdentifierTwice) never none = absurd (cc)
 told-None n (Some TooManyBlocks) never none = absurd (cc)
 
 group_sound : (m n : ℕ) (rows : List Row) → told_at n (option_and_then kind_of_plan (record_fault m rows)) ≡ None → record_fault m rows ≡ None
-unfolding record_fault
+unfolding record_fault summaries_fault
 group_sound m n rows none = told-None n (record_fault m rows) (fault_by_tests _ _ _) none
 
 planned : (m : ℕ) (rows found : List Row) → planned_rows m rows ≡ Ok found → (found ≡ rows) × (first_record_fault m (records_of_rows rows) ≡ None)
@@ -107,7 +108,7 @@ record_there m rows r none among =
     subst (λ own. record_fault m own ≡ None) (numbered_rows 2 rows r) sound
 
 no_row_sound : (m : ℕ) → record_fault m [] ≡ None
-unfolding record_fault grouped
+unfolding record_fault summaries_fault grouped
 no_row_sound m = refl
 
 -- also where the name is that of no record

@@ -1,10 +1,10 @@
 pub mod ShortLemmas
 pub mod GroupLemmas
-pub mod PlanLemmas
-pub mod FaultLemmas
+pub mod RankLemmas
 pub mod PieceLemmas
+pub mod SummaryLemmas
+pub mod FaultLemmas
 pub mod CommandLemmas
 pub mod IsPlanLemmas
-pub mod SummaryLemmas
 pub mod WalkLemmas
 pub mod CursorLemmas
