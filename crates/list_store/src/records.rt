@@ -46,7 +46,7 @@ impl RecordRows {
 }
 
 // The rows of a batch file that is read under a product; one with a fault has none.
-#[tactic(auto, unfolding(store_data::specs::Groups::grouped, store_data::specs::RecordFaults::record_fault))]
+#[tactic(auto, unfolding(store_data::specs::Groups::grouped, store_data::specs::RecordFaults::record_fault, store_data::specs::Faults::summaries_fault))]
 fn rows_under(alloc: Global, product: &Product, raw: &[u8]) -> Result<Vec<Row>, StoreFault>
     requires { IsProduct product.now }
     ensures value { IfOk result (λ rows. rows.items ≡ rows_or_none (batch_of product.now raw.now)) }
