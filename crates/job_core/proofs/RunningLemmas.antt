@@ -10,6 +10,7 @@ use Rattle.store_data.specs.declared.status.Class.TheVariants as status
 use Rattle.store_data.specs.Sequence.{Command, Plan, commands_of, goes_on, sequence}
 use Rattle.store_data.proofs.CursorLemmas.{length-cursors_of}
 use Rattle.job_core.specs.declared.change.Change.TheVariants as change
+use Rattle.job_core.specs.declared.facts.RecordState.TheVariants as rec
 use Rattle.job_core.specs.declared.facts.SessionState.{SessionState}
 use Rattle.job_core.specs.declared.facts.SessionState.TheVariants as session
 use Rattle.job_core.specs.declared.reply.Reply.TheVariants as reply
@@ -17,12 +18,12 @@ use Rattle.job_core.specs.Facts.{Facts, Session, with_word, worded}
 use Rattle.job_core.specs.Handing.{Runs, Went}
 use Rattle.job_core.specs.Rows.{session_row, session_row_of}
 use Rattle.job_core.specs.Sound.{IsRecord, IsSession, IsSound, Makes}
-use Rattle.job_core.specs.States.{command_at, command_bytes, commands_for, commands_under, first_waiting, going, goes_at, is_tolerant, is_waiting, last_stops, last_stops_from, plan_for, record_state, records_named, session_cursor, session_numbered, session_state, state_with}
+use Rattle.job_core.specs.States.{command_at, command_bytes, commands_for, commands_under, first_waiting, going, goes_at, is_tolerant, is_waiting, last_stops, last_stops_from, plan_for, record_state, record_state_of, records_named, session_cursor, session_numbered, session_state, state_with}
 use Rattle.job_core.specs.Steps.{take_word}
 use Rattle.job_core.proofs.PlanLemmas.{plan_there}
 use Rattle.job_core.proofs.Lists.{All-there, found_among}
 use Rattle.job_core.proofs.SessionLemmas.{session_split}
-use Rattle.job_core.proofs.SoundSessions.{running_parts, sound_word, word_after}
+use Rattle.job_core.proofs.SoundSessions.{running_parts, sound_word, waiting_is, word_after}
 
 pub length_sequence : (plan : Plan) → length (sequence plan) ≡ length (commands_of plan)
 unfolding sequence
@@ -125,15 +126,15 @@ module _ (f : Facts) (s sw : ℕ) (x : Session) (plan : Plan) (sound : IsSound f
   row_after = ap (option_map (session_row g)) (word_after f s sw x is.there)
 
   makes : (told : reply.the_data) (stands : SessionState) (c : Cursor) → (take_word f s k sw x).1 ≡ told → session_state g y ≡ stands → session_cursor g y ≡ c
-      → Makes f (take_word f s k sw x) told (change.AddsWord s sw stands c)
+      → Makes f (take_word f s k sw x) told (change.AddsWord s k sw stands c)
   makes told stands c same is_state is_cursor = record {
     step_is = ap (λ r. (g, r)) same;
-    keeps = record { sound = sound_word f s sw x sound is.there is.runs small; after = (session_row g y, row_after, is_state, is_cursor) };
+    keeps = record { before = (x, is.there, is.runs, refl); sound = sound_word f s sw x sound is.there is.runs small; after = (session_row g y, row_after, is_state, is_cursor) };
   }
 
   -- a word that does not go
   pub spoiled_word : (c : Cursor) → goes_at (commands_of plan) k sw ≡ false → c ≡ session_cursor f x
-      → Makes f (take_word f s k sw x) (reply.Spoiled s) (change.AddsWord s sw session.Spoiled c)
+      → Makes f (take_word f s k sw x) (reply.Spoiled s) (change.AddsWord s k sw session.Spoiled c)
   spoiled_word c stops same =
       let stopped : last_stops (commands_of plan) y.words ≡ true = stops_after ∙ ap not stops in
       let back : going (commands_of plan) y.words ≡ k = cond-true (last_stops (commands_of plan) y.words) (length y.words - 1) (length y.words) stopped ∙ (omega (arith, more_words)) in
@@ -150,7 +151,7 @@ module _ (f : Facts) (s sw : ℕ) (x : Session) (plan : Plan) (sound : IsSound f
     on = cond-false (last_stops (commands_of plan) y.words) (length y.words - 1) (length y.words) went_on ∙ more_words
 
     -- the last word
-    pub good_word : None ≡ slice_get (sequence plan) (k + 1) → Makes f (take_word f s k sw x) (reply.Good s) (change.AddsWord s sw session.Good next)
+    pub good_word : None ≡ slice_get (sequence plan) (k + 1) → Makes f (take_word f s k sw x) (reply.Good s) (change.AddsWord s k sw session.Good next)
     good_word none =
         let all : k + 1 ≡ length (commands_of plan) = elim (cases_lt (k + 1) (length (commands_of plan))) [
           | inl more ↦ let item = item_there (sequence plan) (k + 1) (omega (arith, length_sequence plan)) in absurd (none-some item.0 (none ∙ item.1))
@@ -164,7 +165,7 @@ module _ (f : Facts) (s sw : ℕ) (x : Session) (plan : Plan) (sound : IsSound f
 
     -- a word before the last
     pub next_word : (command : List ℕ) → Some command ≡ slice_get (sequence plan) (k + 1)
-        → Makes f (take_word f s k sw x) (reply.Next command (k + 1) s) (change.AddsWord s sw session.Running next)
+        → Makes f (take_word f s k sw x) (reply.Next command (k + 1) s) (change.AddsWord s k sw session.Running next)
     next_word command more =
         let within : k + 1 < length (commands_of plan) = omega (arith, length_sequence plan, slice_get_within (sequence plan) (k + 1) command (sym more)) in
         let differ : eqb (k + 1) (length (commands_of plan)) ≡ false = ne_eqb (k + 1) (length (commands_of plan)) (λ e. omega (arith, within, e)) in
@@ -180,6 +181,13 @@ module _ (f : Facts) (s sw : ℕ) (x : Session) (plan : Plan) (sound : IsSound f
 pub waiting_there : (f : Facts) (b r : List ℕ) → first_waiting f b ≡ Some r → IsRecord f b r
 unfolding first_waiting
 waiting_there f b r e = (found_among (λ q. is_waiting (record_state f b q)) (records_named f b) r e).1
+
+-- and waits
+pub waiting_state : (f : Facts) (b r : List ℕ) → first_waiting f b ≡ Some r → record_state_of f b r ≡ Some rec.Waiting
+unfolding first_waiting record_state_of
+waiting_state f b r e =
+    let among = found_among (λ q. is_waiting (record_state f b q)) (records_named f b) r e in
+    rw (among.1) (ap (λ state. Some state) (waiting_is (record_state f b r) among.0))
 
 -- a cursor after a word that goes stands at the next command
 pub went_next : (plan : Plan) (n sw : ℕ) (next : Option Cursor) → Went plan n sw next → IfSome next (λ (c : Cursor). cursor_at plan (n + 1) ≡ Some c)

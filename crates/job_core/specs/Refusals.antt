@@ -1,7 +1,7 @@
 -- The numbers and names of the refusals by rule (this project's profile).
 use Rattle.std.specs.Prelude.{◌==◌, ℕ, List, [], ◌∷◌, find, codes, Option}
 use Rattle.job_core.specs.declared.refusal.Refusal.{Refusal}
-use Rattle.job_core.specs.declared.refusal.Refusal.TheVariants.{ProductDiffers, ProductUnknown, LotDiffers, SerialsOverlap, BatchDiffers, BatchUnknown, BatchClosed, BlankUnknown, BlankOfOtherProduct, BlankUsed, NothingWaiting, SessionUnknown, NotYours, SessionEnded, OutOfTurn, RecordUnknown, NotFailed, NotWithdrawable, NotFinished, Limit, NumberReused}
+use Rattle.job_core.specs.declared.refusal.Refusal.TheVariants.{ProductDiffers, ProductUnknown, LotDiffers, SerialsOverlap, BatchDiffers, BatchUnknown, BatchClosed, BlankUnknown, BlankOfOtherProduct, BlankUsed, NothingWaiting, SessionUnknown, NotYours, SessionEnded, OutOfTurn, RecordUnknown, NotFailed, NotWithdrawable, NotFinished, Limit, NumberReused, ReleaseTooFar}
 
 abbrev pub code_of : Refusal → ℕ
 code_of ProductDiffers = 51
@@ -25,11 +25,12 @@ code_of NotWithdrawable = 69
 code_of NotFinished = 70
 code_of Limit = 71
 code_of NumberReused = 72
+code_of ReleaseTooFar = 74
 
 -- all of them
 abbrev pub refusals : List Refusal
 refusals =
-    ProductDiffers ∷ ProductUnknown ∷ LotDiffers ∷ SerialsOverlap ∷ BatchDiffers ∷ BatchUnknown ∷ BatchClosed ∷ BlankUnknown ∷ BlankOfOtherProduct ∷ BlankUsed ∷ NothingWaiting ∷ SessionUnknown ∷ NotYours ∷ SessionEnded ∷ OutOfTurn ∷ RecordUnknown ∷ NotFailed ∷ NotWithdrawable ∷ NotFinished ∷ Limit ∷ NumberReused ∷ []
+    ProductDiffers ∷ ProductUnknown ∷ LotDiffers ∷ SerialsOverlap ∷ BatchDiffers ∷ BatchUnknown ∷ BatchClosed ∷ BlankUnknown ∷ BlankOfOtherProduct ∷ BlankUsed ∷ NothingWaiting ∷ SessionUnknown ∷ NotYours ∷ SessionEnded ∷ OutOfTurn ∷ RecordUnknown ∷ NotFailed ∷ NotWithdrawable ∷ NotFinished ∷ Limit ∷ NumberReused ∷ ReleaseTooFar ∷ []
 
 -- the one of a number
 unfoldable pub refusal_of : ℕ → Option Refusal
@@ -58,3 +59,4 @@ name_of NotWithdrawable = codes "not-withdrawable"
 name_of NotFinished = codes "not-finished"
 name_of Limit = codes "limit"
 name_of NumberReused = codes "number-reused"
+name_of ReleaseTooFar = codes "release-too-far"

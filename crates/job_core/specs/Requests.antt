@@ -3,6 +3,8 @@ use Rattle.std.specs.Prelude.{◌≤◌, ◌<◌, ◌+◌, ◌^◌, ⊤}
 use Rattle.store_data.specs.Sequence.{IsProduct}
 use Rattle.job_core.specs.declared.facts.Lot.{Lot}
 use Rattle.job_core.specs.declared.request.Arrival.{Arrival}
+use Rattle.job_core.specs.declared.request.Call.{Call}
+use Rattle.job_core.specs.declared.request.Call.TheVariants.{Job, Release}
 use Rattle.job_core.specs.declared.request.Request.{Request}
 use Rattle.job_core.specs.declared.request.Request.TheVariants as request
 
@@ -25,8 +27,12 @@ IsRequest (request.Remake b r) = ⊤
 IsRequest (request.Withdraw b r) = ⊤
 IsRequest (request.Close b) = ⊤
 
--- number and request in range
+abbrev pub IsCall : Call → Type 0
+IsCall (Job r) = IsRequest r
+IsCall (Release upto) = (1 ≤ upto) × (upto < 10 ^ 18)
+
+-- number and call in range
 pub record IsArrival (a : Arrival) : Type 0 where
   pub least : 1 ≤ a.number
   pub most : a.number < 10 ^ 18
-  pub request : IsRequest a.request
+  pub request : IsCall a.request

@@ -10,7 +10,7 @@ mod sessions;
 ghost use Rattle.std.specs.Prelude.{◌≡◌};
 ghost use Rattle.job_core.specs.Requests.{IsRequest};
 ghost use Rattle.job_core.specs.Sound.{Decides};
-ghost use Rattle.job_core.specs.Store.{HasCause, Reads, Stays};
+ghost use Rattle.job_core.specs.Store.{CountsFaults, Reads, Stays};
 ghost use Rattle.job_core.specs.declared.change.Change.TheVariants.{Nothing};
 ghost use Rattle.job_core.specs.declared.reply.Reply.TheVariants.{Refused};
 
@@ -39,7 +39,7 @@ pub fn decide<'a, S: JobStore>(
     ensures stays { Stays (S.state store.old) (S.state store.new) }
     ensures value { Reads (S.state store.old) (S.state store.new) result
         (λ c answer. Decides c.facts client.now request.now answer.0 answer.1) }
-    ensures cause { HasCause (S.state store.new) result }
+    ensures faults { CountsFaults (S.state store.old) (S.state store.new) result }
 {
     match request {
         Request::Product { product } => products::product(store, client, product),

@@ -16,8 +16,8 @@ pub use decision::decide;
 pub use facts::{Lot, RecordState, SessionState};
 pub use refusal::Refusal;
 pub use reply::{Made, Reply};
-pub use request::{Arrival, Request};
+pub use request::{Arrival, Call, Request};
 pub use rows::{
-    BatchRow, BatchTotals, BlankTotals, Counts, KeptReply, RecordLine, SegmentRow, SessionRow,
+    BatchRow, BatchSize, BatchTotals, BlankTotals, KeptReply, RecordLine, SegmentRow, SessionRow,
 };
 pub use store::{JobStore, StoreFault};

@@ -51,10 +51,13 @@ pub enum Refusal {
     Limit = 71,
     /// The request's number is kept with another ask.
     NumberReused = 72,
+    /// The release reaches its own number.
+    ReleaseTooFar = 74,
 }
 
 impl Refusal {
-    /// The refusal's number, 51 to 72 but 61, which tells a session.
+    /// The refusal's number, 51 to 74 but 61, which tells a session, and 73, which tells a
+    /// mark.
     pub fn code(self) -> u8
         ensures { result ≡ code_of self }
     {
@@ -90,6 +93,7 @@ impl Refusal {
             70 => Some(Refusal::NotFinished),
             71 => Some(Refusal::Limit),
             72 => Some(Refusal::NumberReused),
+            74 => Some(Refusal::ReleaseTooFar),
             _ => None,
         }
     }
@@ -120,6 +124,7 @@ impl Refusal {
             Refusal::NotFinished => "not-finished",
             Refusal::Limit => "limit",
             Refusal::NumberReused => "number-reused",
+            Refusal::ReleaseTooFar => "release-too-far",
         }
     }
 }

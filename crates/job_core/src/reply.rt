@@ -73,6 +73,15 @@ pub enum Reply {
     Busy {
         session: u64,
     },
+    /// The client's numbers up to this mark are released.
+    Released {
+        mark: u64,
+    },
+    /// The number is released, as all of its client's up to this mark (refusal 73,
+    /// number-released).
+    NumberReleased {
+        mark: u64,
+    },
     /// The batch file's first fault.
     Faulty {
         fault: RowFault,

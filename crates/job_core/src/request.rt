@@ -56,12 +56,22 @@ pub enum Request {
     },
 }
 
-/// A request under its client's number, with the bytes that asked for it.
+/// What a client calls for.
+#[derive(Drop)]
+pub enum Call {
+    /// A request of the plain machine.
+    Job { request: Request },
+    /// Gives up what is kept under the client's numbers up to this one, 1 to
+    /// 999,999,999,999,999,999.
+    Release { upto: u64 },
+}
+
+/// A call under its client's number, with the bytes that asked for it.
 #[derive(Drop)]
 pub struct Arrival {
     pub client: Name,
     /// 1 to 999,999,999,999,999,999.
     pub number: u64,
     pub ask: Bytes,
-    pub request: Request,
+    pub request: Call,
 }

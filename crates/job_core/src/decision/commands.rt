@@ -1,10 +1,12 @@
 //! Commands handed out from a record's segments.
-ghost use Rattle.std.specs.Prelude.{◌≡◌, ◌≤◌, ℕ, Some, IfOk, length, slice_get};
+ghost use Rattle.std.specs.Prelude.{◌≡◌, ◌≤◌, ℕ, List, Some, IfOk, IfSome, length, slice_get};
 ghost use Rattle.store_data.specs.Cursor.{cursor_at, segment_at, shown};
 ghost use Rattle.store_data.specs.Sequence.{IsPlan, Plan, sequence};
-ghost use Rattle.job_core.specs.Rows.{placed_of};
+ghost use Rattle.job_core.specs.Facts.{Facts};
+ghost use Rattle.job_core.specs.Rows.{placed_of, segment_row_of};
+ghost use Rattle.job_core.specs.declared.rows.SegmentRow.{SegmentRow as SegmentRowValue};
 ghost use Rattle.job_core.specs.States.{plan_for};
-ghost use Rattle.job_core.specs.Store.{HasCause, Reads, Stays};
+ghost use Rattle.job_core.specs.Store.{CountsFaults, Reads, Stays};
 
 use crate::rows::SegmentRow;
 use crate::store::{JobStore, StoreFault};
@@ -23,11 +25,27 @@ pub(crate) fn command<S: JobStore>(
     ensures value { Reads (S.state store.old) (S.state store.new) result
         (λ c answer. (plan : Plan) (k : ℕ) → plan_for c.facts batch.now rec.now ≡ Some plan
         → IsPlan plan → cursor_at plan k ≡ Some cursor.now → answer ≡ slice_get (sequence plan) k) }
-    ensures cause { HasCause (S.state store.new) result }
+    ensures faults { CountsFaults (S.state store.old) (S.state store.new) result }
 {
-    match store.segment(batch, rec, cursor.app, cursor.segment)? {
+    let segment = store.segment(batch, rec, cursor.app, cursor.segment)?;
+    Ok(command_from(alloc, &segment, cursor)?)
+}
+
+/// The command at a cursor, from the record's segment there; past the plan's end there is none.
+pub(crate) fn command_from(
+    alloc: Global,
+    segment: &Option<SegmentRow>,
+    cursor: &Cursor,
+) -> Result<Option<Bytes>, AllocError>
+    requires { IfSome segment.now (λ (row : SegmentRowValue). row.low ≤ 31) }
+    ensures { (f : Facts) (b r : List ℕ) (plan : Plan) (k : ℕ) → plan_for f b r ≡ Some plan
+        → IsPlan plan → cursor_at plan k ≡ Some cursor.now
+        → segment.now ≡ segment_row_of f b r cursor.now.app cursor.now.segment
+        → IfOk result (λ answer. answer ≡ slice_get (sequence plan) k) }
+{
+    match segment {
         None => Ok(None),
-        Some(segment) => Ok(command_in(alloc, &segment, cursor)?),
+        Some(segment) => Ok(command_in(alloc, segment, cursor)?),
     }
 }
 

@@ -5,10 +5,10 @@ ghost use Rattle.batch_import.specs.Batch.{batch_of};
 ghost use Rattle.job_core.specs.Facts.{Facts};
 ghost use Rattle.job_core.specs.Sound.{Decides, IsSound, Makes};
 ghost use Rattle.job_core.specs.Requests.{IsLotRange};
-ghost use Rattle.job_core.specs.Rows.{batch_has, batch_row_of};
+ghost use Rattle.job_core.specs.Rows.{batch_has, batch_row_of, batch_size_of};
 ghost use Rattle.job_core.specs.States.{any_overlaps, batch_named, lot_named, product_named};
 ghost use Rattle.job_core.specs.Steps.{new_batch, new_lot, same_lot, same_product, taken_in};
-ghost use Rattle.job_core.specs.Store.{HasCause, Reads, Stays};
+ghost use Rattle.job_core.specs.Store.{CountsFaults, Reads, Stays};
 ghost use Rattle.job_core.specs.declared.request.Request.TheVariants as request;
 ghost use Rattle.job_core.specs.declared.store.StoreFault.TheVariants.{Memory};
 
@@ -17,7 +17,7 @@ use crate::change::Change;
 use crate::facts::Lot;
 use crate::refusal::Refusal;
 use crate::reply::{Made, Reply};
-use crate::rows::BatchRow;
+use crate::rows::{BatchRow, BatchSize};
 use crate::store::{JobStore, StoreFault};
 use batch_import::{ImportFault, check_batch};
 use std::alloc::Global;
@@ -42,10 +42,10 @@ pub(crate) fn product<S: JobStore>(
     ensures stays { Stays (S.state store.old) (S.state store.new) }
     ensures value { Reads (S.state store.old) (S.state store.new) result
         (λ c answer. Decides c.facts client.now (request.Product product.now) answer.0 answer.1) }
-    ensures cause { HasCause (S.state store.new) result }
+    ensures faults { CountsFaults (S.state store.old) (S.state store.new) result }
 {
     let kept = store.product(&product.code)?;
-    let products = store.counts()?.products;
+    let products = store.product_count()?;
     Ok(product_by(client, product, kept, products))
 }
 
@@ -106,12 +106,12 @@ pub(crate) fn lot<S: JobStore>(
     ensures stays { Stays (S.state store.old) (S.state store.new) }
     ensures value { Reads (S.state store.old) (S.state store.new) result
         (λ c answer. Decides c.facts client.now (request.Lot lot.now) answer.0 answer.1) }
-    ensures cause { HasCause (S.state store.new) result }
+    ensures faults { CountsFaults (S.state store.old) (S.state store.new) result }
 {
     let kept = store.lot(&lot.name)?;
     let product = store.product(&lot.product)?;
     let overlaps = store.overlaps(lot.first, lot.count)?;
-    let lots = store.counts()?.lots;
+    let lots = store.lot_count()?;
     Ok(lot_by(client, lot, kept, product, overlaps, lots))
 }
 
@@ -176,52 +176,70 @@ pub(crate) fn import<'a, S: JobStore>(
     ensures value { Reads (S.state store.old) (S.state store.new) result
         (λ c answer. Decides c.facts client.now (request.Import batch.now product.now raw.now)
         answer.0 answer.1) }
-    ensures cause { HasCause (S.state store.new) result }
+    ensures faults { CountsFaults (S.state store.old) (S.state store.new) result }
 {
-    let kept = store.batch(batch)?;
-    let same = store.batch_has(batch, raw)?;
-    let under = store.product(product)?;
-    let batches = store.counts()?.batches;
-    import_by(
-        alloc, client, batch, product, raw, kept, same, under, batches,
-    )
+    match store.batch(batch)? {
+        None => {
+            let under = store.product(product)?;
+            let batches = store.batch_count()?;
+            import_new(alloc, client, batch, product, raw, under, batches)
+        }
+        Some(kept) => {
+            let same = store.batch_has(batch, raw)?;
+            let size = store.batch_size(batch)?;
+            Ok(import_known(client, batch, product, raw, kept, same, size))
+        }
+    }
 }
 
-// By the batch that is kept under its name, whether it has these bytes, the product, and how many
-// batches there are.
+// By the batch that is kept under its name, whether it has these bytes, and its size.
 #[tactic(auto, unfolding(crate::specs::Steps::step))]
-fn import_by<'a>(
+fn import_known(
+    client: &Name,
+    batch: &Name,
+    product: &Name,
+    raw: &[u8],
+    kept: BatchRow,
+    same: bool,
+    size: Option<BatchSize>,
+) -> Decision<'static>
+    ensures { (f : Facts) → IsSound f → batch_row_of f batch.now ≡ Some kept
+        → same ≡ batch_has f batch.now raw.now → size ≡ batch_size_of f batch.now
+        → Decides f client.now (request.Import batch.now product.now raw.now) result.0 result.1 }
+{
+    match size {
+        Some(size) if kept.product == *product && same => {
+            let reply = Reply::Import {
+                batch: *batch,
+                records: size.records,
+                made: Made::Known,
+                rows: size.rows,
+            };
+            (reply, Change::Nothing)
+        }
+        _ => refused(Refusal::BatchDiffers),
+    }
+}
+
+// By the product, and how many batches there are.
+#[tactic(auto, unfolding(crate::specs::Steps::step))]
+fn import_new<'a>(
     alloc: Global,
     client: &Name,
     batch: &Name,
     product: &Name,
     raw: &'a [u8],
-    kept: Option<BatchRow>,
-    same: bool,
     under: Option<Product>,
     batches: u64,
 ) -> Result<Decision<'a>, StoreFault>
     requires { IfSome under IsProduct }
-    ensures value { (f : Facts) → IsSound f → kept ≡ batch_row_of f batch.now
-        → same ≡ batch_has f batch.now raw.now
+    ensures value { (f : Facts) → IsSound f → batch_row_of f batch.now ≡ None
         → under ≡ product_named f.products product.now → batches ≡ length f.batches
         → IfOk result (λ answer. Decides f client.now (request.Import batch.now product.now raw.now)
         answer.0 answer.1) }
     ensures cause { IfErr result (λ fault. fault ≡ Memory) }
 {
-    let Some(kept) = kept else {
-        return new_batch(alloc, batch, product, raw, under, batches);
-    };
-    if kept.product != *product || !same {
-        return Ok(refused(Refusal::BatchDiffers));
-    }
-    let reply = Reply::Import {
-        batch: *batch,
-        records: kept.records,
-        made: Made::Known,
-        rows: kept.rows,
-    };
-    Ok((reply, Change::Nothing))
+    new_batch(alloc, batch, product, raw, under, batches)
 }
 
 // A batch under a new name.

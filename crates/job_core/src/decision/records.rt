@@ -5,7 +5,9 @@ ghost use Rattle.job_core.specs.Handing.{IsOpenBatch, IsOpenRecord};
 ghost use Rattle.job_core.specs.Rows.{batch_row_of};
 ghost use Rattle.job_core.specs.Sound.{Decides, IsSound};
 ghost use Rattle.job_core.specs.States.{is_batch_finished, is_charged, lot_of, record_state_of};
-ghost use Rattle.job_core.specs.Store.{HasCause, Reads, Stays};
+ghost use Rattle.job_core.specs.Store.{CountsFaults, Reads, Stays};
+ghost use Rattle.job_core.specs.declared.change.Change.TheVariants.{Discards, Withdraws};
+ghost use Rattle.job_core.specs.declared.reply.Reply.TheVariants.{Discarded, Withdrawn};
 ghost use Rattle.job_core.specs.declared.request.Request.TheVariants as request;
 
 use super::{Decision, refused};
@@ -26,7 +28,7 @@ pub(crate) fn discard<S: JobStore>(
     ensures stays { Stays (S.state store.old) (S.state store.new) }
     ensures value { Reads (S.state store.old) (S.state store.new) result
         (λ c answer. Decides c.facts client.now (request.Discard blank) answer.0 answer.1) }
-    ensures cause { HasCause (S.state store.new) result }
+    ensures faults { CountsFaults (S.state store.old) (S.state store.new) result }
 {
     let lot = store.lot_of(blank)?;
     let charged = store.is_charged(blank)?;
@@ -42,7 +44,7 @@ fn discard_by(client: &Name, blank: u64, lot: Option<Lot>, charged: bool) -> Dec
     match lot {
         None => refused(Refusal::BlankUnknown),
         Some(_) if charged => refused(Refusal::BlankUsed),
-        Some(_) => (Reply::Discarded { blank }, Change::Discards { blank }),
+        Some(lot) => discarded(blank, lot.name),
     }
 }
 
@@ -57,7 +59,7 @@ pub(crate) fn remake<S: JobStore>(
     ensures value { Reads (S.state store.old) (S.state store.new) result
         (λ c answer. Decides c.facts client.now (request.Remake batch.now rec.now)
         answer.0 answer.1) }
-    ensures cause { HasCause (S.state store.new) result }
+    ensures faults { CountsFaults (S.state store.old) (S.state store.new) result }
 {
     let row = store.batch(batch)?;
     let stands = store.record_state(batch, rec)?;
@@ -99,7 +101,7 @@ pub(crate) fn withdraw<S: JobStore>(
     ensures value { Reads (S.state store.old) (S.state store.new) result
         (λ c answer. Decides c.facts client.now (request.Withdraw batch.now rec.now)
         answer.0 answer.1) }
-    ensures cause { HasCause (S.state store.new) result }
+    ensures faults { CountsFaults (S.state store.old) (S.state store.new) result }
 {
     let row = store.batch(batch)?;
     let stands = store.record_state(batch, rec)?;
@@ -119,17 +121,28 @@ fn withdraw_by(
         → stands ≡ record_state_of f batch.now rec.now
         → Decides f client.now (request.Withdraw batch.now rec.now) result.0 result.1 }
 {
-    let (batch, rec) = (*batch, *rec);
-    let withdrawn = (
-        Reply::Withdrawn { batch, rec },
-        Change::Withdraws { batch, rec },
-    );
     match in_record(row, stands) {
         Err(refusal) => refused(refusal),
-        Ok(RecordState::Waiting) => withdrawn,
-        Ok(RecordState::Failed) => withdrawn,
+        Ok(RecordState::Waiting) => withdrawn(batch, rec, RecordState::Waiting),
+        Ok(RecordState::Failed) => withdrawn(batch, rec, RecordState::Failed),
         Ok(_) => refused(Refusal::NotWithdrawable),
     }
+}
+
+fn withdrawn(batch: &Name, rec: &Name, was: RecordState) -> Decision<'static>
+    ensures { result ≡ (Withdrawn batch.now rec.now, Withdraws batch.now rec.now was) }
+{
+    let (batch, rec) = (*batch, *rec);
+    (
+        Reply::Withdrawn { batch, rec },
+        Change::Withdraws { batch, rec, was },
+    )
+}
+
+fn discarded(blank: u64, lot: Name) -> Decision<'static>
+    ensures { result ≡ (Discarded blank, Discards blank lot) }
+{
+    (Reply::Discarded { blank }, Change::Discards { blank, lot })
 }
 
 // The state of a record of a batch that is not closed, or the refusal.
@@ -161,7 +174,7 @@ pub(crate) fn close<S: JobStore>(
     ensures stays { Stays (S.state store.old) (S.state store.new) }
     ensures value { Reads (S.state store.old) (S.state store.new) result
         (λ c answer. Decides c.facts client.now (request.Close batch.now) answer.0 answer.1) }
-    ensures cause { HasCause (S.state store.new) result }
+    ensures faults { CountsFaults (S.state store.old) (S.state store.new) result }
 {
     let row = store.batch(batch)?;
     let finished = store.is_finished(batch)?;

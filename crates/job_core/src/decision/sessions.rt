@@ -1,23 +1,25 @@
 //! The decisions on sessions.
-ghost use Rattle.std.specs.Prelude.{◌≡◌, ◌<◌, ◌+◌, ℕ, Some, IfSome, length, option_map, unwrap_or};
+ghost use Rattle.std.specs.Prelude.{◌≡◌, ◌≤◌, ◌<◌, ◌+◌, ℕ, Some, IfSome, length, option_map, unwrap_or};
 ghost use Rattle.std.specs.Prelude.{[], IfOk, OnOk};
 ghost use Rattle.store_data.specs.Cursor.{IsCursor, cursor_at, segment_at};
 ghost use Rattle.store_data.specs.Sequence.{IsPlan, Plan, commands_of, sequence};
 ghost use Rattle.job_core.specs.Facts.{Facts, Session};
 ghost use Rattle.job_core.specs.Handing.{Hands, IsRunning, MayOpen, OpensOrTells, Runs, Went};
-ghost use Rattle.job_core.specs.Rows.{batch_row_of, segment_row, session_row, session_row_of};
+ghost use Rattle.job_core.specs.Rows.{batch_row_of, segment_row, segment_row_of};
+ghost use Rattle.job_core.specs.Rows.{session_row, session_row_of};
 ghost use Rattle.store_data.specs.declared.cursor.Cursor.{Cursor as CursorValue};
 ghost use Rattle.job_core.specs.Sound.{Decides, IsSound, Makes};
 ghost use Rattle.job_core.specs.States.{first_waiting, is_charged, lot_of, plan_for};
 ghost use Rattle.job_core.specs.States.{running_session, session_cursor};
 ghost use Rattle.job_core.specs.Steps.{opened, take_word};
-ghost use Rattle.job_core.specs.Store.{HasCause, Reads, Stays};
+ghost use Rattle.job_core.specs.Store.{CountsFaults, Reads, Stays};
 ghost use Rattle.job_core.specs.declared.change.Change.TheVariants.{AddsWord};
 ghost use Rattle.job_core.specs.declared.request.Request.TheVariants as request;
+ghost use Rattle.job_core.specs.declared.rows.SegmentRow.{SegmentRow as SegmentRowValue};
 ghost use Rattle.job_core.specs.declared.rows.SessionRow.{SessionRow as SessionRowValue};
 ghost use Rattle.std.specs.List.{slice_get};
 
-use super::commands::{command, view};
+use super::commands::{command, command_from, view};
 use super::records::in_batch;
 use super::{Decision, refused};
 use crate::change::Change;
@@ -38,7 +40,7 @@ pub(crate) fn abort<S: JobStore>(
     ensures stays { Stays (S.state store.old) (S.state store.new) }
     ensures value { Reads (S.state store.old) (S.state store.new) result
         (λ c answer. Decides c.facts client.now (request.Abort session) answer.0 answer.1) }
-    ensures cause { HasCause (S.state store.new) result }
+    ensures faults { CountsFaults (S.state store.old) (S.state store.new) result }
 {
     let row = store.session(session)?;
     Ok(abort_by(client, session, row))
@@ -79,7 +81,7 @@ pub(crate) fn reset<S: JobStore>(
     ensures stays { Stays (S.state store.old) (S.state store.new) }
     ensures value { Reads (S.state store.old) (S.state store.new) result
         (λ c answer. Decides c.facts client.now request.Reset answer.0 answer.1) }
-    ensures cause { HasCause (S.state store.new) result }
+    ensures faults { CountsFaults (S.state store.old) (S.state store.new) result }
 {
     let session = store.running_session(client)?;
     Ok(reset_by(client, session))
@@ -109,22 +111,22 @@ pub(crate) fn open<S: JobStore>(
     ensures stays { Stays (S.state store.old) (S.state store.new) }
     ensures value { Reads (S.state store.old) (S.state store.new) result
         (λ c answer. Decides c.facts client.now (request.Open batch.now blank) answer.0 answer.1) }
-    ensures cause { HasCause (S.state store.new) result }
+    ensures faults { CountsFaults (S.state store.old) (S.state store.new) result }
 {
     let row = store.batch(batch)?;
     let busy = store.running_session(client)?;
     let lot = store.lot_of(blank)?;
     let charged = store.is_charged(blank)?;
     let waiting = store.first_waiting(batch)?;
-    let sessions = store.counts()?.sessions;
+    let sessions = store.session_count()?;
     match to_open(client, batch, blank, row, busy, lot, charged, waiting) {
         Err(reply) => Ok((reply, Change::Nothing)),
-        Ok(rec) => opening(alloc, store, client, batch, blank, rec, sessions + 1),
+        Ok(opens) => opening(alloc, store, client, batch, blank, opens, sessions + 1),
     }
 }
 
-// The record that is opened, or the reply in place of that: by the batch, the client's running
-// session, the blank's lot and charge, and the first waiting record.
+// The record that is opened and its blank's lot, or the reply in place of that: by the batch, the
+// client's running session, the blank's lot and charge, and the first waiting record.
 fn to_open(
     client: &Name,
     batch: &Name,
@@ -134,7 +136,7 @@ fn to_open(
     lot: Option<Lot>,
     charged: bool,
     waiting: Option<Name>,
-) -> Result<Name, Reply>
+) -> Result<(Name, Name), Reply>
     ensures { (f : Facts) → row ≡ batch_row_of f batch.now → busy ≡ running_session f client.now
         → lot ≡ lot_of f.lots blank
         → charged ≡ is_charged f blank → waiting ≡ first_waiting f batch.now
@@ -151,9 +153,9 @@ fn to_open(
         None => Refusal::BlankUnknown,
         Some(lot) if lot.product != product => Refusal::BlankOfOtherProduct,
         Some(_) if charged => Refusal::BlankUsed,
-        Some(_) => match waiting {
+        Some(lot) => match waiting {
             None => Refusal::NothingWaiting,
-            Some(rec) => return Ok(rec),
+            Some(rec) => return Ok((rec, lot.name)),
         },
     };
     Err(Reply::Refused { refusal })
@@ -166,18 +168,21 @@ fn opening<S: JobStore>(
     client: &Name,
     batch: &Name,
     blank: u64,
-    rec: Name,
+    opens: (Name, Name),
     session: u64,
 ) -> Result<Decision<'static>, StoreFault>
     ensures stays { Stays (S.state store.old) (S.state store.new) }
     ensures value { Reads (S.state store.old) (S.state store.new) result
-        (λ c answer. MayOpen c.facts client.now batch.now blank rec
+        (λ c answer. MayOpen c.facts client.now batch.now blank opens.0 opens.1
         → session ≡ length c.facts.sessions + 1
-        → Makes c.facts (opened c.facts client.now batch.now blank rec) answer.0 answer.1) }
-    ensures cause { HasCause (S.state store.new) result }
+        → Makes c.facts (opened c.facts client.now batch.now blank opens.0) answer.0 answer.1) }
+    ensures faults { CountsFaults (S.state store.old) (S.state store.new) result }
 {
+    let (rec, lot) = opens;
     let command = command(alloc, store, batch, &rec, &Cursor::start())?;
-    Ok(opened(alloc, client, batch, blank, rec, session, command))
+    Ok(opened(
+        alloc, client, batch, blank, rec, lot, session, command,
+    ))
 }
 
 // A record is opened, and its first command handed out.
@@ -187,10 +192,12 @@ fn opened(
     batch: &Name,
     blank: u64,
     rec: Name,
+    lot: Name,
     session: u64,
     command: Option<Bytes>,
 ) -> Decision<'static>
-    ensures { (f : Facts) (plan : Plan) → IsSound f → MayOpen f client.now batch.now blank rec
+    ensures { (f : Facts) (plan : Plan) → IsSound f
+        → MayOpen f client.now batch.now blank rec lot
         → session ≡ length f.sessions + 1
         → plan_for f batch.now rec ≡ Some plan → command ≡ slice_get (sequence plan) 0
         → Makes f (opened f client.now batch.now blank rec) result.0 result.1 }
@@ -210,6 +217,7 @@ fn opened(
         batch,
         rec,
         blank,
+        lot,
     };
     (reply, change)
 }
@@ -237,7 +245,7 @@ pub(crate) fn answer<S: JobStore>(
     ensures value { Reads (S.state store.old) (S.state store.new) result
         (λ c answer. Decides c.facts client.now (request.Answer session index sw)
         answer.0 answer.1) }
-    ensures cause { HasCause (S.state store.new) result }
+    ensures faults { CountsFaults (S.state store.old) (S.state store.new) result }
 {
     let row = match running(client, session, store.session(session)?) {
         Err(refusal) => return Ok(refused(refusal)),
@@ -264,46 +272,55 @@ fn taking_word<S: JobStore>(
         (λ c answer. (x : Session) (plan : Plan) → Runs c.facts session x plan
         → row.now ≡ session_row c.facts x → index ≡ length x.words
         → Makes c.facts (take_word c.facts session index sw x) answer.0 answer.1) }
-    ensures cause { HasCause (S.state store.new) result }
+    ensures faults { CountsFaults (S.state store.old) (S.state store.new) result }
 {
     let segment = store.segment(&row.batch, &row.rec, row.cursor.app, row.cursor.segment)?;
-    let next = after_word(&row.cursor, segment, sw);
-    let command = next_command(alloc, store, row, &next)?;
+    let next = after_word(&row.cursor, &segment, sw);
+    let command = next_command(alloc, store, row, &segment, &next)?;
     Ok(took_word(session, index, sw, row.cursor, next, command))
 }
 
-// The command at the next cursor, if there is one.
+// The command at the next cursor, if there is one. The segment of the last command is at hand.
 fn next_command<S: JobStore>(
     alloc: Global,
     store: &mut S,
     row: &SessionRow,
+    segment: &Option<SegmentRow>,
     next: &Option<Cursor>,
 ) -> Result<Option<Bytes>, StoreFault>
+    requires { IfSome segment.now (λ (x : SegmentRowValue). x.low ≤ 31) }
     ensures stays { Stays (S.state store.old) (S.state store.new) }
     ensures value { Reads (S.state store.old) (S.state store.new) result
         (λ c answer. (plan : Plan) (k : ℕ) → plan_for c.facts row.now.batch row.now.rec ≡ Some plan
         → IsPlan plan
+        → segment.now ≡ segment_row_of c.facts row.now.batch row.now.rec row.now.cursor.app
+        row.now.cursor.segment
         → IfSome next.now (λ (cursor : CursorValue). cursor_at plan (k + 1) ≡ Some cursor)
         → Hands plan k next.now answer) }
-    ensures cause { HasCause (S.state store.new) result }
+    ensures faults { CountsFaults (S.state store.old) (S.state store.new) result }
 {
     match next {
         None => Ok(None),
+        Some(next) if next.app == row.cursor.app && next.segment == row.cursor.segment => {
+            Ok(command_from(alloc, segment, next)?)
+        }
         Some(next) => command(alloc, store, &row.batch, &row.rec, next),
     }
 }
 
 // Where the card stands after this word for the command at the cursor, if it goes.
-fn after_word(cursor: &Cursor, segment: Option<SegmentRow>, sw: u16) -> Option<Cursor>
+fn after_word(cursor: &Cursor, segment: &Option<SegmentRow>, sw: u16) -> Option<Cursor>
     requires { IsCursor cursor.now }
     ensures { (plan : Plan) (k : ℕ) → IsPlan plan → cursor_at plan k ≡ Some cursor.now
         → k < length (commands_of plan)
-        → segment ≡ option_map (segment_row plan)
+        → segment.now ≡ option_map (segment_row plan)
         (segment_at plan cursor.now.app cursor.now.segment)
         → Went plan k sw result }
 {
-    let segment = segment?;
-    let view = view(&segment);
+    let Some(segment) = segment else {
+        return None;
+    };
+    let view = view(segment);
     let tolerated = segment.tol && cursor.at_end(&view, segment.max);
     match class(sw, tolerated) {
         Class::Stop => None,
@@ -331,39 +348,48 @@ fn took_word(
 {
     let Some(next) = next else {
         let stands = SessionState::Spoiled;
-        return word(session, sw, Reply::Spoiled { session }, stands, cursor);
+        return word(
+            session,
+            index,
+            sw,
+            Reply::Spoiled { session },
+            stands,
+            cursor,
+        );
     };
     match command {
         None => word(
             session,
+            index,
             sw,
             Reply::Good { session },
             SessionState::Good,
             next,
         ),
         Some(command) => {
-            let index = u64::from(index) + 1;
             let reply = Reply::Next {
                 command,
-                index,
+                index: u64::from(index) + 1,
                 session,
             };
-            word(session, sw, reply, SessionState::Running, next)
+            word(session, index, sw, reply, SessionState::Running, next)
         }
     }
 }
 
 fn word(
     session: u64,
+    index: u32,
     sw: u16,
     reply: Reply,
     stands: SessionState,
     cursor: Cursor,
 ) -> Decision<'static>
-    ensures { result ≡ (reply, AddsWord session sw stands cursor) }
+    ensures { result ≡ (reply, AddsWord session index sw stands cursor) }
 {
     let change = Change::AddsWord {
         session,
+        index,
         sw,
         stands,
         cursor,

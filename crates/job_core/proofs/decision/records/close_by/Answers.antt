@@ -10,5 +10,5 @@ returns-in-Ok c = λ f sound row finished.
     let done = sym finished ∙ c.if-finished.true in
     record {
       step_is = rw (kept.1, kept.3, done) refl;
-      keeps = record { sound = sound_close f c.args.batch.now kept.0 sound kept.3 kept.1 done; after = tt };
+      keeps = record { before = tt; sound = sound_close f c.args.batch.now kept.0 sound kept.3 kept.1 done; after = tt };
     }

@@ -8,4 +8,4 @@ returns-in-Ok-Failed c = λ f sound row stands.
     let b = c.args.batch.now in
     let r = c.args.rec.now in
     let is = (rw c.in-Ok-Failed.field-0-is at c.in-Ok-Failed.ensures) f b r row stands in
-    record { step_is = is.2 (remade f b r); keeps = record { sound = sound_remake f b r sound is.0 is.1; after = tt } }
+    record { step_is = is.2 (remade f b r); keeps = record { before = is.1; sound = sound_remake f b r sound is.0 is.1; after = tt } }

@@ -1,4 +1,4 @@
-use Rattle.std.proofs.Common.{sym, subst}
+use Rattle.std.proofs.Common.{refl, sym, subst}
 use Rattle.job_core.specs.Facts.{with_end}
 use Rattle.job_core.specs.Sound.{Makes}
 use Rattle.job_core.specs.Steps.{step}
@@ -12,11 +12,11 @@ unfolding step
 returns-in-Err c = λ f sound row.
     let s = c.args.session in
     subst (λ d. Makes f (step f c.args.client.now (request.Abort s)) d.0 d.1) (sym c.refused.ensures)
-    (record { step_is = c.in-Err.ensures.is f row (λ x. (with_end f s, reply.Spoiled s)); keeps = record { sound = sound; after = tt } })
+    (record { step_is = c.in-Err.ensures.is f row (λ x. (with_end f s, reply.Spoiled s)); keeps = record { before = tt; sound = sound; after = tt } })
 
 pub returns-in-Ok : goal.returns-in-Ok
 unfolding step
 returns-in-Ok c = λ f sound row.
     let s = c.args.session in
     let is = c.in-Ok.ensures.is f row in
-    record { step_is = is.4 (λ x. (with_end f s, reply.Spoiled s)); keeps = record { sound = sound_end f s is.0 sound is.1 is.2; after = tt } }
+    record { step_is = is.4 (λ x. (with_end f s, reply.Spoiled s)); keeps = record { before = (_, (is.0, is.1, is.2, refl)); sound = sound_end f s is.0 sound is.1 is.2; after = tt } }

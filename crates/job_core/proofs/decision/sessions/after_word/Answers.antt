@@ -11,24 +11,24 @@ use Rattle.job_core.proofs.RunningLemmas.{class_stops, goes_by, length_sequence}
 use Rattle.job_core.proofs.decision.sessions.after_word.Goals as goal
 use Rattle.job_core.proofs.decision.sessions.after_word.Goals.{else-segment, then-segment}
 
-pub returns-in_err-segment : goal.returns-in_err-segment
-returns-in_err-segment c = λ plan k is at before segment.
+pub returns-in_default : goal.returns-in_default
+returns-in_default c = λ plan k is at before segment.
     let within : k < length (sequence plan) = omega (arith, before, length_sequence plan) in
     let v = segment_before plan is k c.args.cursor.now at within in
-    absurd (none-some (segment_row plan v.0) (sym c.in_err-segment.was ∙ segment ∙ ap (option_map (segment_row plan)) v.1))
+    absurd (none-some (segment_row plan v.0) (sym c.in_default.is ∙ segment ∙ ap (option_map (segment_row plan)) v.1))
 
 pub returns-in-Stop : goal.returns-in-Stop
 returns-in-Stop c = λ plan k is at before segment.
-    let v = mapped (segment_row plan) _ c.in_ok-segment.segment (sym segment ∙ c.in_ok-segment.was) in
+    let v = mapped (segment_row plan) _ c.in-Some.segment (sym segment ∙ c.in-Some.is) in
     let told = tolerance_there plan is k c.args.cursor.now at v.0 v.1 in
     let by_class = class_stops (goes_on c.args.sw c.if-segment.tolerated) (sym c.class.ensures ∙ c.in-Stop.is) in
     let last : Bool = is_last_piece plan.max c.args.cursor.now v.0.segment.bytes in
     let bytes : v.0.segment.bytes ≡ c.view-view.result.bytes.now = ap (λ (r : SegmentRow). r.bytes) v.2 ∙ sym (ap (λ (p : PlacedSegment). p.segment.bytes) c.view-view.ensures.shown) in
-    let most : plan.max ≡ c.in_ok-segment.segment.max = ap (λ (r : SegmentRow). r.max) v.2 in
-    let marked : v.0.segment.tol ≡ c.in_ok-segment.segment.tol = ap (λ (r : SegmentRow). r.tol) v.2 in
+    let most : plan.max ≡ c.in-Some.segment.max = ap (λ (r : SegmentRow). r.max) v.2 in
+    let marked : v.0.segment.tol ≡ c.in-Some.segment.tol = ap (λ (r : SegmentRow). r.tol) v.2 in
     let tolerated : c.if-segment.tolerated ≡ (v.0.segment.tol && last) = elim c.if-segment.branch [
       | then-segment w ↦
-          w.tolerated-is ∙ w.at_end-tolerated.ensures.piece ∙ ap (is_last_piece c.in_ok-segment.segment.max c.args.cursor.now) (sym bytes)
+          w.tolerated-is ∙ w.at_end-tolerated.ensures.piece ∙ ap (is_last_piece c.in-Some.segment.max c.args.cursor.now) (sym bytes)
           ∙ ap (λ m. is_last_piece m c.args.cursor.now v.0.segment.bytes) (sym most) ∙ ap (λ t. t && last) (sym (marked ∙ w.if-segment.true))
       | else-segment w ↦ w.tolerated-is ∙ w.if-segment.false ∙ ap (λ t. t && last) (sym (marked ∙ w.if-segment.false))
     ] in

@@ -27,7 +27,7 @@ returns-then-row-from-clause-value g c = λ honest c' held.
     subst (λ (d : Reply × Change). Makes f (step f c.args.client.now (request.Answer s k sw)) d.0 d.1) (sym c.refused-then-row-from.ensures)
     (record {
       step_is = is.4 (λ x. if k == length x.words then take_word f s k sw x else refused f refusal.OutOfTurn) ∙ (rw (differ) refl);
-      keeps = record { sound = sound; after = tt };
+      keeps = record { before = tt; sound = sound; after = tt };
     })
 
 pub returns-clause-value : goal.returns-clause-value

@@ -2,7 +2,7 @@ use Rattle.std.proofs.Common.{◌≡◌, ◌+◌, length, ap, sym, ◌∙◌}
 use Rattle.job_core.specs.Facts.{new_session, with_session}
 use Rattle.job_core.specs.States.{command_at}
 use Rattle.job_core.specs.declared.reply.Reply.TheVariants as reply
-use Rattle.job_core.proofs.RunningLemmas.{command_under}
+use Rattle.job_core.proofs.RunningLemmas.{command_under, waiting_state}
 use Rattle.job_core.proofs.SoundSessions.{sound_open}
 use Rattle.job_core.proofs.decision.sessions.opened.Goals as goal
 
@@ -17,6 +17,7 @@ returns c = λ f plan sound may session there command.
       step_is = ap (λ bs. (with_session f (new_session machine b r blank), reply.Opened b blank bs r (length f.sessions + 1))) bytes
           ∙ ap (λ n. (with_session f (new_session machine b r blank), reply.Opened b blank c.bytes_or_none-command.result r n)) (sym session);
       keeps = record {
+        before = (waiting_state f b r may.waits, (may.lot, may.lot_is, may.lot_named));
         sound = sound_open f machine b r blank may.batch may.lot sound c.bytes-is_name.ensures.name may.there may.more may.idle may.lot_is may.product may.free may.waits;
         after = tt;
       };

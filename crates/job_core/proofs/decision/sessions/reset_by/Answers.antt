@@ -8,4 +8,4 @@ unfolding step
 returns-in-Some c = λ f sound session.
     let there = sym session ∙ c.in-Some.is in
     let run = running_numbered f c.args.client.now c.in-Some.session there in
-    record { step_is = rw (there) refl; keeps = record { sound = sound_end f c.in-Some.session run.0 sound run.1 run.3; after = tt } }
+    record { step_is = rw (there) refl; keeps = record { before = (_, (run.0, run.1, run.3, refl)); sound = sound_end f c.in-Some.session run.0 sound run.1 run.3; after = tt } }

@@ -19,7 +19,7 @@ returns-in_default c = λ f x plan sound is index cursor went hands.
     let stops = subst (Went plan (length x.words) sw) c.in_default.is (subst (λ n. Went plan n sw c.args.next) index went) in
     let made = spoiled_word f s sw x plan sound is small c.args.cursor stops cursor in
     subst (λ d. Makes f (take_word f s c.args.index sw x) d.0 d.1) (sym c.word.ensures)
-    (subst (λ n. Makes f (take_word f s n sw x) (reply.Spoiled s) (change.AddsWord s sw session.Spoiled c.args.cursor)) (sym index) made)
+    (subst (λ n. Makes f (take_word f s n sw x) (reply.Spoiled s) (change.AddsWord s n sw session.Spoiled c.args.cursor)) (sym index) made)
 
 pub returns-in-None : goal.returns-in-None
 returns-in-None c = λ f x plan sound is index cursor went hands.
@@ -31,7 +31,7 @@ returns-in-None c = λ f x plan sound is index cursor went hands.
     let last = subst (λ n. Hands plan n (Some next) None) index (subst (Hands plan c.args.index (Some next)) c.in-None.is (subst (λ (o : Option Cursor). Hands plan c.args.index o c.args.command) c.in-Some.is hands)) in
     let made = good_word f s sw x plan sound is small goes.0 next goes.1 last in
     subst (λ d. Makes f (take_word f s c.args.index sw x) d.0 d.1) (sym c.word-in-None.ensures)
-    (subst (λ n. Makes f (take_word f s n sw x) (reply.Good s) (change.AddsWord s sw session.Good next)) (sym index) made)
+    (subst (λ n. Makes f (take_word f s n sw x) (reply.Good s) (change.AddsWord s n sw session.Good next)) (sym index) made)
 
 pub returns-in-Some-command : goal.returns-in-Some-command
 returns-in-Some-command c = λ f x plan sound is index cursor went hands.
@@ -43,7 +43,6 @@ returns-in-Some-command c = λ f x plan sound is index cursor went hands.
     let goes = subst (Went plan (length x.words) sw) c.in-Some.is (subst (λ n. Went plan n sw c.args.next) index went) in
     let more = subst (λ n. Hands plan n (Some next) (Some command)) index (subst (Hands plan c.args.index (Some next)) c.in-Some-command.is (subst (λ (o : Option Cursor). Hands plan c.args.index o c.args.command) c.in-Some.is hands)) in
     let made = next_word f s sw x plan sound is small goes.0 next goes.1 command more in
-    let change_is = change.AddsWord s sw session.Running next in
-    let at_index = subst (λ n. Makes f (take_word f s n sw x) (reply.Next command (n + 1) s) change_is) (sym index) made in
-    let told = subst (λ m. Makes f (take_word f s c.args.index sw x) (reply.Next command (m + 1) s) change_is) (sym c.from-index.ensures) at_index in
+    let at_index = subst (λ n. Makes f (take_word f s n sw x) (reply.Next command (n + 1) s) (change.AddsWord s n sw session.Running next)) (sym index) made in
+    let told = subst (λ m. Makes f (take_word f s c.args.index sw x) (reply.Next command (m + 1) s) (change.AddsWord s c.args.index sw session.Running next)) (sym c.from.ensures) at_index in
     subst (λ (d : Reply × Change). Makes f (take_word f s c.args.index sw x) d.0 d.1) (sym c.word-in-Some-command.ensures) told

@@ -1,0 +1,133 @@
+-- What a store holds: the facts, the kept replies, and how far each client has released its numbers.
+use Rattle.std.specs.Prelude.{◌≡◌, ◌⊎◌, ◌≤◌, ◌<◌, ◌^◌, ◌==◌, ◌&&◌, ℕ, List, [], ◌∷◌, ◌++◌, All, AllPairs, Bool, false, not, nat_lt, filter, IsPermutation, bytes_eq, find, Option, None, option_map, unwrap_or, IsTrue}
+use Rattle.job_core.specs.declared.change.Change.{Change}
+use Rattle.job_core.specs.declared.rows.KeptReply.{KeptReply}
+use Rattle.job_core.specs.Facts.{Facts, no_facts}
+use Rattle.job_core.specs.Sound.{IsName, IsSound, IsSoundChange, changed}
+
+-- a reply that is kept under its client's number, with the ask that it answers
+pub record Entry : Type 0 where
+  pub client : List ℕ
+  pub number : ℕ
+  pub ask : List ℕ
+  pub status : ℕ
+  pub body : List ℕ
+
+-- how far a client has released its numbers; one that never did has no mark
+pub record Mark : Type 0 where
+  pub client : List ℕ
+  pub upto : ℕ
+
+pub record Contents : Type 0 where
+  pub facts : Facts
+  -- the oldest first
+  pub kept : List Entry
+  pub marks : List Mark
+
+abbrev pub no_contents : Contents
+no_contents = record { facts = no_facts; kept = []; marks = [] }
+
+-- ---- kept replies
+
+-- the entry of a number, if there is one
+abbrev pub entry_of : List Entry → List ℕ → ℕ → Option Entry
+entry_of kept client number = find (λ (e : Entry). bytes_eq e.client client && (e.number == number)) kept
+
+abbrev pub reply_of_entry : Entry → KeptReply
+reply_of_entry e = record { ask = e.ask; status = e.status; body = e.body }
+
+-- one number of one client
+abbrev pub is_of_number : Entry → Entry → Bool
+is_of_number d e = bytes_eq d.client e.client && (d.number == e.number)
+
+-- ---- released numbers
+
+abbrev pub has_mark : List ℕ → Mark → Bool
+has_mark client m = bytes_eq m.client client
+
+-- a client's numbers are released up to this one; 0 is none
+abbrev pub mark_of : List Mark → List ℕ → ℕ
+mark_of marks client = unwrap_or (option_map (λ (m : Mark). m.upto) (find (has_mark client) marks)) 0
+
+-- the client's mark is this one now
+abbrev pub with_mark : List Mark → List ℕ → ℕ → List Mark
+with_mark marks client upto = filter (λ (m : Mark). not (has_mark client m)) marks ++ record { client = client; upto = upto } ∷ []
+
+-- its number is above its client's mark
+abbrev pub is_above : List Mark → Entry → Bool
+is_above marks e = nat_lt (mark_of marks e.client) e.number
+
+-- what is kept under numbers that are not released
+abbrev pub above : List Mark → List Entry → List Entry
+above marks kept = filter (is_above marks) kept
+
+-- ---- sound contents
+
+-- client and number in range; the status of what was accepted, or of a refusal
+pub record IsEntry (e : Entry) : Type 0 where
+  pub client : IsName e.client
+  pub least : 1 ≤ e.number
+  pub most : e.number < 10 ^ 18
+  pub status : (e.status ≡ 200) ⊎ (e.status ≡ 409)
+
+pub record IsMark (m : Mark) : Type 0 where
+  pub client : IsName m.client
+  pub least : 1 ≤ m.upto
+  pub most : m.upto < 10 ^ 18
+
+pub record AreSound (c : Contents) : Type 0 where
+  pub facts : IsSound c.facts
+  pub kept : All IsEntry c.kept
+  pub kept_once : AllPairs (λ (d e : Entry). is_of_number d e ≡ false) c.kept
+  pub marks : All IsMark c.marks
+  pub marked_once : AllPairs (λ (m n : Mark). bytes_eq m.client n.client ≡ false) c.marks
+  -- what is kept under a released number is gone
+  pub above : All (λ (e : Entry). IsTrue (is_above c.marks e)) c.kept
+
+-- ---- the same contents: what is a set or a map may stand in any order
+
+pub record AreSameFacts (f g : Facts) : Type 0 where
+  pub products : IsPermutation f.products g.products
+  pub lots : IsPermutation f.lots g.lots
+  pub batches : f.batches ≡ g.batches
+  pub sessions : f.sessions ≡ g.sessions
+  pub discarded : IsPermutation f.discarded g.discarded
+  pub remakes : IsPermutation f.remakes g.remakes
+  pub withdrawn : IsPermutation f.withdrawn g.withdrawn
+  pub closed : IsPermutation f.closed g.closed
+
+pub record AreSame (c d : Contents) : Type 0 where
+  pub facts : AreSameFacts c.facts d.facts
+  pub kept : IsPermutation c.kept d.kept
+  pub marks : IsPermutation c.marks d.marks
+
+-- ---- the next contents
+
+-- the contents with a change and the entry of the arrival that made it
+abbrev pub committed : Contents → Change → Entry → Contents
+committed c change entry = record { facts = changed c.facts change; kept = c.kept ++ entry ∷ []; marks = c.marks }
+
+-- the contents with a client's new mark and the entry of the release that set it
+abbrev pub released : Contents → ℕ → Entry → Contents
+released c upto entry =
+    let marks = with_mark c.marks entry.client upto in
+    record { facts = c.facts; kept = above marks (c.kept ++ entry ∷ []); marks = marks }
+
+-- ---- what the caller of a changing call owes of the contents
+
+-- an entry in its ranges under a number that is neither kept nor released
+pub record IsNewEntry (entry : Entry) (c : Contents) : Type 0 where
+  pub first : entry_of c.kept entry.client entry.number ≡ None
+  pub live : mark_of c.marks entry.client < entry.number
+  pub ranged : IsEntry entry
+
+pub record IsOwed (change : Change) (entry : Entry) (c : Contents) : Type 0 where
+  pub is_new : IsNewEntry entry c
+  pub keeps : IsSoundChange c.facts change
+
+-- a mark below the number of its release, and none that falls
+pub record IsOwedRelease (upto : ℕ) (entry : Entry) (c : Contents) : Type 0 where
+  pub is_new : IsNewEntry entry c
+  pub near : upto < entry.number
+  pub grows : mark_of c.marks entry.client ≤ upto
+  pub least : 1 ≤ upto
