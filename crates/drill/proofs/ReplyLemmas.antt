@@ -8,7 +8,7 @@ use Rattle.std.specs.List.{ends_with, flat_map}
 use Rattle.std.specs.Prelude.{Vec}
 use Rattle.std.specs.Global.{Global}
 use Rattle.store_data.proofs.FaultLemmas.{All-from_map}
-use Rattle.job_core.specs.Store.{Contents}
+use Rattle.job_core.specs.Contents.{Contents}
 use Rattle.wire.specs.ReplyParts.{body_behind, status_in}
 use Rattle.server.specs.declared.memory.Replied.{Replied}
 use Rattle.server.specs.declared.served.End.TheVariants.{Answered}

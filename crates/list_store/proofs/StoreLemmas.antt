@@ -6,7 +6,8 @@ use Rattle.std.proofs.lemmas.List.Sorted.{IsPermutation-refl}
 use Rattle.job_core.specs.declared.change.Change.{Change}
 use Rattle.job_core.specs.Facts.{Facts}
 use Rattle.job_core.specs.Sound.{changed}
-use Rattle.job_core.specs.Store.{AreSame, AreSound, Commits, Contents, Entry, IsEntry, IsOwed, committed, is_of_number, no_contents}
+use Rattle.job_core.specs.Contents.{AreSame, AreSound, Contents, Entry, IsEntry, IsOwed, committed, is_of_number, no_contents}
+use Rattle.job_core.specs.Store.{Commits}
 use Rattle.job_core.proofs.Lists.{find-None}
 use Rattle.job_core.proofs.SoundFacts.{sound_nothing}
 use Rattle.list_store.specs.Lists.{state_of}

@@ -1,7 +1,7 @@
 //! Kept replies.
 ghost use Rattle.std.specs.Prelude.{◌≡◌, IfOk, IfErr, option_map};
 ghost use Rattle.job_core.specs.declared.store.StoreFault.TheVariants.{Memory};
-ghost use Rattle.job_core.specs.Store.{entry_of, reply_of_entry};
+ghost use Rattle.job_core.specs.Contents.{entry_of, reply_of_entry};
 
 use crate::lists::KeptRow;
 use job_core::{KeptReply, StoreFault};

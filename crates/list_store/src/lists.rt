@@ -178,7 +178,7 @@ pub(crate) struct KeptRow {
 }
 
 impl Model for KeptRow {
-    ghost use Rattle.job_core.specs.Store.{Entry};
+    ghost use Rattle.job_core.specs.Contents.{Entry};
 
     ghost Value = { Entry };
 

@@ -18,7 +18,7 @@ pub struct ListStore {
 }
 
 impl ListStore {
-    ghost use Rattle.job_core.specs.Store.{no_contents};
+    ghost use Rattle.job_core.specs.Contents.{no_contents};
     ghost use Rattle.list_store.specs.Lists.{state};
 
     /// An empty store. It takes no memory.

@@ -10,7 +10,8 @@ use Rattle.job_core.specs.declared.rows.KeptReply.{KeptReply}
 use Rattle.job_core.specs.declared.store.StoreFault.{StoreFault}
 use Rattle.job_core.specs.Facts.{Facts}
 use Rattle.job_core.specs.Sound.{Decides, IsName}
-use Rattle.job_core.specs.Store.{AreSame, Entry, Contents, State, IsHonest, Stays, Commits, IsOwed, committed, entry_of, reply_of_entry}
+use Rattle.job_core.specs.Contents.{AreSame, Entry, Contents, IsOwed, committed, entry_of, reply_of_entry}
+use Rattle.job_core.specs.Store.{State, IsHonest, Stays, Commits}
 use Rattle.reply_store.specs.declared.Kept.{Kept}
 use Rattle.reply_store.specs.Told.{status_of, told, told_of}
 use Rattle.reply_store.specs.Meaning.{Arrived, entry_with, contents_after, told_by, answer}

@@ -8,7 +8,8 @@ use Rattle.std.proofs.lemmas.Option.{none-some, same_Some, slice_get_within}
 use Rattle.job_core.specs.declared.store.StoreFault.{StoreFault}
 use Rattle.job_core.specs.declared.store.StoreFault.TheVariants.{Memory, Device, Full}
 use Rattle.job_core.specs.Steps.{step}
-use Rattle.job_core.specs.Store.{AreSame, AreSound, Entry, Contents, State, HasCause, IsHonest, Stays, entry_of}
+use Rattle.job_core.specs.Contents.{AreSame, AreSound, Entry, Contents, entry_of}
+use Rattle.job_core.specs.Store.{State, CountsFaults, IsHonest, Stays}
 use Rattle.reply_store.specs.declared.Kept.{Kept}
 use Rattle.job_core.specs.declared.request.Arrival.{Arrival}
 use Rattle.reply_store.specs.Told.{told}

@@ -1,7 +1,8 @@
 -- What the handling of an arrival does to a store.
 use Rattle.std.specs.Prelude.{◌≡◌, ◌⊎◌, ◌≤◌, [], ◌∷◌, Some, None, Result, Ok, Err, IfOk, OnOk, OnErr}
 use Rattle.job_core.specs.declared.store.StoreFault.{StoreFault}
-use Rattle.job_core.specs.Store.{AreSame, Contents, State, IsHonest, entry_of}
+use Rattle.job_core.specs.Contents.{AreSame, Contents, entry_of}
+use Rattle.job_core.specs.Store.{State, IsHonest}
 use Rattle.reply_store.specs.declared.Kept.{Kept}
 use Rattle.reply_store.specs.Told.{told}
 use Rattle.reply_store.specs.Meaning.{Arrived, contents_after, answer}

@@ -2,7 +2,8 @@
 use Rattle.std.specs.Prelude.{◌≡◌, ◌⊎◌, ◌≤◌, ℕ, List, [], ◌∷◌, ◌++◌, map, filter, take, slice_get, Some, Result, IfOk, All, is_ok, Bool, false}
 use Rattle.job_core.specs.declared.store.StoreFault.{StoreFault}
 use Rattle.job_core.specs.Steps.{step}
-use Rattle.job_core.specs.Store.{AreSame, Contents, State, IsHonest, HasCause, Stays}
+use Rattle.job_core.specs.Contents.{AreSame, Contents}
+use Rattle.job_core.specs.Store.{State, IsHonest, CountsFaults, Stays}
 use Rattle.reply_store.specs.declared.Kept.{Kept}
 use Rattle.job_core.specs.declared.request.Arrival.{Arrival}
 use Rattle.reply_store.specs.Told.{told}

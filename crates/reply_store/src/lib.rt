@@ -6,7 +6,8 @@ ghost use Rattle.std.specs.Prelude.{◌≡◌, ◌≤◌, ◌<◌, ◌^◌, All,
 ghost use Rattle.std.specs.List.{zip};
 ghost use Rattle.job_core.specs.Requests.{IsArrival, IsRequest};
 ghost use Rattle.job_core.specs.Steps.{step};
-ghost use Rattle.job_core.specs.Store.{Commits, Contents, HasCause, IsHonest};
+ghost use Rattle.job_core.specs.Contents.{Contents};
+ghost use Rattle.job_core.specs.Store.{Commits, CountsFaults, IsHonest};
 ghost use Rattle.reply_store.specs.Commands.{HandsOutNext};
 ghost use Rattle.reply_store.specs.Handled.{Handles, done};
 ghost use Rattle.reply_store.specs.Meaning.{told_again};

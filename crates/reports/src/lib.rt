@@ -5,7 +5,8 @@
 ghost use Rattle.std.specs.Prelude.{◌≡◌, map, take};
 ghost use Rattle.job_core.specs.Accounts.{batch_totals, blank_totals, record_line};
 ghost use Rattle.job_core.specs.States.{records_named};
-ghost use Rattle.job_core.specs.Store.{Contents, HasCause, Reads, Stays};
+ghost use Rattle.job_core.specs.Contents.{Contents};
+ghost use Rattle.job_core.specs.Store.{CountsFaults, Reads, Stays};
 ghost use Rattle.job_core.specs.declared.refusal.Refusal.TheVariants.{BatchUnknown, ProductUnknown};
 ghost use Rattle.reports.specs.Accounts.{AreAllCounted, AreAllStanding, batch_account};
 ghost use Rattle.reports.specs.Accounts.{blank_account};

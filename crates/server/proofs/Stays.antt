@@ -3,7 +3,8 @@ use Rattle.std.proofs.Common.{◌≡◌, ℕ, Bool, false, List, Err, refl, sym,
 use Rattle.std.proofs.lemmas.Bool.{false≢true}
 use Rattle.job_core.specs.declared.store.StoreFault.{StoreFault}
 use Rattle.job_core.specs.declared.store.StoreFault.TheVariants.{Memory}
-use Rattle.job_core.specs.Store.{Contents, State, Stays}
+use Rattle.job_core.specs.Contents.{Contents}
+use Rattle.job_core.specs.Store.{State, Stays}
 use Rattle.reply_store.specs.Handled.{Handles}
 use Rattle.reply_store.specs.Meaning.{Arrived}
 use Rattle.reply_store.specs.Runs.{arrived}

@@ -3,7 +3,8 @@ use Rattle.std.specs.Prelude.{◌≡◌, ◌⊎◌, ℕ, Bool, true, false, All,
 use Rattle.std.specs.List.{flat_map}
 use Rattle.job_core.specs.declared.store.StoreFault.{StoreFault}
 use Rattle.job_core.specs.Steps.{step}
-use Rattle.job_core.specs.Store.{Contents, State, IsHonest, Stays, no_contents}
+use Rattle.job_core.specs.Contents.{Contents, no_contents}
+use Rattle.job_core.specs.Store.{State, IsHonest, Stays}
 use Rattle.reply_store.specs.declared.Kept.{Kept}
 use Rattle.reply_store.specs.Meaning.{contents_after}
 use Rattle.reply_store.specs.Commands.{HandsOutNext}

@@ -4,7 +4,7 @@ use Rattle.job_core.specs.declared.refusal.Refusal.{Refusal as Rule}
 use Rattle.job_core.specs.declared.refusal.Refusal.TheVariants as rule
 use Rattle.job_core.specs.declared.reply.Reply.TheVariants as reply
 use Rattle.job_core.specs.Facts.{Facts}
-use Rattle.job_core.specs.Store.{Contents}
+use Rattle.job_core.specs.Contents.{Contents}
 use Rattle.reply_store.specs.Told.{Told, told_of}
 use Rattle.reply_store.specs.Meaning.{contents_after, answer}
 use Rattle.reply_store.specs.Runs.{arrived}

@@ -3,7 +3,7 @@ ghost use Rattle.std.specs.Prelude.{◌≡◌, ℕ, List};
 ghost use Rattle.std.specs.Io.KnownBytes.{Appends};
 ghost use Rattle.job_core.specs.Requests.{IsArrival};
 ghost use Rattle.job_core.specs.Steps.{step};
-ghost use Rattle.job_core.specs.Store.{Contents};
+ghost use Rattle.job_core.specs.Contents.{Contents};
 ghost use Rattle.reply_store.specs.Commands.{HandsOutNext};
 ghost use Rattle.reply_store.specs.Handled.{Handles};
 ghost use Rattle.reply_store.specs.Runs.{arrived};

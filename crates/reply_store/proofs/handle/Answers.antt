@@ -1,5 +1,6 @@
 use Rattle.std.proofs.Common.{rules, ◌≡◌, ◌∙◌, Ok, None, refl, sym, ap, arith}
-use Rattle.job_core.specs.Store.{IsHonest, entry_of}
+use Rattle.job_core.specs.Contents.{entry_of}
+use Rattle.job_core.specs.Store.{IsHonest}
 use Rattle.reply_store.specs.Meaning.{Arrived, entry_with, told_again}
 use Rattle.reply_store.proofs.Commands.{hands_out_next}
 use Rattle.reply_store.proofs.Handling.{Stays-then, handles_again, handles_decided, kept_entry, no_entry}

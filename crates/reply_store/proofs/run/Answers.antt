@@ -1,7 +1,8 @@
 use Rattle.std.proofs.Common.{◌≡◌, ℕ, Ok, sym, subst, arith, List, take, map}
 use Rattle.std.proofs.lemmas.Grind.{common_steps}
 use Rattle.std.specs.List.{zip}
-use Rattle.job_core.specs.Store.{Contents, IsHonest}
+use Rattle.job_core.specs.Contents.{Contents}
+use Rattle.job_core.specs.Store.{IsHonest}
 use Rattle.reply_store.specs.Handled.{Handles}
 use Rattle.reply_store.specs.Runs.{arrived, AreNext, Served, Runs}
 use Rattle.reply_store.proofs.Running.{next_more, runs_more, zip_more}

@@ -1,6 +1,7 @@
 use Rattle.std.proofs.Common.{◌∙◌, ℕ, List, Result, Ok, subst}
 use Rattle.job_core.specs.declared.store.StoreFault.{StoreFault}
-use Rattle.job_core.specs.Store.{Commits, Entry}
+use Rattle.job_core.specs.Contents.{Entry}
+use Rattle.job_core.specs.Store.{Commits}
 use Rattle.reply_store.specs.Told.{body_of}
 use Rattle.reply_store.proofs.settle.Goals as goal
 

@@ -1,7 +1,8 @@
 use Rattle.std.proofs.Common.{◌≡◌, map, take}
 use Rattle.job_core.specs.Accounts.{record_line}
 use Rattle.job_core.specs.States.{records_named}
-use Rattle.job_core.specs.Store.{Contents, IsHonest, Stays}
+use Rattle.job_core.specs.Contents.{Contents}
+use Rattle.job_core.specs.Store.{IsHonest, Stays}
 use Rattle.reports.proofs.record_lines.Given as goal
 
 abbrev pub invariant-loop-place : goal.invariant-loop-place

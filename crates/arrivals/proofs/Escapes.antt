@@ -10,7 +10,7 @@ use Rattle.std.proofs.lemmas.Str.Ascii.{IsAscii-nil, IsAscii-cons}
 use Rattle.json.specs.Print.{escape, escape_byte}
 use Rattle.hex.specs.Hex.{IsBytes, encode_with, encode_upper, upper_digits}
 use Rattle.store_data.specs.Name.{is_name, is_name_char}
-use Rattle.reply_store.specs.Values.{IsPlain}
+use Rattle.arrivals.specs.Values.{IsPlain}
 
 pub escape_char : (c : ℕ) → is_name_char c ≡ true → escape_byte c ≡ c ∷ []
 unfolding escape_byte

@@ -13,10 +13,10 @@ use Rattle.job_core.specs.declared.refusal.Refusal.TheVariants as refusal
 use Rattle.job_core.specs.declared.reply.Made.{Made}
 use Rattle.job_core.specs.declared.reply.Made.TheVariants.{Created, Known}
 use Rattle.job_core.specs.declared.reply.Reply.{Reply}
-use Rattle.job_core.specs.declared.reply.Reply.TheVariants.{Product, Lot, Import, Opened, Next, Good, Spoiled, Reset, Discarded, Waiting, Withdrawn, Closed, Refused, Busy, Faulty}
-use Rattle.reply_store.specs.Values.{IsPlain, ArePlain, value_of}
-use Rattle.reply_store.specs.Told.{body_of, made_name}
-use Rattle.reply_store.proofs.Escapes.{escape_plain}
+use Rattle.job_core.specs.declared.reply.Reply.TheVariants.{Product, Lot, Import, Opened, Next, Good, Spoiled, Reset, Discarded, Waiting, Withdrawn, Closed, Refused, Busy, Released, NumberReleased, Faulty}
+use Rattle.arrivals.specs.Values.{IsPlain, ArePlain, value_of}
+use Rattle.arrivals.specs.Told.{body_of, made_name}
+use Rattle.arrivals.proofs.Escapes.{escape_plain}
 
 made_plain : (m : Made) → IsPlain (made_name m)
 made_plain Created = refl
@@ -44,6 +44,7 @@ refusal_plain refusal.NotWithdrawable = refl
 refusal_plain refusal.NotFinished = refl
 refusal_plain refusal.Limit = refl
 refusal_plain refusal.NumberReused = refl
+refusal_plain refusal.ReleaseTooFar = refl
 
 kind_plain : (k : Kind) → IsPlain (kind_name_of k)
 kind_plain kind.MarksDiffer = refl
@@ -76,6 +77,8 @@ no_float (Withdrawn b r) = refl
 no_float (Closed b) = refl
 no_float (Refused why) = refl
 no_float (Busy s) = refl
+no_float (Released mark) = refl
+no_float (NumberReleased mark) = refl
 no_float (Faulty fault) = refl
 
 decimal-0 : decimal 0 ≡ codes "0"
@@ -85,6 +88,10 @@ decimal-0 = refl
 decimal-61 : decimal 61 ≡ codes "61"
 unfolding digits
 decimal-61 = refl
+
+decimal-73 : decimal 73 ≡ codes "73"
+unfolding digits
+decimal-73 = refl
 
 pub text_is_body : (r : Reply) → ArePlain r → compact_text (value_of r) ≡ body_of r
 unfolding body_of serde_json_on_literals
@@ -102,4 +109,6 @@ text_is_body (Withdrawn b r) h = simp (escape_plain b h.0, escape_plain r h.1, a
 text_is_body (Closed b) h = simp (escape_plain b h, append_assoc)
 text_is_body (Refused why) h = simp (escape_plain (name_of why) (refusal_plain why), append_assoc)
 text_is_body (Busy s) h = simp (decimal-61, append_assoc)
+text_is_body (Released mark) h = refl
+text_is_body (NumberReleased mark) h = simp (decimal-73, append_assoc)
 text_is_body (Faulty fault) h = simp (escape_plain (kind_name_of fault.kind) (kind_plain fault.kind), append_assoc)

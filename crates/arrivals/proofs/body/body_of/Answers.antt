@@ -1,8 +1,8 @@
 use Rattle.std.proofs.Common.{◌≡◌, ◌∙◌, ℕ, Vec, Global, false, ap}
 use Rattle.serde_json.specs.View.{view}
 use Rattle.serde_json.specs.Written.{compact_text, has_float}
-use Rattle.reply_store.proofs.Texts.{no_float, text_is_body}
-use Rattle.reply_store.proofs.body.body_of.Goals as goal
+use Rattle.arrivals.proofs.Texts.{no_float, text_is_body}
+use Rattle.arrivals.proofs.body.body_of.Goals as goal
 
 pub returns : goal.returns
 returns c =

@@ -1,8 +1,8 @@
 use Rattle.std.proofs.Common.{sym, subst}
 use Rattle.std.specs.Str.{IsUtf8}
 use Rattle.std.proofs.lemmas.Str.{IsUtf8-from_ascii}
-use Rattle.reply_store.proofs.Escapes.{IsOk-from_match, escape_plain, name_plain, plain_ascii}
-use Rattle.reply_store.proofs.body.name_text.Goals as goal
+use Rattle.arrivals.proofs.Escapes.{IsOk-from_match, escape_plain, name_plain, plain_ascii}
+use Rattle.arrivals.proofs.body.name_text.Goals as goal
 
 pub unwrap-requires : goal.unwrap-requires
 unwrap-requires c =

@@ -3,8 +3,8 @@ ghost use Rattle.std.specs.Prelude.{◌≡◌, IfOk, OnOk, string_bytes};
 ghost use Rattle.hex.specs.Hex.{encode_upper};
 ghost use Rattle.json.specs.Print.{escape};
 ghost use Rattle.serde_json.specs.View.{view};
-ghost use Rattle.reply_store.specs.Told.{body_of, made_name, status_of};
-ghost use Rattle.reply_store.specs.Values.{ArePlain, IsPlain, ended_value, record_value, value_of};
+ghost use Rattle.arrivals.specs.Told.{body_of, made_name, status_of};
+ghost use Rattle.arrivals.specs.Values.{ArePlain, IsPlain, ended_value, record_value, value_of};
 
 use batch_import::RowFault;
 use job_core::{Made, Refusal, Reply};
@@ -18,7 +18,10 @@ pub fn status_of(reply: &Reply) -> u16
     ensures { result ≡ status_of reply.now }
 {
     match *reply {
-        Reply::Refused { .. } | Reply::Busy { .. } | Reply::Faulty { .. } => 409,
+        Reply::Refused { .. }
+        | Reply::Busy { .. }
+        | Reply::NumberReleased { .. }
+        | Reply::Faulty { .. } => 409,
         _ => 200,
     }
 }
@@ -66,6 +69,8 @@ fn value_of(alloc: Global, reply: &Reply) -> Result<Value, AllocError>
         Reply::Closed { batch } => closed_value(alloc, batch),
         Reply::Refused { refusal } => refused_value(alloc, *refusal),
         Reply::Busy { session } => busy_value(alloc, *session),
+        Reply::Released { mark } => { json!(in alloc; {"mark": *mark, "result": "released"}) }
+        Reply::NumberReleased { mark } => number_released_value(alloc, *mark),
         Reply::Faulty { fault } => faulty_value(alloc, *fault),
     }
 }
@@ -179,6 +184,12 @@ fn busy_value(alloc: Global, session: u64) -> Result<Value, AllocError>
     ensures { IfOk result (λ v. view v ≡ value_of (Reply.Busy session)) }
 {
     json!(in alloc; {"code": 61u64, "refused": "machine-busy", "session": session})
+}
+
+fn number_released_value(alloc: Global, mark: u64) -> Result<Value, AllocError>
+    ensures { IfOk result (λ v. view v ≡ value_of (Reply.NumberReleased mark)) }
+{
+    json!(in alloc; {"code": 73u64, "mark": mark, "refused": "number-released"})
 }
 
 fn faulty_value(alloc: Global, fault: RowFault) -> Result<Value, AllocError>

@@ -17,8 +17,8 @@ use Rattle.job_core.specs.Facts.{Batch, Facts, Session}
 use Rattle.job_core.specs.States.{any_overlaps, batch_named, command_bytes, commands_for, first_waiting, goes_at, is_batch_finished, is_charged, is_closed, is_running, lot_named, lot_of, product_named, record_state_of, running_session, session_numbered, session_state}
 use Rattle.job_core.specs.Steps.{Outcome, by_option, in_batch, in_record, in_session, remade, same_batch, same_lot, same_product, step, step_answer, step_import, step_lot, step_open, step_product, taken_in, withdrawn}
 use Rattle.job_core.specs.Sound.{IsSound}
-use Rattle.reply_store.specs.Commands.{HandsOutNext}
-use Rattle.reply_store.proofs.Sequences.{first_command, next_command}
+use Rattle.arrivals.specs.Commands.{HandsOutNext}
+use Rattle.arrivals.proofs.Sequences.{first_command, next_command}
 
 option_both : {A : Type 0} (o : Option A) (x : Outcome) (g : A → Outcome) (P : Outcome → Type 0) → P x → ((y : A) → o ≡ Some y → P (g y)) → P (by_option o x g)
 option_both None x g P without having = without

@@ -7,8 +7,8 @@ use Rattle.store_data.specs.Name.{is_name_char}
 use Rattle.batch_import.specs.Kinds.{code_of as kind_code_of, name_of as kind_name_of}
 use Rattle.job_core.specs.Refusals.{code_of, name_of}
 use Rattle.job_core.specs.declared.reply.Reply.{Reply}
-use Rattle.job_core.specs.declared.reply.Reply.TheVariants.{Product, Lot, Import, Opened, Next, Good, Spoiled, Reset, Discarded, Waiting, Withdrawn, Closed, Refused, Busy, Faulty}
-use Rattle.reply_store.specs.Told.{made_name}
+use Rattle.job_core.specs.declared.reply.Reply.TheVariants.{Product, Lot, Import, Opened, Next, Good, Spoiled, Reset, Discarded, Waiting, Withdrawn, Closed, Refused, Busy, Released, NumberReleased, Faulty}
+use Rattle.arrivals.specs.Told.{made_name}
 
 abbrev pub num : ℕ → Data
 num n = number (unsigned n)
@@ -43,6 +43,8 @@ value_of (Withdrawn b r) = record_value b r (codes "withdrawn")
 value_of (Closed b) = object (member (codes "batch") (string b) (member (codes "result") (string (codes "closed")) no_members))
 value_of (Refused why) = object (member (codes "code") (num (code_of why)) (member (codes "refused") (string (name_of why)) no_members))
 value_of (Busy s) = object (member (codes "code") (num 61) (member (codes "refused") (string (codes "machine-busy")) (member (codes "session") (num s) no_members)))
+value_of (Released mark) = object (member (codes "mark") (num mark) (member (codes "result") (string (codes "released")) no_members))
+value_of (NumberReleased mark) = object (member (codes "code") (num 73) (member (codes "mark") (num mark) (member (codes "refused") (string (codes "number-released")) no_members)))
 value_of (Faulty fault) =
     object (member (codes "code") (num (kind_code_of fault.kind)) (member (codes "refused") (string (kind_name_of fault.kind)) (member (codes "row") (num fault.row) no_members)))
 
@@ -66,4 +68,6 @@ ArePlain (Withdrawn b r) = IsPlain b × IsPlain r
 ArePlain (Closed b) = IsPlain b
 ArePlain (Refused why) = ⊤
 ArePlain (Busy s) = ⊤
+ArePlain (Released mark) = ⊤
+ArePlain (NumberReleased mark) = ⊤
 ArePlain (Faulty fault) = ⊤

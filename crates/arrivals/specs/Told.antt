@@ -7,8 +7,8 @@ use Rattle.job_core.specs.declared.refusal.Refusal.TheVariants.{NumberReused}
 use Rattle.job_core.specs.declared.reply.Made.{Made}
 use Rattle.job_core.specs.declared.reply.Made.TheVariants.{Created, Known}
 use Rattle.job_core.specs.declared.reply.Reply.{Reply}
-use Rattle.job_core.specs.declared.reply.Reply.TheVariants.{Product, Lot, Import, Opened, Next, Good, Spoiled, Reset, Discarded, Waiting, Withdrawn, Closed, Refused, Busy, Faulty}
-use Rattle.reply_store.specs.declared.Kept.{Kept}
+use Rattle.job_core.specs.declared.reply.Reply.TheVariants.{Product, Lot, Import, Opened, Next, Good, Spoiled, Reset, Discarded, Waiting, Withdrawn, Closed, Refused, Busy, Released, NumberReleased, Faulty}
+use Rattle.arrivals.specs.declared.kept.Kept.{Kept}
 
 pub record Told : Type 0 where
   pub status : ℕ
@@ -30,6 +30,8 @@ status_of (Withdrawn b r) = 200
 status_of (Closed b) = 200
 status_of (Refused why) = 409
 status_of (Busy s) = 409
+status_of (Released mark) = 200
+status_of (NumberReleased mark) = 409
 status_of (Faulty fault) = 409
 
 abbrev pub made_name : Made → List ℕ
@@ -58,6 +60,8 @@ body_of (Withdrawn b r) = codes "{\"batch\":\"" ++ b ++ codes "\",\"record\":\""
 body_of (Closed b) = codes "{\"batch\":\"" ++ b ++ codes "\",\"result\":\"closed\"}"
 body_of (Refused why) = codes "{\"code\":" ++ decimal (code_of why) ++ codes ",\"refused\":\"" ++ name_of why ++ codes "\"}"
 body_of (Busy s) = codes "{\"code\":61,\"refused\":\"machine-busy\",\"session\":" ++ decimal s ++ codes "}"
+body_of (Released mark) = codes "{\"mark\":" ++ decimal mark ++ codes ",\"result\":\"released\"}"
+body_of (NumberReleased mark) = codes "{\"code\":73,\"mark\":" ++ decimal mark ++ codes ",\"refused\":\"number-released\"}"
 body_of (Faulty fault) =
     codes "{\"code\":" ++ decimal (kind_code_of fault.kind) ++ codes ",\"refused\":\"" ++ kind_name_of fault.kind
     ++ codes "\",\"row\":" ++ decimal fault.row ++ codes "}"

@@ -1,0 +1,7 @@
+pub mod Escapes
+pub mod Texts
+pub mod Sequences
+pub mod Commands
+pub mod MeaningLemmas
+pub mod MeaningLists
+pub mod Repeats

@@ -1,0 +1,104 @@
+-- What an arrival was told it is told again, until its number is released.
+use Rattle.std.proofs.Common.{◌≡◌, ◌≤◌, ◌<◌, ◌==◌, ◌&&◌, Bool, true, false, cond, List, [], ◌∷◌, ◌++◌, Option, Some, None, refl, sym, ap, ◌∙◌, subst, inl, inr, eq-eqb, arith}
+use Rattle.std.specs.Prelude.{bytes_eq, find, filter, nat_le, nat_lt}
+use Rattle.std.proofs.lemmas.Bool.{and_parts, cases_Bool, cond-true, cond-false, eqb-true, false≢true}
+use Rattle.std.proofs.lemmas.Bool.Decides.{nat_tests}
+use Rattle.std.proofs.lemmas.Option.{none-some, same_Some}
+use Rattle.std.proofs.lemmas.Slice.Eq.{bytes_eq-Decides}
+use Rattle.job_core.specs.declared.reply.Reply.TheVariants.{NumberReleased}
+use Rattle.job_core.specs.Steps.{by_option}
+use Rattle.job_core.specs.Contents.{Contents, Entry, Mark, above, entry_of, is_above, mark_of}
+use Rattle.arrivals.specs.Laws.{AreAbove, RepeatsAreTold}
+use Rattle.arrivals.specs.Told.{Told, reused, told_of}
+use Rattle.arrivals.specs.Meaning.{Arrived, contents_after, entry_with, is_released, marks_with, reply_to, told_by, told_on}
+use Rattle.arrivals.proofs.MeaningLemmas.{above_after, contents_with, decided_by, entry_is, marks_grow, same_contents}
+use Rattle.arrivals.proofs.MeaningLists.{one_then, released_before}
+
+-- the arrival's number is released, or its entry tells it this
+abbrev pub IsKeptFor : Contents → Arrived → Told → Type 0
+IsKeptFor c a told = is_released c.marks a ≡ false → (e : Entry) × (entry_of c.kept a.client a.number ≡ Some e) × (told_by a.ask e ≡ told)
+
+-- an entry is found among those that are kept, if its number is not released
+entry_above : (marks : List Mark) (es : List Entry) (a : Arrived) (e : Entry) → is_released marks a ≡ false → entry_of es a.client a.number ≡ Some e → entry_of (above marks es) a.client a.number ≡ Some e
+entry_above marks [] a e live found = absurd (none-some e found)
+entry_above marks (d ∷ es) a e live found =
+    let p : Entry → Bool = λ x. bytes_eq x.client a.client && (x.number == a.number) in
+    elim (cases_Bool (p d)) [
+      | inl hit ↦
+          let parts = and_parts (bytes_eq d.client a.client) (d.number == a.number) hit in
+          let client : d.client ≡ a.client = (bytes_eq-Decides d.client a.client).0 parts.0 in
+          let number : d.number ≡ a.number = eqb-true d.number a.number parts.1 in
+          let mark : mark_of marks d.client ≡ mark_of marks a.client = ap (mark_of marks) client in
+          let kept : is_above marks d ≡ true = grind (arith, nat_tests, live, number, mark) in
+          ap (λ b. entry_of (cond b (d ∷ above marks es) (above marks es)) a.client a.number) kept
+          ∙ ap (λ b. cond b (Some d) (entry_of (above marks es) a.client a.number)) hit ∙ sym (ap (λ b. cond b (Some d) (entry_of es a.client a.number)) hit) ∙ found
+      | inr miss ↦
+          let rest = entry_above marks es a e live (sym (cond-false (p d) (Some d) (entry_of es a.client a.number) miss) ∙ found) in
+          elim (cases_Bool (is_above marks d)) [
+            | inl kept ↦ ap (λ b. entry_of (cond b (d ∷ above marks es) (above marks es)) a.client a.number) kept ∙ ap (λ b. cond b (Some d) (entry_of (above marks es) a.client a.number)) miss ∙ rest
+            | inr gone ↦ ap (λ b. entry_of (cond b (d ∷ above marks es) (above marks es)) a.client a.number) gone ∙ rest
+          ]
+    ]
+
+found_more : (es ds : List Entry) (a : Arrived) (e : Entry) → entry_of es a.client a.number ≡ Some e → entry_of (es ++ ds) a.client a.number ≡ Some e
+found_more [] ds a e found = absurd (none-some e found)
+found_more (d ∷ es) ds a e found =
+    let p : Bool = bytes_eq d.client a.client && (d.number == a.number) in
+    elim (cases_Bool p) [
+      | inl hit ↦ ap (λ b. cond b (Some d) (entry_of (es ++ ds) a.client a.number)) hit ∙ sym (ap (λ b. cond b (Some d) (entry_of es a.client a.number)) hit) ∙ found
+      | inr miss ↦ ap (λ b. cond b (Some d) (entry_of (es ++ ds) a.client a.number)) miss ∙ found_more es ds a e (sym (cond-false p (Some d) (entry_of es a.client a.number) miss) ∙ found)
+    ]
+
+found_last : (es : List Entry) (a : Arrived) (e : Entry) → e.client ≡ a.client → e.number ≡ a.number → entry_of es a.client a.number ≡ None → entry_of (es ++ e ∷ []) a.client a.number ≡ Some e
+found_last [] a e client number none =
+    let hit : (bytes_eq e.client a.client && (e.number == a.number)) ≡ true = ap (λ b. b && (e.number == a.number)) ((bytes_eq-Decides e.client a.client).1 client) ∙ eq-eqb e.number a.number number in
+    ap (λ b. cond b (Some e) None) hit
+found_last (d ∷ es) a e client number none =
+    let p : Bool = bytes_eq d.client a.client && (d.number == a.number) in
+    elim (cases_Bool p) [
+      | inl hit ↦ absurd (none-some d (sym none ∙ ap (λ b. cond b (Some d) (entry_of es a.client a.number)) hit))
+      | inr miss ↦ ap (λ b. cond b (Some d) (entry_of (es ++ e ∷ []) a.client a.number)) miss ∙ found_last es a e client number (sym (cond-false p (Some d) (entry_of es a.client a.number) miss) ∙ none)
+    ]
+
+-- what an arrival is told is told of it from then on
+pub told_itself : (c : Contents) (a : Arrived) → AreAbove c → IsKeptFor (contents_after c (a ∷ [])) a (told_on c a)
+told_itself c a are =
+    decided_by c a (λ d told. IsKeptFor d a told) are
+    (λ gone live. absurd (false≢true (sym live ∙ gone)))
+    (λ e first some live. (e, some, refl))
+    (λ first none live.
+    let reply = reply_to c.facts c.marks a in
+    let entry = entry_with a reply in
+    let same : bytes_eq a.ask a.ask ≡ true = (bytes_eq-Decides a.ask a.ask).1 refl in
+    (entry, entry_above (marks_with c.marks a) (c.kept ++ entry ∷ []) a entry live (found_last c.kept a entry refl refl none), cond-true (bytes_eq a.ask a.ask) (told_of reply) reused same))
+
+-- and so does each other arrival leave it
+pub still_told : (c : Contents) (a b : Arrived) (told : Told) → AreAbove c → IsKeptFor c b told → IsKeptFor (contents_after c (a ∷ [])) b told
+still_told c a b told are is =
+    decided_by c a (λ d t. IsKeptFor d b told) are (λ gone. is) (λ e first some. is)
+    (λ first none live.
+    let was = is (released_before c.marks (marks_with c.marks a) b (marks_grow c.marks a) live) in
+    let entry = entry_with a (reply_to c.facts c.marks a) in
+    (was.0, entry_above (marks_with c.marks a) (c.kept ++ entry ∷ []) b was.0 live (found_more c.kept (entry ∷ []) b was.0 was.1), was.2))
+
+-- a repeat is told so
+pub repeat_is_told : (c : Contents) (a : Arrived) (told : Told) → IsKeptFor c a told → is_released c.marks a ≡ false → told_on c a ≡ told
+repeat_is_told c a told is live =
+    let e = is live in
+    let first : Told = told_of (reply_to c.facts c.marks a) in
+    cond-false (is_released c.marks a) (told_of (NumberReleased (mark_of c.marks a.client))) (by_option (entry_of c.kept a.client a.number) first (told_by a.ask)) live
+    ∙ ap (λ o. by_option o first (told_by a.ask)) e.1 ∙ e.2
+
+-- whatever comes between
+kept_for : (c : Contents) (b : Arrived) (told : Told) (between : List Arrived) → AreAbove c → IsKeptFor c b told → IsKeptFor (contents_after c between) b told
+kept_for c b told [] are is = subst (λ d. IsKeptFor d b told) (sym (same_contents c are)) is
+kept_for c b told (a ∷ between) are is =
+    subst (λ d. IsKeptFor d b told) (sym (one_then c a between are))
+    (kept_for (contents_after c (a ∷ [])) b told between (above_after c a are) (still_told c a b told are is))
+
+pub repeats_are_told : RepeatsAreTold
+repeats_are_told c a between are live =
+    let after = contents_after c (a ∷ between) in
+    let kept : IsKeptFor after a (told_on c a) = subst (λ d. IsKeptFor d a (told_on c a)) (sym (one_then c a between are))
+    (kept_for (contents_after c (a ∷ [])) a (told_on c a) between (above_after c a are) (told_itself c a are)) in
+    repeat_is_told after a (told_on c a) kept live

@@ -1,0 +1,18 @@
+-- Laws of what arrivals mean.
+use Rattle.std.specs.Prelude.{◌≡◌, false, List, [], ◌∷◌, ◌++◌, All, true}
+use Rattle.job_core.specs.Contents.{Contents, Entry, is_above}
+use Rattle.arrivals.specs.Meaning.{Arrived, contents_after, is_released, told_on}
+
+-- what is kept stands under numbers that are not released, as in sound contents
+abbrev pub AreAbove : Contents → Type 0
+AreAbove c = All (λ (e : Entry). is_above c.marks e ≡ true) c.kept
+
+-- arrivals after arrivals: those that come later meet what the earlier ones left
+abbrev pub AreInTurn : Type 0
+AreInTurn = (c : Contents) (earlier later : List Arrived) → AreAbove c → contents_after c (earlier ++ later) ≡ contents_after (contents_after c earlier) later
+
+-- a repeat is told what its arrival was told, whatever came between, unless its number was released
+abbrev pub RepeatsAreTold : Type 0
+RepeatsAreTold = (c : Contents) (a : Arrived) (between : List Arrived) → AreAbove c →
+    let after = contents_after c (a ∷ between) in
+    is_released after.marks a ≡ false → told_on after a ≡ told_on c a

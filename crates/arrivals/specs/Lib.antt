@@ -1,0 +1,5 @@
+pub mod Told
+pub mod Values
+pub mod Meaning
+pub mod Commands
+pub mod Laws
