@@ -10,6 +10,9 @@ use Rattle.batch_import.specs.Batch.{batch_of}
 use Rattle.job_core.specs.declared.facts.Lot.{Lot}
 use Rattle.job_core.specs.declared.facts.RecordState.{RecordState}
 use Rattle.job_core.specs.declared.facts.RecordState.TheVariants as rec
+use Rattle.job_core.specs.Contents.{Mark}
+use Rattle.job_core.specs.declared.request.Call.{Call}
+use Rattle.job_core.specs.declared.request.Call.TheVariants.{Job, Release}
 use Rattle.job_core.specs.declared.request.Request.{Request}
 use Rattle.job_core.specs.declared.request.Request.TheVariants as request
 use Rattle.job_core.specs.declared.reply.Reply.{Reply}
@@ -18,6 +21,7 @@ use Rattle.job_core.specs.States.{any_overlaps, batch_named, command_bytes, comm
 use Rattle.job_core.specs.Steps.{Outcome, by_option, in_batch, in_record, in_session, remade, same_batch, same_lot, same_product, step, step_answer, step_import, step_lot, step_open, step_product, taken_in, withdrawn}
 use Rattle.job_core.specs.Sound.{IsSound}
 use Rattle.arrivals.specs.Commands.{HandsOutNext}
+use Rattle.arrivals.specs.Meaning.{reply_by}
 use Rattle.arrivals.proofs.Sequences.{first_command, next_command}
 
 option_both : {A : Type 0} (o : Option A) (x : Outcome) (g : A → Outcome) (P : Outcome → Type 0) → P x → ((y : A) → o ≡ Some y → P (g y)) → P (by_option o x g)
@@ -119,3 +123,8 @@ hands_out_next f sound client (request.Discard blank) =
 hands_out_next f sound client (request.Remake b r) = record_fits f b r (remade f b r) (remade_fits f b r)
 hands_out_next f sound client (request.Withdraw b r) = record_fits f b r (withdrawn f b r) (withdrawn_fits f b r)
 hands_out_next f sound client (request.Close b) = batch_fits f b _ (λ kept. cond_both {A = Outcome} (is_batch_finished f b) _ _ (Fits f) (λ yes. tt) (λ no. tt))
+
+-- a release hands out none
+pub call_hands_out_next : (f : Facts) → IsSound f → (marks : List Mark) (client : List ℕ) (number : ℕ) (call : Call) → HandsOutNext f (reply_by f marks client number call)
+call_hands_out_next f sound marks client number (Job r) = hands_out_next f sound client r
+call_hands_out_next f sound marks client number (Release upto) = cond_both {A = Reply} (nat_le number upto) _ _ (HandsOutNext f) (λ far. tt) (λ near. tt)

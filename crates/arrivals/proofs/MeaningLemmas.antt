@@ -18,9 +18,9 @@ use Rattle.job_core.specs.Steps.{by_option}
 use Rattle.job_core.specs.Contents.{Contents, Entry, Mark, above, entry_of, has_mark, is_above, mark_of, with_mark}
 use Rattle.arrivals.specs.Laws.{AreAbove}
 use Rattle.arrivals.specs.Told.{Told, told_of}
-use Rattle.arrivals.specs.Meaning.{Arrived, contents_after, entry_with, facts_with, is_among, is_released, mark_by, marks_by, marks_with, number_of, reply_to, told_by, told_on}
+use Rattle.arrivals.specs.Meaning.{Arrived, contents_after, contents_with, entry_with, facts_with, is_among, is_released, mark_by, marks_by, marks_with, number_of, reply_to, told_by, told_on}
 
-filter_all : {X : Type 0} (p : X → Bool) (xs : List X) → All (λ x. p x ≡ true) xs → filter p xs ≡ xs
+pub filter_all : {X : Type 0} (p : X → Bool) (xs : List X) → All (λ x. p x ≡ true) xs → filter p xs ≡ xs
 filter_all p [] all = refl
 filter_all p (x ∷ xs) all =
     ap (λ b. cond b (x ∷ filter p xs) (filter p xs)) (All-head (λ x. p x ≡ true) x xs all) ∙ ap (λ ys. x ∷ ys) (filter_all p xs (All-tail (λ x. p x ≡ true) x xs all))
@@ -40,12 +40,6 @@ among_kept (e ∷ es) a =
       | true ↦ refl
       | false ↦ among_kept es a
     ]
-
--- the contents after the first of a number
-abbrev pub contents_with : Contents → Arrived → Contents
-contents_with c a =
-    let marks = marks_with c.marks a in
-    record { facts = facts_with c.facts a; kept = above marks (c.kept ++ entry_with a (reply_to c.facts c.marks a) ∷ []); marks = marks }
 
 pub same_contents : (c : Contents) → AreAbove c → record { facts = c.facts; kept = above c.marks (c.kept ++ []); marks = c.marks } ≡ c
 same_contents c are = ap (λ (es : List Entry). record { facts = c.facts; kept = es; marks = c.marks }) (ap (above c.marks) (append-nil c.kept) ∙ filter_all (is_above c.marks) c.kept are)

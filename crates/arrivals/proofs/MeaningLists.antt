@@ -15,8 +15,8 @@ use Rattle.job_core.specs.Steps.{by_option}
 use Rattle.job_core.specs.Contents.{Contents, Entry, Mark, above, entry_of, is_above, mark_of, no_contents}
 use Rattle.arrivals.specs.Laws.{AreAbove}
 use Rattle.arrivals.specs.Told.{Told, reused, told_of}
-use Rattle.arrivals.specs.Meaning.{Arrived, Number, contents_after, entries_of, entry_with, facts_after, facts_with, firsts, is_among, is_released, marks_after, marks_with, number_of, reply_to, told_by, told_on}
-use Rattle.arrivals.proofs.MeaningLemmas.{above_after, among_kept, contents_new, contents_old, contents_released, contents_with, decided_by, marks_grow, same_contents, with_above}
+use Rattle.arrivals.specs.Meaning.{Arrived, Number, contents_after, contents_with, entries_of, entry_with, facts_after, facts_with, firsts, is_among, is_released, marks_after, marks_with, number_of, reply_to, told_by, told_on}
+use Rattle.arrivals.proofs.MeaningLemmas.{above_after, among_kept, contents_new, contents_old, contents_released, decided_by, marks_grow, same_contents, with_above}
 
 abbrev key : Arrived → Number
 key a = (a.client, a.number)

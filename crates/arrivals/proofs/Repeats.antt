@@ -10,8 +10,8 @@ use Rattle.job_core.specs.Steps.{by_option}
 use Rattle.job_core.specs.Contents.{Contents, Entry, Mark, above, entry_of, is_above, mark_of}
 use Rattle.arrivals.specs.Laws.{AreAbove, RepeatsAreTold}
 use Rattle.arrivals.specs.Told.{Told, reused, told_of}
-use Rattle.arrivals.specs.Meaning.{Arrived, contents_after, entry_with, is_released, marks_with, reply_to, told_by, told_on}
-use Rattle.arrivals.proofs.MeaningLemmas.{above_after, contents_with, decided_by, entry_is, marks_grow, same_contents}
+use Rattle.arrivals.specs.Meaning.{Arrived, contents_after, contents_with, entry_with, is_released, marks_with, reply_to, told_by, told_on}
+use Rattle.arrivals.proofs.MeaningLemmas.{above_after, decided_by, entry_is, marks_grow, same_contents}
 use Rattle.arrivals.proofs.MeaningLists.{one_then, released_before}
 
 -- the arrival's number is released, or its entry tells it this

@@ -94,6 +94,12 @@ contents_after c arrivals =
     let marks = marks_after c.marks new in
     record { facts = facts_after c.facts new; kept = above marks (c.kept ++ entries_of c.facts c.marks new); marks = marks }
 
+-- the contents after the first of a number
+abbrev pub contents_with : Contents → Arrived → Contents
+contents_with c a =
+    let marks = marks_with c.marks a in
+    record { facts = facts_with c.facts a; kept = above marks (c.kept ++ entry_with a (reply_to c.facts c.marks a) ∷ []); marks = marks }
+
 -- ---- what an arrival is told
 
 -- what an ask is told by the reply that is kept under its number

@@ -1,25 +1,24 @@
 -- One more arrival.
 use Rattle.std.proofs.Common.{◌≡◌, ◌⊎◌, ℕ, zero, suc, ◌+◌, ◌<◌, ◌≤◌, true, false, List, [], ◌∷◌, ◌++◌, length, get_or, map, take, Option, Some, None, Result, Ok, Err, IfOk, refl, sym, ap, ◌∙◌, subst, inl, inr, ⊎_elim, arith, append-nil}
 use Rattle.std.specs.List.{zip}
-use Rattle.std.specs.Prelude.{filter, is_ok, slice_get}
+use Rattle.std.specs.Prelude.{Bool, filter, is_ok, slice_get}
+use Rattle.std.proofs.lemmas.Bool.{cases_Bool, false≢true}
 use Rattle.std.proofs.lemmas.List.{map-append, map_more, map_push, take-append-le, take_at, length-map, length-take-le}
-use Rattle.std.proofs.lemmas.List.Elements.{All-push, All-weaker, All-nil, filter-append}
+use Rattle.std.proofs.lemmas.List.Elements.{filter-append}
 use Rattle.std.proofs.lemmas.Option.{none-some, same_Some, slice_get_within}
-use Rattle.job_core.specs.declared.store.StoreFault.{StoreFault}
-use Rattle.job_core.specs.declared.store.StoreFault.TheVariants.{Memory, Device, Full}
-use Rattle.job_core.specs.Steps.{step}
-use Rattle.job_core.specs.Contents.{AreSame, AreSound, Entry, Contents, entry_of}
-use Rattle.job_core.specs.Store.{State, CountsFaults, IsHonest, Stays}
-use Rattle.reply_store.specs.declared.Kept.{Kept}
 use Rattle.job_core.specs.declared.request.Arrival.{Arrival}
-use Rattle.reply_store.specs.Told.{told}
-use Rattle.reply_store.specs.Meaning.{Arrived, contents_after, answer}
-use Rattle.reply_store.specs.Commands.{HandsOutNext}
+use Rattle.job_core.specs.declared.store.StoreFault.{StoreFault}
+use Rattle.job_core.specs.Contents.{AreSame, AreSound, Contents, Entry, entry_of}
+use Rattle.job_core.specs.Store.{CountsFaults, IsHonest, State, Stays, failed_after, full_after}
+use Rattle.arrivals.specs.declared.kept.Kept.{Kept}
+use Rattle.arrivals.specs.Told.{told}
+use Rattle.arrivals.specs.Meaning.{Arrived, contents_after, is_released, reply_to, told_on}
+use Rattle.arrivals.specs.Commands.{HandsOutNext}
+use Rattle.arrivals.proofs.Commands.{call_hands_out_next}
+use Rattle.arrivals.proofs.MeaningLemmas.{contents_old, contents_released, same_contents}
+use Rattle.arrivals.proofs.MeaningLists.{contents_after-append}
 use Rattle.reply_store.specs.Handled.{Handles, IsFirst}
-use Rattle.reply_store.specs.Runs.{arrived, Tried, decided, IsPending, MayBeLeft, Leaves, Served, tried, AreNext, Runs}
-use Rattle.reply_store.proofs.Numbers.{contents_old}
-use Rattle.reply_store.proofs.Commands.{hands_out_next}
-use Rattle.reply_store.proofs.Appended.{contents_after-append}
+use Rattle.reply_store.specs.Runs.{arrived, AreNext, IsPending, Leaves, MayBeLeft, Runs, Served, Tried, decided, failed_through, full_through, tried}
 
 decided-append : (xs ys : List Tried) → decided (xs ++ ys) ≡ decided xs ++ decided ys
 decided-append xs ys = ap (map (λ (t : Tried). t.0)) (filter-append (λ (t : Tried). t.1) xs ys) ∙ map-append (λ (t : Tried). t.0) (filter (λ (t : Tried). t.1) xs) (filter (λ (t : Tried). t.1) ys)
@@ -35,8 +34,8 @@ slice_get_end (x ∷ xs) t = slice_get_end xs t
 
 -- ---- what is left after one more
 
-pub after_true : (c : Contents) (tries : List Tried) (a : Arrived) → contents_after c (decided (tries ++ (a, true) ∷ [])) ≡ contents_after (contents_after c (decided tries)) (a ∷ [])
-after_true c tries a = ap (contents_after c) (decided-append tries ((a, true) ∷ [])) ∙ contents_after-append c (decided tries) (a ∷ [])
+pub after_true : (c : Contents) (tries : List Tried) (a : Arrived) → AreSound c → contents_after c (decided (tries ++ (a, true) ∷ [])) ≡ contents_after (contents_after c (decided tries)) (a ∷ [])
+after_true c tries a sound = ap (contents_after c) (decided-append tries ((a, true) ∷ [])) ∙ contents_after-append c (decided tries) (a ∷ []) sound.above
 
 pub after_false : (c : Contents) (tries : List Tried) (a : Arrived) → contents_after c (decided (tries ++ (a, false) ∷ [])) ≡ contents_after c (decided tries)
 after_false c tries a = ap (contents_after c) (decided-append tries ((a, false) ∷ []) ∙ append-nil (decided tries))
@@ -59,40 +58,38 @@ left_more before c d tries t same left =
     ≤-of : {m n : ℕ} → m < n → m ≤ n
     ≤-of h = omega (arith, h)
 
-pub leaves_none : (s : State) → Leaves s s []
-leaves_none s = record {
+pub leaves_none : (s : State) → ((c : Contents) → s.holds c → AreSound c) → Leaves s s []
+leaves_none s sound = record {
   doubts = omega arith;
-  faults = omega arith;
-  contents = λ h c held. subst s.holds (sym (nothing c)) held;
-  crash = λ h c d held left. inr (inr (nothing c, left));
+  contents = λ h c held. subst s.holds (sym (same_contents c (sound c held).above)) held;
+  crash = λ h c d held left. inr (inr (same_contents c (sound c held).above, left));
 }
-  where
-    nothing : (c : Contents) → contents_after c [] ≡ c
-    nothing c = ap (λ (es : List Entry). record { facts = c.facts; kept = es }) (append-nil c.kept)
 
--- a number that is kept, or not
-is_first : (c : Contents) (a : Arrived) → IsFirst c a ⊎ (contents_after c (a ∷ []) ≡ c)
-is_first c a = at (entry_of c.kept a.client a.number) refl
+-- a first, or one that leaves the contents
+is_first : (c : Contents) (a : Arrived) → AreSound c → IsFirst c a ⊎ (contents_after c (a ∷ []) ≡ c)
+is_first c a sound = elim (cases_Bool (is_released c.marks a)) [
+  | inl gone ↦ inr (contents_released c a sound.above gone)
+  | inr live ↦ at (entry_of c.kept a.client a.number) refl live
+]
   where
-    at : (o : Option Entry) → entry_of c.kept a.client a.number ≡ o → IsFirst c a ⊎ (contents_after c (a ∷ []) ≡ c)
-    at None e = inl e
-    at (Some entry) e = inr (contents_old c a entry e)
+    at : (o : Option Entry) → entry_of c.kept a.client a.number ≡ o → is_released c.marks a ≡ false → IsFirst c a ⊎ (contents_after c (a ∷ []) ≡ c)
+    at None e live = inl (live, e)
+    at (Some entry) e live = inr (contents_old c a entry sound.above live e)
 
-pub leaves_more : (s0 s1 s2 : State) (tries : List Tried) (a : Arrived) (r : Result Kept StoreFault) → Leaves s0 s1 tries → Handles s1 s2 a r → Leaves s0 s2 (tries ++ (a, is_ok r) ∷ [])
-leaves_more s0 s1 s2 tries a (Ok k) run handled = record {
+pub leaves_more : (s0 s1 s2 : State) (tries : List Tried) (a : Arrived) (r : Result Kept StoreFault) → ((c : Contents) → s0.holds c → AreSound c) → ((c : Contents) → s1.holds c → AreSound c)
+    → Leaves s0 s1 tries → Handles s1 s2 a r → Leaves s0 s2 (tries ++ (a, is_ok r) ∷ [])
+leaves_more s0 s1 s2 tries a (Ok k) sound then run handled = record {
   doubts = omega (arith, run.doubts, handled.doubts);
-  faults = omega (arith, run.faults, handled.faults);
   contents = λ h c held. let m : IsHonest s1 = omega (arith, handled.doubts) in let n = contents_after c (decided tries) in
-      subst s2.holds (sym (after_true c tries a)) (handled.ok h n (run.contents m c held));
+      subst s2.holds (sym (after_true c tries a (sound c held))) (handled.ok h n (run.contents m c held));
   crash = λ h c d held left. let m : IsHonest s1 = omega (arith, handled.doubts) in let n = contents_after c (decided tries) in let now = run.contents m c held in
-      let after = after_true c tries a in
+      let after = after_true c tries a (sound c held) in
       ⊎_elim (λ first. inl (subst (AreSame d) (sym after) (handled.settled h n d now first left)))
       (λ again. ⊎_elim (λ before. left_more s0.may_leave c d tries (a, true) (after ∙ again) (run.crash m c d held before)) (λ e. inl (subst (AreSame d) (sym after) e)) (handled.crash h n d now left))
-      (is_first n a);
+      (is_first n a (then n now));
 }
-leaves_more s0 s1 s2 tries a (Err f) run handled = record {
+leaves_more s0 s1 s2 tries a (Err f) sound then run handled = record {
   doubts = omega (arith, run.doubts, handled.doubts);
-  faults = omega (arith, run.faults, handled.faults);
   contents = λ h c held. let m : IsHonest s1 = omega (arith, handled.doubts) in let n = contents_after c (decided tries) in
       subst s2.holds (sym (after_false c tries a)) (handled.err h n (run.contents m c held));
   crash = λ h c d held left. let m : IsHonest s1 = omega (arith, handled.doubts) in let n = contents_after c (decided tries) in
@@ -112,7 +109,6 @@ leaves_more s0 s1 s2 tries a (Err f) run handled = record {
 pub leaves_stays : (s0 s1 s2 : State) (tries : List Tried) → Leaves s0 s1 tries → Stays s1 s2 → Leaves s0 s2 tries
 leaves_stays s0 s1 s2 tries run stays = record {
   doubts = omega (arith, run.doubts, stays.doubts);
-  faults = omega (arith, run.faults, stays.faults);
   contents = λ h c held. stays.contents h (contents_after c (decided tries)) (run.contents (omega (arith, stays.doubts)) c held);
   crash = λ h c d held left. run.crash (omega (arith, stays.doubts)) c d held (stays.crash h d left);
 }
@@ -136,33 +132,36 @@ each_more P served x each last i s is =
     (slice_get_push served x s i is)
 
 abbrev ToldAt : Contents → List Served → Served → Type 0
-ToldAt c before s = IfOk s.1 (λ k. answer (contents_after (contents_after c (decided (tried before))) (s.0 ∷ [])).kept s.0 ≡ Some (told k))
+ToldAt c before s = IfOk s.1 (λ k. told_on (contents_after c (decided (tried before))) s.0 ≡ told k)
 
 abbrev NextAt : Contents → List Served → Served → Type 0
 NextAt c before s =
     let n = contents_after c (decided (tried before)) in
-    IsFirst n s.0 → HandsOutNext n.facts (step n.facts s.0.client s.0.request).1
+    IsFirst n s.0 → HandsOutNext n.facts (reply_to n.facts n.marks s.0)
 
 -- ---- runs
 
-pub cause_stays : (s t : State) (r : Result Kept StoreFault) → s.faults ≤ t.faults → HasCause s r → HasCause t r
-cause_stays s t (Ok k) le is = tt
-cause_stays s t (Err Memory) le is = tt
-cause_stays s t (Err Device) le is = omega (arith, le, is)
-cause_stays s t (Err Full) le is = omega (arith, le, is)
+failed_push : (served : List Served) (s : Served) (n : ℕ) → failed_through (served ++ s ∷ []) n ≡ failed_after s.1 (failed_through served n)
+failed_push [] s n = refl
+failed_push (x ∷ served) s n = failed_push served s (failed_after x.1 n)
 
-pub runs_none : (s : State) → Runs s s []
-runs_none s = record { leaves = leaves_none s; told_then = λ h c held i t is. absurd (none-some t is); causes = All-nil (λ (t : Served). HasCause s t.1) }
+full_push : (served : List Served) (s : Served) (n : ℕ) → full_through (served ++ s ∷ []) n ≡ full_after s.1 (full_through served n)
+full_push [] s n = refl
+full_push (x ∷ served) s n = full_push served s (full_after x.1 n)
 
-pub runs_more : (s0 s1 s2 : State) (served : List Served) (a : Arrived) (r : Result Kept StoreFault) → Runs s0 s1 served → Handles s1 s2 a r → HasCause s2 r → Runs s0 s2 (served ++ (a, r) ∷ [])
-runs_more s0 s1 s2 served a r run handled cause =
+pub runs_none : (s : State) → ((c : Contents) → s.holds c → AreSound c) → Runs s s []
+runs_none s sound = record { leaves = leaves_none s sound; told_then = λ h c held i t is. absurd (none-some t is); failed = refl; full = refl }
+
+pub runs_more : (s0 s1 s2 : State) (served : List Served) (a : Arrived) (r : Result Kept StoreFault) → ((c : Contents) → s0.holds c → AreSound c) → ((c : Contents) → s1.holds c → AreSound c)
+    → Runs s0 s1 served → Handles s1 s2 a r → CountsFaults s1 s2 r → Runs s0 s2 (served ++ (a, r) ∷ [])
+runs_more s0 s1 s2 served a r sound then run handled faults =
     let pushed : tried served ++ (a, is_ok r) ∷ [] ≡ tried (served ++ (a, r) ∷ []) = sym (map_push (λ (s : Served). (s.0, is_ok s.1)) served (a, r)) in
     record {
-      leaves = subst (Leaves s0 s2) pushed (leaves_more s0 s1 s2 (tried served) a r run.leaves handled);
+      leaves = subst (Leaves s0 s2) pushed (leaves_more s0 s1 s2 (tried served) a r sound then run.leaves handled);
       told_then = λ h c held. let m : IsHonest s1 = omega (arith, handled.doubts) in
           each_more (ToldAt c) served (a, r) (run.told_then m c held) (handled.told_is h (contents_after c (decided (tried served))) (run.leaves.contents m c held));
-      causes = All-push (λ (t : Served). HasCause s2 t.1) served (a, r)
-          (All-weaker (λ (t : Served). HasCause s1 t.1) (λ (t : Served). HasCause s2 t.1) (λ t. cause_stays s1 s2 t.1 handled.faults) served run.causes) cause;
+      failed = faults.failed ∙ ap (failed_after r) run.failed ∙ sym (failed_push served (a, r) s0.failed);
+      full = faults.full ∙ ap (full_after r) run.full ∙ sym (full_push served (a, r) s0.full);
     }
 
 pub next_none : (s : State) → IsHonest s → (c : Contents) → s.holds c → AreNext c []
@@ -173,7 +172,7 @@ pub next_more : (s0 s1 s2 : State) (served : List Served) (a : Arrived) (r : Res
 next_more s0 s1 s2 served a r sound run le next h c held =
     let m : IsHonest s1 = omega (arith, le) in
     let n = contents_after c (decided (tried served)) in
-    each_more (NextAt c) served (a, r) (next m c held) (λ first. hands_out_next n.facts (sound n (run.leaves.contents m c held)).facts a.client a.request)
+    each_more (NextAt c) served (a, r) (next m c held) (λ first. call_hands_out_next n.facts (sound n (run.leaves.contents m c held)).facts n.marks a.client a.number a.request)
 
 zip_push : (xs : List Arrived) (rs : List (Result Kept StoreFault)) (x : Arrived) (r : Result Kept StoreFault) → length xs ≡ length rs → zip (xs ++ x ∷ []) (rs ++ r ∷ []) ≡ zip xs rs ++ (x, r) ∷ []
 zip_push [] [] x r same = refl

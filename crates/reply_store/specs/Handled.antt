@@ -1,26 +1,20 @@
 -- What the handling of an arrival does to a store.
-use Rattle.std.specs.Prelude.{◌≡◌, ◌⊎◌, ◌≤◌, [], ◌∷◌, Some, None, Result, Ok, Err, IfOk, OnOk, OnErr}
+use Rattle.std.specs.Prelude.{◌≡◌, ◌⊎◌, ◌≤◌, false, [], ◌∷◌, None, Result, IfOk, OnOk, OnErr}
 use Rattle.job_core.specs.declared.store.StoreFault.{StoreFault}
 use Rattle.job_core.specs.Contents.{AreSame, Contents, entry_of}
 use Rattle.job_core.specs.Store.{State, IsHonest}
-use Rattle.reply_store.specs.declared.Kept.{Kept}
-use Rattle.reply_store.specs.Told.{told}
-use Rattle.reply_store.specs.Meaning.{Arrived, contents_after, answer}
+use Rattle.arrivals.specs.declared.kept.Kept.{Kept}
+use Rattle.arrivals.specs.Told.{told}
+use Rattle.arrivals.specs.Meaning.{Arrived, contents_after, is_released, told_on}
 
--- whether it was done, and else why not
-abbrev pub done : {T : Type 0} → Result T StoreFault → Result (Unit {0}) StoreFault
-done (Ok x) = Ok tt
-done (Err fault) = Err fault
-
--- no entry has the arrival's number
+-- the arrival's number is not released, and no entry has it
 abbrev pub IsFirst : Contents → Arrived → Type 0
-IsFirst c a = entry_of c.kept a.client a.number ≡ None
+IsFirst c a = (is_released c.marks a ≡ false) × (entry_of c.kept a.client a.number ≡ None)
 
 pub record Handles (old new : State) (a : Arrived) (result : Result Kept StoreFault) : Type 0 where
   pub doubts : old.doubts ≤ new.doubts
-  pub faults : old.faults ≤ new.faults
-  -- it is told what is kept of its number, or now is
-  pub told_is : IsHonest new → (c : Contents) → old.holds c → IfOk result (λ kept. answer (contents_after c (a ∷ [])).kept a ≡ Some (told kept))
+  -- it is told what it is told on the contents before it
+  pub told_is : IsHonest new → (c : Contents) → old.holds c → IfOk result (λ kept. told_on c a ≡ told kept)
   pub ok : OnOk result (IsHonest new → (c : Contents) → old.holds c → new.holds (contents_after c (a ∷ [])))
   pub err : OnErr result (IsHonest new → (c : Contents) → old.holds c → new.holds c)
   -- a crash leaves what it could leave before, or the arrival with its kept reply

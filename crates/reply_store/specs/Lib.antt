@@ -1,6 +1,3 @@
-pub mod Told
-pub mod Values
-pub mod Meaning
-pub mod Commands
+pub mod Effects
 pub mod Handled
 pub mod Runs

@@ -1,14 +1,13 @@
 -- What a list of arrivals does to a store.
-use Rattle.std.specs.Prelude.{◌≡◌, ◌⊎◌, ◌≤◌, ℕ, List, [], ◌∷◌, ◌++◌, map, filter, take, slice_get, Some, Result, IfOk, All, is_ok, Bool, false}
-use Rattle.job_core.specs.declared.store.StoreFault.{StoreFault}
-use Rattle.job_core.specs.Steps.{step}
-use Rattle.job_core.specs.Contents.{AreSame, Contents}
-use Rattle.job_core.specs.Store.{State, IsHonest, CountsFaults, Stays}
-use Rattle.reply_store.specs.declared.Kept.{Kept}
+use Rattle.std.specs.Prelude.{◌≡◌, ◌⊎◌, ◌≤◌, ℕ, List, [], ◌∷◌, ◌++◌, map, filter, take, slice_get, Some, Result, IfOk, is_ok, Bool, false}
 use Rattle.job_core.specs.declared.request.Arrival.{Arrival}
-use Rattle.reply_store.specs.Told.{told}
-use Rattle.reply_store.specs.Meaning.{Arrived, contents_after, answer}
-use Rattle.reply_store.specs.Commands.{HandsOutNext}
+use Rattle.job_core.specs.declared.store.StoreFault.{StoreFault}
+use Rattle.job_core.specs.Contents.{AreSame, Contents}
+use Rattle.job_core.specs.Store.{IsHonest, State, Stays, failed_after, full_after}
+use Rattle.arrivals.specs.declared.kept.Kept.{Kept}
+use Rattle.arrivals.specs.Told.{told}
+use Rattle.arrivals.specs.Meaning.{Arrived, contents_after, reply_to, told_on}
+use Rattle.arrivals.specs.Commands.{HandsOutNext}
 use Rattle.reply_store.specs.Handled.{Handles, IsFirst}
 
 abbrev pub arrived : Arrival → Arrived
@@ -34,7 +33,6 @@ MayBeLeft before c tried d = AreSame d (contents_after c (decided tried)) ⊎ (I
 -- the contents are those after the decided arrivals
 pub record Leaves (old new : State) (tried : List Tried) : Type 0 where
   pub doubts : old.doubts ≤ new.doubts
-  pub faults : old.faults ≤ new.faults
   pub contents : IsHonest new → (c : Contents) → old.holds c → new.holds (contents_after c (decided tried))
   pub crash : IsHonest new → (c d : Contents) → old.holds c → new.may_leave d → MayBeLeft old.may_leave c tried d
 
@@ -56,18 +54,28 @@ tried served = map (λ (s : Served). (s.0, is_ok s.1)) served
 abbrev pub contents_before : Contents → List Served → ℕ → Contents
 contents_before c served i = contents_after c (decided (tried (take i served)))
 
--- what each was told, if it was decided, is what is kept of its number after those before it and itself
+-- what each was told, if it was decided, is what it is told on the contents that those before it leave
 abbrev pub AreTold : Contents → List Served → Type 0
-AreTold c served = (i : ℕ) (s : Served) → slice_get served i ≡ Some s → IfOk s.1 (λ k. answer (contents_after (contents_before c served i) (s.0 ∷ [])).kept s.0 ≡ Some (told k))
+AreTold c served = (i : ℕ) (s : Served) → slice_get served i ≡ Some s → IfOk s.1 (λ k. told_on (contents_before c served i) s.0 ≡ told k)
+
+-- the counts of a device that failed, and of one that was full, after these outcomes
+abbrev pub failed_through : List Served → ℕ → ℕ
+failed_through [] n = n
+failed_through (s ∷ served) n = failed_through served (failed_after s.1 n)
+
+abbrev pub full_through : List Served → ℕ → ℕ
+full_through [] n = n
+full_through (s ∷ served) n = full_through served (full_after s.1 n)
 
 pub record Runs (old new : State) (served : List Served) : Type 0 where
   pub leaves : Leaves old new (tried served)
   pub told_then : IsHonest new → (c : Contents) → old.holds c → AreTold c served
-  -- a fault of the device is told only where it failed
-  pub causes : All (λ (s : Served). HasCause new s.1) served
+  -- a fault of the device is told where its count goes up, and nowhere else
+  pub failed : new.failed ≡ failed_through served old.failed
+  pub full : new.full ≡ full_through served old.full
 
 -- where a first is handed out a command, it is the next of its record's sequence
 abbrev pub AreNext : Contents → List Served → Type 0
 AreNext c served = (i : ℕ) (s : Served) → slice_get served i ≡ Some s →
     let before = contents_before c served i in
-    IsFirst before s.0 → HandsOutNext before.facts (step before.facts s.0.client s.0.request).1
+    IsFirst before s.0 → HandsOutNext before.facts (reply_to before.facts before.marks s.0)

@@ -4,68 +4,67 @@
 
 ghost use Rattle.std.specs.Prelude.{◌≡◌, ◌≤◌, ◌<◌, ◌^◌, All, IfOk, OnErr, length, map};
 ghost use Rattle.std.specs.List.{zip};
-ghost use Rattle.job_core.specs.Requests.{IsArrival, IsRequest};
-ghost use Rattle.job_core.specs.Steps.{step};
+ghost use Rattle.arrivals.specs.Commands.{HandsOutNext};
+ghost use Rattle.arrivals.specs.Meaning.{reply_by, told_again};
+ghost use Rattle.arrivals.specs.Told.{told};
+ghost use Rattle.job_core.specs.Requests.{IsArrival, IsCall};
 ghost use Rattle.job_core.specs.Contents.{Contents};
-ghost use Rattle.job_core.specs.Store.{Commits, CountsFaults, IsHonest};
-ghost use Rattle.reply_store.specs.Commands.{HandsOutNext};
-ghost use Rattle.reply_store.specs.Handled.{Handles, done};
-ghost use Rattle.reply_store.specs.Meaning.{told_again};
+ghost use Rattle.job_core.specs.Store.{CountsFaults, IsHonest};
+ghost use Rattle.reply_store.specs.Handled.{Handles};
 ghost use Rattle.reply_store.specs.Runs.{AreLeftInTurn, AreNext, Runs, arrived};
-ghost use Rattle.reply_store.specs.Told.{body_of, status_of, told, told_of};
 
-mod body;
+mod deciding;
+mod settling;
 
-pub use body::{body_of, name_text, status_of};
-use job_core::{Arrival, Change, JobStore, KeptReply, Refusal, Reply, Request, StoreFault, decide};
+pub use arrivals::{Kept, body_of, name_text, status_of};
+use crate::deciding::decide_call;
+use crate::settling::{settle, told_of};
+use job_core::{Arrival, Call, JobStore, KeptReply, Refusal, Reply, StoreFault};
 use std::alloc::{AllocError, Global};
-use store_data::{Bytes, Name};
-
-/// What an arrival is told: an HTTP status and a body in JSON (this project's profile).
-#[derive(Drop)]
-pub struct Kept {
-    /// 200, or 409 for every refusal.
-    pub status: u16,
-    /// Compact JSON.
-    pub body: Bytes,
-}
+use store_data::Name;
 
 /// What became of an arrival.
 pub type Outcome = Result<Kept, StoreFault>;
 
-/// Handles one arrival: a number that is kept is told its reply again, or `number-reused` where the
-/// ask is another; a new one is decided and kept, a refusal too. Errors: the store's faults, and
-/// refused memory as `Memory`; nothing is changed then.
+#[tactic(auto, using(arrivals::proofs::Commands::call_hands_out_next))]
+/// Handles one arrival. A number up to its client's mark is told `number-released`, and nothing is
+/// kept of it; a kept number is told its reply again, or `number-reused` where the ask is another;
+/// a new one is decided and kept, a refusal too. Errors: the store's faults, and refused memory as
+/// `Memory`; nothing is changed then.
 pub fn handle<S: JobStore>(
     alloc: Global,
     store: &mut S,
     client: &Name,
     number: u64,
     ask: &[u8],
-    request: &Request,
+    call: &Call,
 ) -> Result<Kept, StoreFault>
     requires least { 1 ≤ number }
     requires most { number < 10 ^ 18 }
-    requires ranged { IsRequest request.now }
+    requires ranged { IsCall call.now }
     ensures handled { Handles (S.state store.old) (S.state store.new)
         (record {
           client = client.now;
           number = number;
           ask = ask.now;
-          request = request.now;
+          request = call.now;
         }) result }
     // A law of the plain machine, whatever is answered: a command that it hands out is the next.
     ensures next { (c : Contents) → (S.state store.old).holds c
-        → HandsOutNext c.facts (step c.facts client.now request.now).1 }
-    ensures cause { HasCause (S.state store.new) result }
+        → HandsOutNext c.facts (reply_by c.facts c.marks client.now number call.now) }
+    ensures faults { CountsFaults (S.state store.old) (S.state store.new) result }
 {
+    let mark = store.mark(client)?;
+    if number <= mark {
+        return Ok(told_of(alloc, &Reply::NumberReleased { mark })?);
+    }
     if let Some(kept) = store.kept(client, number)? {
         return Ok(again(alloc, ask, kept)?);
     }
     // The entry owes that the client is a name.
     let _ = client.bytes();
-    let (reply, change) = decide(alloc, store, client, request)?;
-    settle(alloc, store, client, number, ask, &reply, &change)
+    let (reply, effect) = decide_call(alloc, store, client, number, call, mark)?;
+    settle(alloc, store, client, number, ask, &reply, &effect)
 }
 
 /// Handles arrivals in order. It takes the memory of its result first, and fails only where that is
@@ -117,39 +116,6 @@ fn again(alloc: Global, ask: &[u8], kept: KeptReply) -> Result<Kept, AllocError>
     if first.as_slice() == ask {
         return Ok(Kept { status, body });
     }
-    let reply = Reply::Refused {
-        refusal: Refusal::NumberReused,
-    };
-    let body = body_of(alloc, &reply)?;
-    Ok(Kept {
-        status: status_of(&reply),
-        body,
-    })
-}
-
-// Keeps the reply of a new number, and makes its change.
-fn settle<S: JobStore>(
-    alloc: Global,
-    store: &mut S,
-    client: &Name,
-    number: u64,
-    ask: &[u8],
-    reply: &Reply,
-    change: &Change<'_>,
-) -> Result<Kept, StoreFault>
-    ensures commits { Commits (S.state store.old) (S.state store.new) (done result) change.now
-        (record {
-          client = client.now;
-          number = number;
-          ask = ask.now;
-          status = status_of reply.now;
-          body = body_of reply.now;
-        }) }
-    ensures value { IfOk result (λ k. told k ≡ told_of reply.now) }
-    ensures cause { HasCause (S.state store.new) result }
-{
-    let status = status_of(reply);
-    let body = body_of(alloc, reply)?;
-    store.commit(client, number, ask, status, body.as_slice(), change)?;
-    Ok(Kept { status, body })
+    let refusal = Refusal::NumberReused;
+    told_of(alloc, &Reply::Refused { refusal })
 }

@@ -1,0 +1,61 @@
+//! What a new number is answered, and what it does to the store.
+ghost use Rattle.std.specs.Prelude.{◌≡◌, ◌≤◌, ℕ, List};
+ghost use Rattle.job_core.specs.Contents.{Contents, mark_of};
+ghost use Rattle.job_core.specs.Requests.{IsCall};
+ghost use Rattle.job_core.specs.Store.{CountsFaults, Reads, Stays};
+ghost use Rattle.job_core.specs.declared.request.Call.TheVariants as call;
+ghost use Rattle.reply_store.specs.Effects.{Decided};
+
+use job_core::{Call, Change, JobStore, Refusal, Reply, StoreFault, decide};
+use std::alloc::Global;
+use store_data::Name;
+
+/// What a new number does to the store.
+#[derive(Clone, Copy)]
+pub(crate) enum Effect<'a> {
+    /// A change of the facts.
+    Changes { change: Change<'a> },
+    /// A new mark of its client, which drops what is kept up to it.
+    Marks { upto: u64 },
+}
+
+/// What a new number's call is answered, and its effect, by its client's mark. The store is only
+/// read.
+pub(crate) fn decide_call<'a, S: JobStore>(
+    alloc: Global,
+    store: &mut S,
+    client: &Name,
+    number: u64,
+    call: &'a Call,
+    mark: u64,
+) -> Result<(Reply, Effect<'a>), StoreFault>
+    requires { IsCall call.now }
+    ensures stays { Stays (S.state store.old) (S.state store.new) }
+    ensures value { Reads (S.state store.old) (S.state store.new) result
+        (λ c answer. mark ≡ mark_of c.marks client.now
+        → Decided c client.now number call.now answer.0 answer.1) }
+    ensures faults { CountsFaults (S.state store.old) (S.state store.new) result }
+{
+    match call {
+        Call::Job { request } => {
+            let (reply, change) = decide(alloc, store, client, request)?;
+            Ok((reply, Effect::Changes { change }))
+        }
+        Call::Release { upto } => Ok(release(number, *upto, mark)),
+    }
+}
+
+// A release: its client's mark never falls.
+fn release(number: u64, upto: u64, mark: u64) -> (Reply, Effect<'static>)
+    requires { 1 ≤ upto }
+    ensures { (c : Contents) (client : List ℕ) → mark ≡ mark_of c.marks client
+        → Decided c client number (call.Release upto) result.0 result.1 }
+{
+    if upto >= number {
+        let refusal = Refusal::ReleaseTooFar;
+        let change = Change::Nothing;
+        return (Reply::Refused { refusal }, Effect::Changes { change });
+    }
+    let mark = if mark < upto { upto } else { mark };
+    (Reply::Released { mark }, Effect::Marks { upto: mark })
+}

@@ -1,0 +1,87 @@
+//! How what was decided of a new number is kept.
+ghost use Rattle.std.specs.Prelude.{◌≡◌, IfOk};
+ghost use Rattle.arrivals.specs.Told.{body_of, status_of, told, told_of};
+ghost use Rattle.job_core.specs.Contents.{Entry};
+ghost use Rattle.job_core.specs.Store.{Commits, CountsFaults};
+ghost use Rattle.reply_store.specs.Effects.{IsOwedBy, after_effect, done};
+
+use crate::deciding::Effect;
+use arrivals::{Kept, body_of, status_of};
+use job_core::{JobStore, Reply, StoreFault};
+use std::alloc::{AllocError, Global};
+use store_data::Name;
+
+/// What is told of a reply.
+pub(crate) fn told_of(alloc: Global, reply: &Reply) -> Result<Kept, AllocError>
+    ensures status { IfOk result (λ k. k.status ≡ status_of reply.now) }
+    ensures body { IfOk result (λ k. k.body ≡ body_of reply.now) }
+    ensures told { IfOk result (λ k. told k ≡ told_of reply.now) }
+{
+    Ok(Kept {
+        status: status_of(reply),
+        body: body_of(alloc, reply)?,
+    })
+}
+
+/// Keeps the reply of a new number with its effect.
+pub(crate) fn settle<S: JobStore>(
+    alloc: Global,
+    store: &mut S,
+    client: &Name,
+    number: u64,
+    ask: &[u8],
+    reply: &Reply,
+    effect: &Effect<'_>,
+) -> Result<Kept, StoreFault>
+    ensures commits {
+        let entry : Entry = record {
+          client = client.now;
+          number = number;
+          ask = ask.now;
+          status = status_of reply.now;
+          body = body_of reply.now;
+        } in
+        Commits (S.state store.old) (S.state store.new) (done result) (IsOwedBy effect.now entry)
+        (after_effect effect.now entry) }
+    ensures value { IfOk result (λ k. told k ≡ told_of reply.now) }
+    ensures faults { CountsFaults (S.state store.old) (S.state store.new) result }
+{
+    let kept = told_of(alloc, reply)?;
+    put(
+        store,
+        client,
+        number,
+        ask,
+        kept.status,
+        kept.body.as_slice(),
+        effect,
+    )?;
+    Ok(kept)
+}
+
+fn put<S: JobStore>(
+    store: &mut S,
+    client: &Name,
+    number: u64,
+    ask: &[u8],
+    status: u16,
+    body: &[u8],
+    effect: &Effect<'_>,
+) -> Result<(), StoreFault>
+    ensures commits {
+        let entry : Entry = record {
+          client = client.now;
+          number = number;
+          ask = ask.now;
+          status = status;
+          body = body.now;
+        } in
+        Commits (S.state store.old) (S.state store.new) result (IsOwedBy effect.now entry)
+        (after_effect effect.now entry) }
+    ensures faults { CountsFaults (S.state store.old) (S.state store.new) result }
+{
+    match effect {
+        Effect::Changes { change } => store.commit(client, number, ask, status, body, change),
+        Effect::Marks { upto } => store.release(client, number, ask, status, body, *upto),
+    }
+}
