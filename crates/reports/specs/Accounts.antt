@@ -7,7 +7,7 @@ use Rattle.job_core.specs.Accounts.{batch_totals, blank_totals}
 use Rattle.job_core.specs.Facts.{Facts}
 use Rattle.job_core.specs.Rows.{batch_row_of}
 use Rattle.job_core.specs.States.{product_named}
-use Rattle.reply_store.specs.Values.{flag_text}
+use Rattle.arrivals.specs.Values.{flag_text}
 
 -- names stand as they are, since none of their characters needs an escape
 unfoldable pub batch_text : List ℕ → BatchRow → BatchTotals → List ℕ

@@ -4,10 +4,9 @@ use Rattle.std.specs.List.{flat_map, repeat}
 use Rattle.job_core.specs.declared.rows.BatchRow.{BatchRow}
 use Rattle.job_core.specs.declared.rows.BatchTotals.{BatchTotals}
 use Rattle.job_core.specs.declared.rows.RecordLine.{RecordLine}
-use Rattle.job_core.specs.Accounts.{batch_totals, record_line}
+use Rattle.job_core.specs.Accounts.{batch_totals, record_lines}
 use Rattle.job_core.specs.Facts.{Facts}
 use Rattle.job_core.specs.Rows.{batch_row_of}
-use Rattle.job_core.specs.States.{records_named}
 use Rattle.reports.specs.Names.{closed_name, state_name}
 
 -- the text, with spaces after it up to this many places
@@ -50,4 +49,4 @@ text_with b row lines totals = head_text b row ++ flat_map record_text lines ++ 
 
 -- the report of the batch with this name, if there is one
 abbrev pub report_text : Facts → List ℕ → Option (List ℕ)
-report_text f b = option_map (λ row. text_with b row (map (record_line f b) (records_named f b)) (batch_totals f b)) (batch_row_of f b)
+report_text f b = option_map (λ row. text_with b row (record_lines f b) (batch_totals f b)) (batch_row_of f b)

@@ -2,8 +2,9 @@
 use Rattle.std.specs.Prelude.{◌≡◌, ℕ, List, Option, Some, None, Result, Ok, Err, ⊤}
 use Rattle.std.specs.Io.KnownBytes.{Appends, Keeps}
 use Rattle.job_core.specs.declared.refusal.Refusal.{Refusal}
+use Rattle.job_core.specs.declared.store.StoreFault.{StoreFault}
 use Rattle.job_core.specs.Contents.{Contents}
-use Rattle.job_core.specs.Store.{CountsFaults, IsHonest, State}
+use Rattle.job_core.specs.Store.{IsHonest, State}
 use Rattle.reports.specs.declared.fault.AccountFault.{AccountFault}
 use Rattle.reports.specs.declared.fault.AccountFault.TheVariants.{Refused, Store, Write}
 use Rattle.text_io.specs.Written.{AppendsBeginning}
@@ -19,12 +20,19 @@ IsTold why text (Err Write) = ⊥
 abbrev pub TellsText : State → State → Refusal → (Contents → Option (List ℕ)) → Result (List ℕ) AccountFault → Type 0
 TellsText old new why text_of result = IsHonest new → (c : Contents) → old.holds c → IsTold why (text_of c) result
 
--- what isn't told: another refusal, a fault of a device that didn't fail, or a failed write
-abbrev pub HasFaultCause : Refusal → State → Result (List ℕ) AccountFault → Type 0
-HasFaultCause why new (Ok told) = ⊤
-HasFaultCause why new (Err (Refused refusal)) = refusal ≡ why
-HasFaultCause why new (Err (Store fault)) = HasCause {T = Unit {0}} new (Err fault)
-HasFaultCause why new (Err Write) = ⊥
+-- what isn't told: another refusal, or a failed write
+abbrev pub MayTell : Refusal → Result (List ℕ) AccountFault → Type 0
+MayTell why (Ok told) = ⊤
+MayTell why (Err (Refused refusal)) = refusal ≡ why
+MayTell why (Err (Store fault)) = ⊤
+MayTell why (Err Write) = ⊥
+
+-- whether the store answered
+abbrev pub store_answer : {T : Type 0} → Result T AccountFault → Result (Unit {0}) StoreFault
+store_answer (Ok x) = Ok tt
+store_answer (Err (Refused refusal)) = Ok tt
+store_answer (Err (Store fault)) = Err fault
+store_answer (Err Write) = Ok tt
 
 -- ---- what is written
 
@@ -46,9 +54,9 @@ KeepsUntold before after (Err (Refused refusal)) = Keeps before after
 KeepsUntold before after (Err (Store fault)) = Keeps before after
 KeepsUntold before after (Err Write) = (told : List ℕ) × Appends before after told
 
--- the same of a report, whose write may fail
-abbrev pub HasReportCause : Refusal → State → Result (Unit {0}) AccountFault → Type 0
-HasReportCause why new (Ok u) = ⊤
-HasReportCause why new (Err (Refused refusal)) = refusal ≡ why
-HasReportCause why new (Err (Store fault)) = HasCause {T = Unit {0}} new (Err fault)
-HasReportCause why new (Err Write) = ⊤
+-- a report tells no other refusal; its write may fail
+abbrev pub MayReport : Refusal → Result (Unit {0}) AccountFault → Type 0
+MayReport why (Ok u) = ⊤
+MayReport why (Err (Refused refusal)) = refusal ≡ why
+MayReport why (Err (Store fault)) = ⊤
+MayReport why (Err Write) = ⊤

@@ -4,7 +4,7 @@ use Rattle.serde_json.specs.Data.{Data, boolean, string, object, member, no_memb
 use Rattle.job_core.specs.declared.rows.BatchRow.{BatchRow}
 use Rattle.job_core.specs.declared.rows.BatchTotals.{BatchTotals}
 use Rattle.job_core.specs.declared.rows.BlankTotals.{BlankTotals}
-use Rattle.reply_store.specs.Values.{num}
+use Rattle.arrivals.specs.Values.{num}
 use Rattle.reports.specs.Accounts.{charged, free}
 
 abbrev pub batch_value : List ℕ → BatchRow → BatchTotals → Data

@@ -6,7 +6,7 @@ ghost use Rattle.reports.specs.Accounts.{batch_text, blank_text, charged};
 ghost use Rattle.reports.specs.Values.{batch_value, blank_value};
 
 use job_core::{BatchRow, BatchTotals, BlankTotals};
-use reply_store::name_text;
+use arrivals::name_text;
 use serde_json::{Value, json};
 use std::alloc::{AllocError, Global};
 use store_data::{Bytes, Name};

@@ -2,17 +2,15 @@
 //! profile).
 #![tactic(auto)]
 
-ghost use Rattle.std.specs.Prelude.{◌≡◌, map, take};
-ghost use Rattle.job_core.specs.Accounts.{batch_totals, blank_totals, record_line};
-ghost use Rattle.job_core.specs.States.{records_named};
+ghost use Rattle.job_core.specs.Accounts.{batch_totals, blank_totals};
 ghost use Rattle.job_core.specs.Contents.{Contents};
-ghost use Rattle.job_core.specs.Store.{CountsFaults, Reads, Stays};
+ghost use Rattle.job_core.specs.Store.{CountsFaults, Stays};
 ghost use Rattle.job_core.specs.declared.refusal.Refusal.TheVariants.{BatchUnknown, ProductUnknown};
 ghost use Rattle.reports.specs.Accounts.{AreAllCounted, AreAllStanding, batch_account};
 ghost use Rattle.reports.specs.Accounts.{blank_account};
 ghost use Rattle.reports.specs.Report.{report_text};
-ghost use Rattle.reports.specs.Told.{HasFaultCause, HasReportCause, KeepsUntold, Reports};
-ghost use Rattle.reports.specs.Told.{TellsText};
+ghost use Rattle.reports.specs.Told.{KeepsUntold, MayReport, MayTell, Reports};
+ghost use Rattle.reports.specs.Told.{TellsText, store_answer};
 
 mod accounts;
 mod fault;
@@ -21,7 +19,7 @@ mod report;
 
 use accounts::{batch_text, blank_text};
 pub use fault::AccountFault;
-use job_core::{JobStore, RecordLine, Refusal, StoreFault};
+use job_core::{JobStore, Refusal};
 use report::report_text;
 use std::alloc::Global;
 use std::io::Write;
@@ -41,7 +39,8 @@ pub fn batch_counts<S: JobStore>(
     ensures tells { TellsText (S.state store.old) (S.state store.new) BatchUnknown
         (λ c. batch_account c.facts batch.now) result }
     ensures all { (c : Contents) → AreAllStanding (batch_totals c.facts batch.now) }
-    ensures cause { HasFaultCause BatchUnknown (S.state store.new) result }
+    ensures cause { MayTell BatchUnknown result }
+    ensures faults { CountsFaults (S.state store.old) (S.state store.new) (store_answer result) }
 {
     let Some(row) = store.batch(batch)? else {
         return Err(AccountFault::Refused(Refusal::BatchUnknown));
@@ -62,7 +61,8 @@ pub fn blank_counts<S: JobStore>(
         (λ c. blank_account c.facts product.now) result }
     ensures all { (c : Contents) → (S.state store.old).holds c
         → AreAllCounted (blank_totals c.facts product.now) }
-    ensures cause { HasFaultCause ProductUnknown (S.state store.new) result }
+    ensures cause { MayTell ProductUnknown result }
+    ensures faults { CountsFaults (S.state store.old) (S.state store.new) (store_answer result) }
 {
     let Some(_) = store.product(product)? else {
         return Err(AccountFault::Refused(Refusal::ProductUnknown));
@@ -85,7 +85,8 @@ pub fn close_report<S: JobStore, W: Write>(
         (λ c. report_text c.facts batch.now)
         (W.contents writer.old) (W.contents writer.new) result }
     ensures untold { KeepsUntold (W.contents writer.old) (W.contents writer.new) result }
-    ensures cause { HasReportCause BatchUnknown (S.state store.new) result }
+    ensures cause { MayReport BatchUnknown result }
+    ensures faults { CountsFaults (S.state store.old) (S.state store.new) (store_answer result) }
 {
     let text = report_of(alloc, store, batch)?;
     write_text(writer, text.as_slice())?;
@@ -97,35 +98,14 @@ fn report_of<S: JobStore>(alloc: Global, store: &mut S, batch: &Name) -> Result<
     ensures stays { Stays (S.state store.old) (S.state store.new) }
     ensures tells { TellsText (S.state store.old) (S.state store.new) BatchUnknown
         (λ c. report_text c.facts batch.now) result }
-    ensures cause { HasFaultCause BatchUnknown (S.state store.new) result }
+    ensures cause { MayTell BatchUnknown result }
+    ensures faults { CountsFaults (S.state store.old) (S.state store.new) (store_answer result) }
 {
     let Some(row) = store.batch(batch)? else {
         return Err(AccountFault::Refused(Refusal::BatchUnknown));
     };
-    let lines = record_lines(alloc, store, batch, row.records)?;
+    let lines = store.record_lines(batch)?;
     let totals = store.batch_totals(batch)?;
     let text = report_text(alloc, batch, &row, lines.as_slice(), &totals)?;
     Ok(Bytes::from_vec(text.into_bytes()))
-}
-
-// How the first records of a batch stand, in file order.
-fn record_lines<S: JobStore>(
-    alloc: Global,
-    store: &mut S,
-    batch: &Name,
-    count: u32,
-) -> Result<Vec<RecordLine>, StoreFault>
-    ensures stays { Stays (S.state store.old) (S.state store.new) }
-    ensures value { Reads (S.state store.old) (S.state store.new) result
-        (λ c lines. lines.items
-        ≡ map (record_line c.facts batch.now) (take count (records_named c.facts batch.now))) }
-    ensures cause { HasCause (S.state store.new) result }
-{
-    let mut lines = Vec::new(alloc);
-    for place in 0..count {
-        if let Some(line) = store.record_line(batch, place)? {
-            lines.push(line)?;
-        }
-    }
-    Ok(lines)
 }

@@ -7,7 +7,7 @@ use Rattle.std.proofs.lemmas.List.Elements.{All-push, All-nil}
 use Rattle.std.proofs.lemmas.Option.{none-some, same_Some}
 use Rattle.job_core.specs.Contents.{Contents}
 use Rattle.job_core.specs.Store.{State, IsHonest}
-use Rattle.reply_store.specs.Meaning.{contents_after}
+use Rattle.arrivals.specs.Meaning.{contents_after}
 use Rattle.reply_store.specs.Runs.{Tried, arrived, decided, AreLeftInTurn, Leaves}
 use Rattle.asks.specs.declared.ask.Asked.TheVariants as asked
 use Rattle.heads.specs.Messages.{Tells}

@@ -6,7 +6,7 @@ use Rattle.job_core.specs.declared.store.StoreFault.TheVariants.{Memory}
 use Rattle.job_core.specs.Contents.{Contents}
 use Rattle.job_core.specs.Store.{State, Stays}
 use Rattle.reply_store.specs.Handled.{Handles}
-use Rattle.reply_store.specs.Meaning.{Arrived}
+use Rattle.arrivals.specs.Meaning.{Arrived}
 use Rattle.reply_store.specs.Runs.{arrived}
 use Rattle.asks.specs.declared.ask.Asked.TheVariants as asked
 use Rattle.heads.specs.declared.fixed.FixedReply.TheVariants.{Storage}

@@ -5,9 +5,9 @@ use Rattle.job_core.specs.declared.store.StoreFault.{StoreFault}
 use Rattle.job_core.specs.Steps.{step}
 use Rattle.job_core.specs.Contents.{Contents, no_contents}
 use Rattle.job_core.specs.Store.{State, IsHonest, Stays}
-use Rattle.reply_store.specs.declared.Kept.{Kept}
-use Rattle.reply_store.specs.Meaning.{contents_after}
-use Rattle.reply_store.specs.Commands.{HandsOutNext}
+use Rattle.arrivals.specs.declared.kept.Kept.{Kept}
+use Rattle.arrivals.specs.Meaning.{contents_after}
+use Rattle.arrivals.specs.Commands.{HandsOutNext}
 use Rattle.reply_store.specs.Handled.{Handles, IsFirst}
 use Rattle.reply_store.specs.Runs.{Tried, arrived, decided, Leaves}
 use Rattle.asks.specs.declared.ask.Asked.{Asked}

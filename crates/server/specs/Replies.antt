@@ -5,8 +5,8 @@ use Rattle.job_core.specs.declared.refusal.Refusal.TheVariants as rule
 use Rattle.job_core.specs.declared.reply.Reply.TheVariants as reply
 use Rattle.job_core.specs.Facts.{Facts}
 use Rattle.job_core.specs.Contents.{Contents}
-use Rattle.reply_store.specs.Told.{Told, told_of}
-use Rattle.reply_store.specs.Meaning.{contents_after, answer}
+use Rattle.arrivals.specs.Told.{Told, told_of}
+use Rattle.arrivals.specs.Meaning.{contents_after, answer}
 use Rattle.reply_store.specs.Runs.{arrived}
 use Rattle.reports.specs.Accounts.{batch_account, blank_account}
 use Rattle.reports.specs.Report.{report_text}

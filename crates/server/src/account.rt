@@ -4,7 +4,7 @@ ghost use Rattle.job_core.specs.Store.{Reads, Stays};
 ghost use Rattle.job_core.specs.declared.refusal.Refusal.TheVariants.{BatchUnknown};
 ghost use Rattle.reports.specs.Report.{report_text};
 ghost use Rattle.reports.specs.Told.{TellsText};
-ghost use Rattle.reply_store.specs.Told.{told_of};
+ghost use Rattle.arrivals.specs.Told.{told_of};
 ghost use Rattle.job_core.specs.declared.reply.Reply.TheVariants.{Refused};
 ghost use Rattle.server.specs.Replies.{account_kind, account_of, account_text, told_text};
 ghost use Rattle.server.specs.Replies.{unknown_of};

@@ -39,10 +39,10 @@ use Rattle.job_core.specs.declared.reply.Made.{Made}
 use Rattle.job_core.specs.declared.reply.Made.TheVariants.{Created, Known}
 use Rattle.job_core.specs.declared.reply.Reply.{Reply}
 use Rattle.job_core.specs.declared.reply.Reply.TheVariants.{Product, Lot, Import, Opened, Next, Good, Spoiled, Reset, Discarded, Waiting, Withdrawn, Closed, Refused, Busy, Faulty}
-use Rattle.reply_store.specs.Told.{body_of, made_name, status_of}
-use Rattle.reply_store.specs.Values.{ArePlain, IsPlain, value_of}
-use Rattle.reply_store.proofs.Escapes.{hex_plain, name_plain, plain_ascii}
-use Rattle.reply_store.proofs.Texts.{text_is_body}
+use Rattle.arrivals.specs.Told.{body_of, made_name, status_of}
+use Rattle.arrivals.specs.Values.{ArePlain, IsPlain, value_of}
+use Rattle.arrivals.proofs.Escapes.{hex_plain, name_plain, plain_ascii}
+use Rattle.arrivals.proofs.Texts.{text_is_body}
 use Rattle.store_data.specs.Name.{is_name}
 use Rattle.heads.specs.declared.reply.Content.TheVariants.{Json}
 use Rattle.wire.specs.ReplyReading.{HasNoBrace, reply_in}

@@ -5,8 +5,8 @@ use Rattle.serde_json.proofs.OnLiterals.{serde_json_on_literals}
 use Rattle.hex.specs.Hex.{IsBytes}
 use Rattle.job_core.specs.declared.request.Request.{Request}
 use Rattle.job_core.specs.declared.request.Request.TheVariants as request
-use Rattle.reply_store.specs.Values.{IsPlain}
-use Rattle.reply_store.proofs.Escapes.{escape_plain, hex_plain, name_plain}
+use Rattle.arrivals.specs.Values.{IsPlain}
+use Rattle.arrivals.proofs.Escapes.{escape_plain, hex_plain, name_plain}
 use Rattle.asks.specs.Asks.{import_tail}
 use Rattle.asks.specs.Posts.{post_with}
 use Rattle.wire.specs.Sending.{AreNames, IsSendable, body_of, sending_of, tail_of, value_of, word_text}

@@ -15,7 +15,7 @@ use Rattle.serde_json.proofs.Numbers.{number_of-decimal}
 use Rattle.store_data.specs.Name.{is_name, is_name_char}
 use Rattle.job_core.specs.declared.request.Request.{Request}
 use Rattle.job_core.specs.declared.request.Request.TheVariants as request
-use Rattle.reply_store.specs.Values.{flag_text}
+use Rattle.arrivals.specs.Values.{flag_text}
 use Rattle.text_io.specs.Inputs.{most_input}
 use Rattle.asks.specs.Members.{passing, name_at, text_at}
 use Rattle.asks.specs.Requests.{abort_in, answer_in, close_in, discard_in, flag_at, is_lot, is_within, is_word, lot_in, number_within, open_in, product_in, remake_in, request_by_word, request_in, request_of_value, withdraw_in, word_in, with_two, with_three, with_four}

@@ -4,7 +4,7 @@ use Rattle.hex.specs.Hex.{IsBytes}
 use Rattle.job_core.specs.Sound.{IsName}
 use Rattle.job_core.specs.declared.reply.Reply.{Reply}
 use Rattle.job_core.specs.declared.reply.Reply.TheVariants.{Product, Lot, Import, Opened, Next, Good, Spoiled, Reset, Discarded, Waiting, Withdrawn, Closed, Refused, Busy, Faulty}
-use Rattle.reply_store.specs.Told.{status_of, body_of}
+use Rattle.arrivals.specs.Told.{status_of, body_of}
 use Rattle.heads.specs.declared.reply.Content.TheVariants.{Json}
 use Rattle.heads.specs.Texts.{reply_text}
 

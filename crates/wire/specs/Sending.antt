@@ -2,7 +2,7 @@
 use Rattle.std.specs.Prelude.{◌≡◌, ◌≤◌, ◌<◌, ◌^◌, ◌/◌, ◌%◌, ℕ, List, [], ◌∷◌, ◌++◌, length, codes, decimal, Ok, ⊤}
 use Rattle.hex.specs.Hex.{encode_upper}
 use Rattle.serde_json.specs.Data.{Data, boolean, null, string, object, member, no_members}
-use Rattle.reply_store.specs.Values.{flag_text, num}
+use Rattle.arrivals.specs.Values.{flag_text, num}
 use Rattle.job_core.specs.Sound.{IsName}
 use Rattle.job_core.specs.Requests.{IsRequest}
 use Rattle.job_core.specs.declared.request.Request.{Request}

@@ -7,7 +7,7 @@ use Rattle.reports.proofs.report_of.Goals as goal
 pub returns-clause-tells : goal.returns-clause-tells
 returns-clause-tells g c = λ h k held.
     let state = g.S.JobStore.state in
-    let late : IsHonest (state c.record_lines.new.store) = omega (arith, c.batch_totals.ensures.stays.doubts, h) in
+    let late : IsHonest (state c.record_lines.new.self) = omega (arith, c.batch_totals.ensures.stays.doubts, h) in
     let early : IsHonest (state c.batch.new.self) = omega (arith, c.record_lines.ensures.stays.doubts, late) in
     let then = c.batch.ensures.stays.contents early k held in
     report_told k.facts c.args.batch.now c.in-Some.row c.in_ok-lines.lines.items c.in_ok-totals.totals c.from_vec.result

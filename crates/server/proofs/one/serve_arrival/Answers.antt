@@ -1,5 +1,5 @@
 use Rattle.std.proofs.Common.{Ok, refl, inl}
-use Rattle.reply_store.specs.Told.{told}
+use Rattle.arrivals.specs.Told.{told}
 use Rattle.server.proofs.one.serve_arrival.Goals as goal
 
 pub returns-in-Ok : goal.returns-in-Ok

@@ -1,6 +1,6 @@
 use Rattle.std.proofs.Common.{◌≡◌, ◌∙◌, None, Some, option_map, sym, ap}
 use Rattle.serde_json.specs.View.{view}
-use Rattle.reply_store.specs.Values.{value_of}
+use Rattle.arrivals.specs.Values.{value_of}
 use Rattle.wire.specs.ReplyReading.{reply_in}
 use Rattle.wire.proofs.ParseLemmas.{other_reply, reply_is_found, same_value, value_is_found}
 use Rattle.wire.proofs.parse.parse_reply.Goals as goal
