@@ -10,7 +10,8 @@ use Rattle.std.proofs.lemmas.Fmt.{decimal_is_IsNumeral, decimal_nonempty, first_
 use Rattle.std.proofs.lemmas.List.Folds.{list_all-append}
 use Rattle.matchit.specs.Seek.{has_slash}
 use Rattle.store_data.specs.Name.{is_name, is_name_char}
-use Rattle.job_core.specs.declared.request.Request.{Request}
+use Rattle.job_core.specs.declared.request.Call.{Call}
+use Rattle.job_core.specs.declared.request.Call.TheVariants as call
 use Rattle.job_core.specs.declared.request.Request.TheVariants as request
 use Rattle.text_io.specs.Inputs.{most_input}
 use Rattle.heads.specs.Messages.{Brings, IsHeardAs, MessageParts}
@@ -18,7 +19,7 @@ use Rattle.heads.specs.RequestHeads.{IsHeardBefore, IsTarget, is_visible, posted
 use Rattle.asks.specs.Asks.{arrival_of, ask_with, asked_at, asked_of, import_of, import_tail, is_number, name_in, number_in, or_malformed}
 use Rattle.asks.specs.Meant.{Means, meant_by}
 use Rattle.asks.specs.Posts.{post_with, posted_with, target_with}
-use Rattle.asks.specs.Requests.{request_in}
+use Rattle.asks.specs.Requests.{call_in}
 use Rattle.asks.specs.Routes.{Job, Import, has_no_empty, led, parts, route_by, route_in}
 use Rattle.asks.proofs.MeantLemmas.{meant_as}
 use Rattle.asks.proofs.RouteLemmas.{all_text, parts_last, parts_more, text_join, route_is}
@@ -170,16 +171,16 @@ tail_is_short b p batch product = simp length-append (omega (arith, name_is_shor
 -- ---- what it means
 
 pub job_means : (client : List ℕ) (number : ℕ) (body text : List ℕ) → IsTrue (is_name client) → 1 ≤ number → number < 10 ^ 18
-    → IsHeardAs text (Brings (posted (target_with client number []) body)) → Means text (posted_with client number [] body (request_in body))
+    → IsHeardAs text (Brings (posted (target_with client number []) body)) → Means text (posted_with client number [] body (call_in body))
 job_means client number body text name least most heard =
     let c : MessageParts = posted (target_with client number []) body in
     subst (λ r. Means text (meant_by r))
     (ap (λ o. asked_at o c) (job_route client number name (omega (arith, most)))
-    ∙ (λ i. or_malformed (arrival_of (name_is_read client name i) (number_is_read number least most i) (ask_with [] body) (request_in body))))
+    ∙ (λ i. or_malformed (arrival_of (name_is_read client name i) (number_is_read number least most i) (ask_with [] body) (call_in body))))
     (meant_as text (Brings c) heard)
 
 pub import_means : (client : List ℕ) (number : ℕ) (b p raw text : List ℕ) → IsTrue (is_name client) → IsTrue (is_name b) → IsTrue (is_name p) → 1 ≤ number → number < 10 ^ 18
-    → IsHeardAs text (Brings (posted (target_with client number (import_tail b p)) raw)) → Means text (posted_with client number (import_tail b p) raw (Some (request.Import b p raw)))
+    → IsHeardAs text (Brings (posted (target_with client number (import_tail b p)) raw)) → Means text (posted_with client number (import_tail b p) raw (Some (call.Job (request.Import b p raw))))
 import_means client number b p raw text name batch product least most heard =
     let c : MessageParts = posted (target_with client number (import_tail b p)) raw in
     subst (λ r. Means text (meant_by r))

@@ -4,7 +4,8 @@ use Rattle.std.specs.List.{list_all}
 use Rattle.std.specs.Char.{is_ascii_digit}
 use Rattle.std.specs.Str.Parse.{digits_value}
 use Rattle.store_data.specs.Name.{is_name}
-use Rattle.job_core.specs.declared.request.Request.{Request}
+use Rattle.job_core.specs.declared.request.Call.{Call}
+use Rattle.job_core.specs.declared.request.Call.TheVariants as call
 use Rattle.job_core.specs.declared.request.Request.TheVariants as request
 use Rattle.job_core.specs.Requests.{IsArrival}
 use Rattle.asks.specs.declared.ask.Asked.{Asked}
@@ -18,7 +19,7 @@ use Rattle.heads.specs.declared.reply.Method.{Method}
 use Rattle.heads.specs.declared.reply.Method.TheVariants.{Get, Post}
 use Rattle.heads.specs.Messages.{MessageParts}
 use Rattle.asks.specs.Members.{passing}
-use Rattle.asks.specs.Requests.{request_in}
+use Rattle.asks.specs.Requests.{call_in}
 use Rattle.asks.specs.Routes.{Route, Job, Import, Batch, Report, Blanks, method_of, route_in}
 
 -- ---- a number, and what a repeat has to have alike
@@ -47,19 +48,19 @@ method_text Post = codes "POST"
 abbrev pub name_in : List ℕ → Option (List ℕ)
 name_in text = passing is_name text
 
--- a request under a client's number, if these are such
-abbrev pub arrival_of : Option (List ℕ) → Option ℕ → List ℕ → Option Request → Option Asked
+-- a call under a client's number, if these are such
+abbrev pub arrival_of : Option (List ℕ) → Option ℕ → List ℕ → Option Call → Option Asked
 arrival_of (Some client) (Some number) ask (Some request) = Some (asked.Arrival (record { client = client; number = number; ask = ask; request = request }))
 arrival_of client number ask request = None
 
 -- an import has no JSON: its target and its body say it
-abbrev pub import_of : Option (List ℕ) → Option (List ℕ) → List ℕ → Option Request
-import_of (Some batch) (Some product) raw = Some (request.Import batch product raw)
+abbrev pub import_of : Option (List ℕ) → Option (List ℕ) → List ℕ → Option Call
+import_of (Some batch) (Some product) raw = Some (call.Job (request.Import batch product raw))
 import_of batch product raw = None
 
--- what a target and a body ask for, if the names and the number are such, and the JSON is a request
+-- what a target and a body ask for, if the names and the number are such, and the JSON is a call
 abbrev pub ask_in : Route → List ℕ → Option Asked
-ask_in (Job client number) body = arrival_of (name_in client) (number_in number) (ask_with [] body) (request_in body)
+ask_in (Job client number) body = arrival_of (name_in client) (number_in number) (ask_with [] body) (call_in body)
 ask_in (Import client number batch product) body =
     arrival_of (name_in client) (number_in number) (ask_with (import_tail batch product) body) (import_of (name_in batch) (name_in product) body)
 ask_in (Batch batch) body = option_map (λ (name : List ℕ). asked.Account (wanted.Batch name)) (name_in batch)
@@ -90,7 +91,7 @@ abbrev pub fault_text : AskFault → List ℕ
 fault_text (fault.Refused why) = codes "the message is refused"
 fault_text fault.Memory = codes "memory was refused"
 
--- its number and request are in their ranges
+-- its number and call are in their ranges
 abbrev pub IsInRange : Asked → Type 0
 IsInRange (asked.Arrival a) = IsArrival a
 IsInRange (asked.Account w) = ⊤

@@ -1,6 +1,6 @@
 -- The messages that clients post (this project's profile), and what they mean.
 use Rattle.std.specs.Prelude.{◌≡◌, ℕ, List, ◌++◌, length, codes, decimal, Option, Some}
-use Rattle.job_core.specs.declared.request.Request.{Request}
+use Rattle.job_core.specs.declared.request.Call.{Call}
 use Rattle.heads.specs.RequestHeads.{request_head}
 use Rattle.asks.specs.Asks.{arrival_of, ask_with, or_malformed}
 use Rattle.asks.specs.Meant.{Meant, meant_by}
@@ -13,6 +13,6 @@ target_with client number tail = codes "/c/" ++ client ++ codes "/" ++ decimal n
 abbrev pub post_with : List ℕ → ℕ → List ℕ → List ℕ → List ℕ
 post_with client number tail body = request_head (target_with client number tail) (length body) ++ body
 
--- a request under a client's number, if the body is one
-abbrev pub posted_with : List ℕ → ℕ → List ℕ → List ℕ → Option Request → Meant
-posted_with client number tail body request = meant_by (or_malformed (arrival_of (Some client) (Some number) (ask_with tail body) request))
+-- a call under a client's number, if the body is one
+abbrev pub posted_with : List ℕ → ℕ → List ℕ → List ℕ → Option Call → Meant
+posted_with client number tail body call = meant_by (or_malformed (arrival_of (Some client) (Some number) (ask_with tail body) call))

@@ -6,6 +6,8 @@ use Rattle.std.specs.Str.Parse.{digits_value}
 use Rattle.serde_json.specs.Data.{Data, Members, no_members, member}
 use Rattle.serde_json.specs.Find.{get, as_bool, as_object}
 use Rattle.job_core.specs.declared.facts.Lot.{Lot}
+use Rattle.job_core.specs.declared.request.Call.{Call}
+use Rattle.job_core.specs.declared.request.Call.TheVariants.{Job, Release}
 use Rattle.job_core.specs.declared.request.Request.{Request}
 use Rattle.job_core.specs.declared.request.Request.TheVariants as request
 use Rattle.asks.specs.Members.{passing, name_at, number_at, text_at, value_in}
@@ -110,9 +112,20 @@ request_by_word word count d =
     else if bytes_eq word (codes "close") && (count == 2) then close_in d
     else None
 
-unfoldable pub request_of_value : Data → Option Request
-request_of_value d = option_and_then (λ word. option_and_then (λ count. request_by_word word count d) (count_in d)) (text_at (codes "do") d)
+-- ---- calls
 
--- the request of a body
-unfoldable pub request_in : List ℕ → Option Request
-request_in body = option_and_then request_of_value (value_in body)
+-- the numbers that a client gives up
+unfoldable pub release_in : Data → Option Call
+release_in d = option_map Release (number_within 1 (10 ^ 18 - 1) (codes "upto") d)
+
+unfoldable pub call_by_word : List ℕ → ℕ → Data → Option Call
+call_by_word word count d =
+    if bytes_eq word (codes "release") && (count == 2) then release_in d
+    else option_map Job (request_by_word word count d)
+
+unfoldable pub call_of_value : Data → Option Call
+call_of_value d = option_and_then (λ word. option_and_then (λ count. call_by_word word count d) (count_in d)) (text_at (codes "do") d)
+
+-- the call of a body
+unfoldable pub call_in : List ℕ → Option Call
+call_in body = option_and_then call_of_value (value_in body)

@@ -13,10 +13,10 @@ ghost use Rattle.asks.specs.RouterRows.{shown};
 ghost use Rattle.asks.specs.Routes.{Import, Job};
 ghost use Rattle.heads.specs.declared.fixed.FixedReply.TheVariants.{Malformed};
 
-use crate::request::request_of;
+use crate::request::call_of;
 use crate::route::{Route, route_of};
 use heads::{FixedReply, Message, Method};
-use job_core::{Arrival, Request};
+use job_core::{Arrival, Call, Request};
 use std::alloc::{AllocError, Global};
 use std::error::Error;
 use std::fmt;
@@ -42,7 +42,7 @@ pub enum Wanted {
 /// What a message asks for.
 #[derive(Drop)]
 pub enum Asked {
-    /// A request under its client's number.
+    /// A call under its client's number.
     Arrival(Arrival),
     /// An account, which changes nothing.
     Account(Wanted),
@@ -141,14 +141,14 @@ fn ask_in(alloc: Global, route: Route<'_>, body: Bytes) -> Result<Asked, AskFaul
     }
 }
 
-// A request in JSON, under a client's number.
+// A call in JSON, under a client's number.
 fn job(alloc: Global, client: &[u8], number: &[u8], body: Bytes) -> Result<Asked, AskFault>
     ensures asked { IsAsked (or_malformed (ask_in (Job client.now number.now) body)) result }
     ensures ranged { IfOk result IsInRange }
 {
     let client = name_in(client)?;
     let number = number_in(number).ok_or(FixedReply::Malformed)?;
-    let request = request_of(alloc, body.as_slice())?.ok_or(FixedReply::Malformed)?;
+    let request = call_of(alloc, body.as_slice())?.ok_or(FixedReply::Malformed)?;
     let ask = job_ask(alloc, body.as_slice())?;
     Ok(Asked::Arrival(Arrival {
         client,
@@ -181,6 +181,7 @@ fn import(
         product,
         raw: body,
     };
+    let request = Call::Job { request };
     Ok(Asked::Arrival(Arrival {
         client,
         number,

@@ -2,6 +2,7 @@
 ghost use Rattle.std.specs.Prelude.{◌≡◌, ◌<◌, ◌≤◌, ◌^◌, [], IfOk, OnOk, Some, length, true};
 ghost use Rattle.std.specs.List.{list_all};
 ghost use Rattle.job_core.specs.Sound.{IsName};
+ghost use Rattle.job_core.specs.declared.request.Call.TheVariants.{Job};
 ghost use Rattle.job_core.specs.declared.request.Request.TheVariants as request;
 ghost use Rattle.text_io.specs.Inputs.{most_input};
 ghost use Rattle.heads.specs.Messages.{Brings, IsHeardAs};
@@ -9,7 +10,7 @@ ghost use Rattle.heads.specs.RequestHeads.{is_visible, posted};
 ghost use Rattle.asks.specs.Asks.{import_tail};
 ghost use Rattle.asks.specs.Meant.{Means};
 ghost use Rattle.asks.specs.Posts.{post_with, posted_with, target_with};
-ghost use Rattle.asks.specs.Requests.{request_in};
+ghost use Rattle.asks.specs.Requests.{call_in};
 
 use crate::ask::push_import_tail;
 use heads::push_request_head;
@@ -20,7 +21,7 @@ use store_data::{Bytes, Name};
 /// Room for a head: a target with three names and a number of 18 digits, and the lines around it.
 const MOST_HEAD: usize = 256;
 
-/// The message that posts a body under a client's number, 1 to 999,999,999,999,999,999, and what it means: the request that the
+/// The message that posts a body under a client's number, 1 to 999,999,999,999,999,999, and what it means: the call that the
 /// body is in JSON. It fails only where memory is refused.
 pub fn job_text(alloc: Global, client: &Name, number: u64, body: &[u8]) -> Result<Bytes, AllocError>
     requires least { 1 ≤ number }
@@ -28,7 +29,7 @@ pub fn job_text(alloc: Global, client: &Name, number: u64, body: &[u8]) -> Resul
     ensures text { IfOk result (λ text. text ≡ post_with client.now number [] body.now) }
     ensures means { length body.now ≤ most_input
         → IfOk result (λ text. Means text
-        (posted_with client.now number [] body.now (request_in body.now))) }
+        (posted_with client.now number [] body.now (call_in body.now))) }
 {
     text_with(alloc, client, number, b"", body)
 }
@@ -50,7 +51,7 @@ pub fn import_text(
     ensures means { length raw.now ≤ most_input
         → IfOk result (λ text. Means text
         (posted_with client.now number (import_tail batch.now product.now) raw.now
-        (Some (request.Import batch.now product.now raw.now)))) }
+        (Some (Job (request.Import batch.now product.now raw.now))))) }
 {
     let mut tail = Vec::new(alloc);
     push_import_tail(&mut tail, batch, product)?;

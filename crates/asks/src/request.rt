@@ -4,45 +4,67 @@ ghost use Rattle.std.specs.Char.{is_ascii_hexdigit};
 ghost use Rattle.std.specs.List.{list_all};
 ghost use Rattle.std.specs.Str.Parse.{digits_value};
 ghost use Rattle.store_data.specs.Name.{is_name};
-ghost use Rattle.job_core.specs.Requests.{IsRequest};
+ghost use Rattle.job_core.specs.Requests.{IsCall, IsRequest};
 ghost use Rattle.serde_json.specs.View.{view};
 ghost use Rattle.asks.specs.Members.{passing};
-ghost use Rattle.asks.specs.Requests.{abort_in, answer_in, close_in, count_in, discard_in, flag_at};
+ghost use Rattle.asks.specs.Requests.{abort_in, answer_in, call_by_word, call_in, call_of_value};
+ghost use Rattle.asks.specs.Requests.{close_in, count_in, discard_in, flag_at, release_in};
 ghost use Rattle.asks.specs.Requests.{is_word, lot_in, number_within, open_in, product_in};
-ghost use Rattle.asks.specs.Requests.{remake_in, request_by_word, request_in, request_of_value};
+ghost use Rattle.asks.specs.Requests.{remake_in, request_by_word};
 ghost use Rattle.asks.specs.Requests.{serial_at, session_in, withdraw_in, word_in};
 
 use crate::members::{name_at, number_at, text_at, value_in};
-use job_core::{Lot, Request};
+use job_core::{Call, Lot, Request};
 use serde_json::Value;
 use std::alloc::{AllocError, Global};
 use store_data::Product;
 
-/// The largest serial, and the largest session (this project's profile).
+/// The largest serial, session and number (this project's profile).
 const MOST_SERIAL: u64 = 999_999_999_999_999_999;
 
-/// The request that a body is, if it is one (this project's profile). It fails only where memory is refused.
-#[tactic(auto, unfolding(crate::specs::Requests::request_in))]
-pub(crate) fn request_of(alloc: Global, body: &[u8]) -> Result<Option<Request>, AllocError>
-    ensures value { IfOk result (λ r. r ≡ request_in body.now) }
-    ensures ranged { IfOk result (λ r. IfSome r IsRequest) }
+/// The call that a body is, if it is one (this project's profile). It fails only where memory is refused.
+#[tactic(auto, unfolding(crate::specs::Requests::call_in))]
+pub(crate) fn call_of(alloc: Global, body: &[u8]) -> Result<Option<Call>, AllocError>
+    ensures value { IfOk result (λ r. r ≡ call_in body.now) }
+    ensures ranged { IfOk result (λ r. IfSome r IsCall) }
 {
     match value_in(alloc, body)? {
-        Some(value) => Ok(request_of_value(&value)),
+        Some(value) => Ok(call_of_value(&value)),
         None => Ok(None),
     }
 }
 
-// ---- requests, each by its members
+// ---- calls, each by its members
 
-#[tactic(auto, unfolding(crate::specs::Requests::request_of_value))]
-fn request_of_value(value: &Value) -> Option<Request>
-    ensures value { result ≡ request_of_value (view value.now) }
-    ensures ranged { IfSome result IsRequest }
+#[tactic(auto, unfolding(crate::specs::Requests::call_of_value))]
+fn call_of_value(value: &Value) -> Option<Call>
+    ensures value { result ≡ call_of_value (view value.now) }
+    ensures ranged { IfSome result IsCall }
 {
     let word = text_at(value, "do")?;
     let count = count_in(value)?;
-    request_by_word(word, count, value)
+    call_by_word(word, count, value)
+}
+
+#[tactic(auto, unfolding(crate::specs::Requests::call_by_word))]
+fn call_by_word(word: &str, count: usize, value: &Value) -> Option<Call>
+    ensures value { result ≡ call_by_word word.now count (view value.now) }
+    ensures ranged { IfSome result IsCall }
+{
+    if word == "release" && count == 2 {
+        return release_in(value);
+    }
+    let request = request_by_word(word, count, value)?;
+    Some(Call::Job { request })
+}
+
+#[tactic(auto, unfolding(crate::specs::Requests::release_in))]
+fn release_in(value: &Value) -> Option<Call>
+    ensures value { result ≡ release_in (view value.now) }
+    ensures ranged { IfSome result IsCall }
+{
+    let upto = number_within(value, "upto", 1, MOST_SERIAL)?;
+    Some(Call::Release { upto })
 }
 
 // By the word of `do`, and by the count of the members, which leaves no room for a further one.
