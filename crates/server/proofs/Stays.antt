@@ -19,13 +19,12 @@ use Rattle.server.specs.Exchanges.{Does, Exchange, IsNext, Serves}
 use Rattle.server.specs.Serving.{MayServe}
 
 pub stays_same : (s : State) → Stays s s
-stays_same s = record { doubts = omega arith; faults = omega arith; contents = λ h c held. held; crash = λ h d left. left }
+stays_same s = record { doubts = omega arith; contents = λ h c held. held; crash = λ h d left. left }
 
 -- an arrival that the store failed
 handles_stays : (old new : State) (a : Arrived) (fault : StoreFault) → Stays old new → Handles old new a (Err fault)
 handles_stays old new a fault stays = record {
   doubts = stays.doubts;
-  faults = stays.faults;
   told_is = λ h c held. tt;
   ok = tt;
   err = stays.contents;

@@ -2,11 +2,10 @@
 use Rattle.std.specs.Prelude.{◌≡◌, ◌⊎◌, ℕ, Bool, true, false, All, List, [], ◌∷◌, ◌++◌, map, take, drop, slice_get, Option, Some, IfSome, unwrap_or, Result, is_ok, ⊤}
 use Rattle.std.specs.List.{flat_map}
 use Rattle.job_core.specs.declared.store.StoreFault.{StoreFault}
-use Rattle.job_core.specs.Steps.{step}
 use Rattle.job_core.specs.Contents.{Contents, no_contents}
 use Rattle.job_core.specs.Store.{State, IsHonest, Stays}
 use Rattle.arrivals.specs.declared.kept.Kept.{Kept}
-use Rattle.arrivals.specs.Meaning.{contents_after}
+use Rattle.arrivals.specs.Meaning.{contents_after, reply_to}
 use Rattle.arrivals.specs.Commands.{HandsOutNext}
 use Rattle.reply_store.specs.Handled.{Handles, IsFirst}
 use Rattle.reply_store.specs.Runs.{Tried, arrived, decided, Leaves}
@@ -49,7 +48,7 @@ abbrev pub IsNext : Contents → Meant → Bool → Type 0
 IsNext c Broken was_decided = ⊤
 IsNext c (Refused why) was_decided = ⊤
 IsNext c (Asks (asked.Account w)) was_decided = ⊤
-IsNext c (Asks (asked.Arrival a)) was_decided = was_decided ≡ true → IsFirst c (arrived a) → HandsOutNext c.facts (step c.facts a.client a.request).1
+IsNext c (Asks (asked.Arrival a)) was_decided = was_decided ≡ true → IsFirst c (arrived a) → HandsOutNext c.facts (reply_to c.facts c.marks (arrived a))
 
 pub record Serves (old new : State) (e : Exchange) : Type 0 where
   pub means : Means e.input e.meant

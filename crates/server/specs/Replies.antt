@@ -6,7 +6,7 @@ use Rattle.job_core.specs.declared.reply.Reply.TheVariants as reply
 use Rattle.job_core.specs.Facts.{Facts}
 use Rattle.job_core.specs.Contents.{Contents}
 use Rattle.arrivals.specs.Told.{Told, told_of}
-use Rattle.arrivals.specs.Meaning.{contents_after, answer}
+use Rattle.arrivals.specs.Meaning.{told_on}
 use Rattle.reply_store.specs.Runs.{arrived}
 use Rattle.reports.specs.Accounts.{batch_account, blank_account}
 use Rattle.reports.specs.Report.{report_text}
@@ -61,11 +61,11 @@ IsWritten ended.Answered text written = written ≡ text
 IsWritten ended.WriteFailed text written = (rest : List ℕ) × (written ++ rest ≡ text)
 IsWritten ended.Broken text written = ⊥
 
--- an account changes nothing, and an arrival is told what is kept of its number, or now is
+-- an account decides nothing, and an arrival is told what it is told on these contents
 abbrev pub IsAskedAnswer : Contents → Asked → Served → List ℕ → Type 0
 IsAskedAnswer c (asked.Account w) served written = (served.decided ≡ false) × IsWritten served.end (account_text c.facts w) written
 IsAskedAnswer c (asked.Arrival a) served written =
-    (t : Told) × (answer (contents_after c (arrived a ∷ [])).kept (arrived a) ≡ Some t) × (served.decided ≡ true) × IsWritten served.end (told_text t) written
+    (served.decided ≡ true) × IsWritten served.end (told_text (told_on c (arrived a))) written
 
 -- the answer on these contents
 abbrev pub IsAnswer : Contents → Meant → Served → List ℕ → Type 0

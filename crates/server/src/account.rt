@@ -13,7 +13,7 @@ ghost use Rattle.server.specs.Answers.{answer_text};
 use asks::Wanted;
 use heads::Content;
 use job_core::{JobStore, Refusal, Reply, StoreFault};
-use reply_store::{body_of, status_of};
+use arrivals::{body_of, status_of};
 use reports::{AccountFault, batch_counts, blank_counts, close_report};
 use std::alloc::{AllocError, Global};
 use store_data::{Bytes, Name};

@@ -2,7 +2,7 @@
 ghost use Rattle.std.specs.Prelude.{◌≡◌, ℕ, List};
 ghost use Rattle.std.specs.Io.KnownBytes.{Appends};
 ghost use Rattle.job_core.specs.Requests.{IsArrival};
-ghost use Rattle.job_core.specs.Steps.{step};
+ghost use Rattle.arrivals.specs.Meaning.{reply_to};
 ghost use Rattle.job_core.specs.Contents.{Contents};
 ghost use Rattle.arrivals.specs.Commands.{HandsOutNext};
 ghost use Rattle.reply_store.specs.Handled.{Handles};
@@ -95,7 +95,7 @@ fn handle_arrival<S: JobStore>(
     requires { IsArrival arrival.now }
     ensures handled { Handles (S.state store.old) (S.state store.new) (arrived arrival.now) result }
     ensures next { (c : Contents) → (S.state store.old).holds c
-        → HandsOutNext c.facts (step c.facts arrival.now.client arrival.now.request).1 }
+        → HandsOutNext c.facts (reply_to c.facts c.marks (arrived arrival.now)) }
 {
     let ask = arrival.ask.as_slice();
     handle(

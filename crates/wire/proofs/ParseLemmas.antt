@@ -38,15 +38,15 @@ use Rattle.job_core.specs.declared.refusal.Refusal.TheVariants as refusal
 use Rattle.job_core.specs.declared.reply.Made.{Made}
 use Rattle.job_core.specs.declared.reply.Made.TheVariants.{Created, Known}
 use Rattle.job_core.specs.declared.reply.Reply.{Reply}
-use Rattle.job_core.specs.declared.reply.Reply.TheVariants.{Product, Lot, Import, Opened, Next, Good, Spoiled, Reset, Discarded, Waiting, Withdrawn, Closed, Refused, Busy, Faulty}
-use Rattle.arrivals.specs.Told.{body_of, made_name, status_of}
+use Rattle.job_core.specs.declared.reply.Reply.TheVariants.{Product, Lot, Import, Opened, Next, Good, Spoiled, Reset, Discarded, Waiting, Withdrawn, Closed, Refused, Busy, Released, NumberReleased, Faulty}
+use Rattle.arrivals.specs.Told.{Told, body_of, made_name, status_of}
 use Rattle.arrivals.specs.Values.{ArePlain, IsPlain, value_of}
 use Rattle.arrivals.proofs.Escapes.{hex_plain, name_plain, plain_ascii}
 use Rattle.arrivals.proofs.Texts.{text_is_body}
 use Rattle.store_data.specs.Name.{is_name}
 use Rattle.heads.specs.declared.reply.Content.TheVariants.{Json}
 use Rattle.wire.specs.ReplyReading.{HasNoBrace, reply_in}
-use Rattle.wire.specs.ReplyText.{IsReply, reply_bytes}
+use Rattle.wire.specs.ReplyText.{AreToldApart, IsReply, reply_bytes}
 use Rattle.asks.specs.Members.{name_at, text_at, value_in}
 use Rattle.heads.specs.Texts.{head_text, status_text}
 
@@ -131,6 +131,8 @@ status_is_clear (Withdrawn b r) = refl
 status_is_clear (Closed b) = refl
 status_is_clear (Refused why) = refl
 status_is_clear (Busy s) = refl
+status_is_clear (Released mark) = refl
+status_is_clear (NumberReleased mark) = refl
 status_is_clear (Faulty fault) = refl
 
 pub head_has_no_brace : (r : Reply) (n : ℕ) → n < 2 ^ 64 → HasNoBrace (head_text (status_of r) Json n)
@@ -153,6 +155,8 @@ body_begins (Withdrawn b r) = refl
 body_begins (Closed b) = refl
 body_begins (Refused why) = refl
 body_begins (Busy s) = refl
+body_begins (Released mark) = refl
+body_begins (NumberReleased mark) = refl
 body_begins (Faulty fault) = refl
 
 -- ---- the body is read as the reply's value
@@ -198,6 +202,10 @@ value_is_read (Refused why) h = read_whole _ (IsNumber-decimal (code_of why) (co
 value_is_read (Busy s) h =
     let code : 61 < 2 ^ 64 = omega arith in
     read_whole _ (IsNumber-decimal 61 code, (tt, (IsNumber-decimal s h, tt))) (simp (number_of-decimal 61 code, number_of-decimal s h)) (omega arith)
+value_is_read (Released mark) h = read_whole _ (IsNumber-decimal mark h, (tt, tt)) (simp (number_of-decimal mark h)) (omega arith)
+value_is_read (NumberReleased mark) h =
+    let code : 73 < 2 ^ 64 = omega arith in
+    read_whole _ (IsNumber-decimal 73 code, (IsNumber-decimal mark h, (tt, tt))) (simp (number_of-decimal 73 code, number_of-decimal mark h)) (omega arith)
 value_is_read (Faulty fault) h =
     let code = kind_code_fits fault.kind in
     let row : fault.row < 2 ^ 64 = omega (arith, h) in
@@ -234,6 +242,8 @@ reply_is_found (Withdrawn b r) h = rw (h.0, h.1) refl
 reply_is_found (Closed b) h = rw h refl
 reply_is_found (Refused why) h = ap (option_map (λ (w : Refusal). Refused w)) (refusal_is_found why)
 reply_is_found (Busy s) h = refl
+reply_is_found (Released mark) h = refl
+reply_is_found (NumberReleased mark) h = refl
 reply_is_found (Faulty fault) h = rw (lt-ltb _ _ h, kind_is_found fault.kind) refl
 
 -- ---- bodies are ASCII
@@ -301,6 +311,8 @@ body_is_low (Withdrawn b r) h = simp (list_all-append, name_is_low b h.0, name_i
 body_is_low (Closed b) h = simp (list_all-append, name_is_low b h)
 body_is_low (Refused why) h = simp (list_all-append, decimal_is_low (code_of why) (code_fits why), refusal_is_low why)
 body_is_low (Busy s) h = simp (list_all-append, decimal_is_low s h)
+body_is_low (Released mark) h = simp (list_all-append, decimal_is_low mark h)
+body_is_low (NumberReleased mark) h = simp (list_all-append, decimal_is_low mark h)
 body_is_low (Faulty fault) h =
     let row : fault.row < 2 ^ 64 = omega (arith, h) in
     simp (list_all-append, decimal_is_low (kind_code_of fault.kind) (kind_code_fits fault.kind), kind_is_low fault.kind, decimal_is_low fault.row row)
@@ -325,6 +337,8 @@ are_plain (Withdrawn b r) h = (name_plain b h.0, name_plain r h.1)
 are_plain (Closed b) h = name_plain b h
 are_plain (Refused why) h = tt
 are_plain (Busy s) h = tt
+are_plain (Released mark) h = tt
+are_plain (NumberReleased mark) h = tt
 are_plain (Faulty fault) h = tt
 
 pub body_is_read : (r : Reply) → IsReply r → read (body_of r) ≡ Some (value_of r)
@@ -352,3 +366,9 @@ pub other_reply : (bytes : List ℕ) (q r : Reply) (same : Bool) → Some q ≡ 
 other_reply bytes q r same is differs holds text =
     let told : IsTrue same = holds (text ∙ ap reply_bytes (sym (same_reply q r is))) in
     let both : false ≡ true = sym differs ∙ told in cc
+
+-- no two replies have one text
+pub told_apart : AreToldApart
+told_apart q r here there same =
+    let read_both : Some (value_of q) ≡ Some (value_of r) = sym (body_is_read q here) ∙ ap (λ (t : Told). read t.body) same ∙ body_is_read r there in
+    same_reply q r (sym (reply_is_found q here) ∙ ap reply_in (same_value (value_of q) (value_of r) read_both) ∙ reply_is_found r there)

@@ -3,29 +3,28 @@ use Rattle.std.proofs.Common.{◌≡◌, ◌<◌, ◌/◌, ◌%◌, ℕ, zero, s
 use Rattle.serde_json.specs.Written.{compact_text, has_float}
 use Rattle.serde_json.proofs.OnLiterals.{serde_json_on_literals}
 use Rattle.hex.specs.Hex.{IsBytes}
-use Rattle.job_core.specs.declared.request.Request.{Request}
+use Rattle.job_core.specs.declared.request.Call.{Call}
+use Rattle.job_core.specs.declared.request.Call.TheVariants.{Job, Release}
 use Rattle.job_core.specs.declared.request.Request.TheVariants as request
 use Rattle.arrivals.specs.Values.{IsPlain}
 use Rattle.arrivals.proofs.Escapes.{escape_plain, hex_plain, name_plain}
 use Rattle.asks.specs.Asks.{import_tail}
 use Rattle.asks.specs.Posts.{post_with}
-use Rattle.wire.specs.Sending.{AreNames, IsSendable, body_of, sending_of, tail_of, value_of, word_text}
+use Rattle.wire.specs.Sending.{AreNames, IsNoImport, IsSendable, body_of, sending_of, tail_of, value_of, word_text}
 
-pub no_float : (r : Request) → has_float (value_of r) ≡ false
-no_float (request.Product p) = refl
-no_float (request.Lot l) = refl
-no_float (request.Import b p raw) = refl
-no_float (request.Open b blank) = refl
-no_float (request.Answer s k sw) = refl
-no_float (request.Abort s) = refl
-no_float request.Reset = refl
-no_float (request.Discard blank) = refl
-no_float (request.Remake b r) = refl
-no_float (request.Withdraw b r) = refl
-no_float (request.Close b) = refl
-
-abbrev pub IsNoImport : Request → Type 0
-IsNoImport r = (b p raw : List ℕ) → r ≡ request.Import b p raw → ⊥
+pub no_float : (r : Call) → has_float (value_of r) ≡ false
+no_float (Job (request.Product p)) = refl
+no_float (Job (request.Lot l)) = refl
+no_float (Job (request.Import b p raw)) = refl
+no_float (Job (request.Open b blank)) = refl
+no_float (Job (request.Answer s k sw)) = refl
+no_float (Job (request.Abort s)) = refl
+no_float (Job request.Reset) = refl
+no_float (Job (request.Discard blank)) = refl
+no_float (Job (request.Remake b r)) = refl
+no_float (Job (request.Withdraw b r)) = refl
+no_float (Job (request.Close b)) = refl
+no_float (Release upto) = refl
 
 pub word_is_plain : (sw : ℕ) → sw < 65536 → IsPlain (word_text sw)
 word_is_plain sw h = hex_plain (sw / 256 ∷ sw % 256 ∷ []) (are_bytes sw h)
@@ -35,43 +34,45 @@ word_is_plain sw h = hex_plain (sw / 256 ∷ sw % 256 ∷ []) (are_bytes sw h)
     are_bytes n small (suc zero) = omega arith
     are_bytes n small (suc (suc k)) = omega arith
 
-pub text_is_body : (r : Request) → AreNames r → IsSendable r → IsNoImport r → compact_text (value_of r) ≡ body_of r
+pub text_is_body : (r : Call) → AreNames r → IsSendable r → IsNoImport r → compact_text (value_of r) ≡ body_of r
 unfolding body_of serde_json_on_literals
-text_is_body (request.Product p) h s other =
-    elim p.check as (λ b. compact_text (value_of (request.Product (record { code = p.code; max = p.max; low = p.low; check = b }))) ≡ body_of (request.Product (record { code = p.code; max = p.max; low = p.low; check = b }))) [
+text_is_body (Job (request.Product p)) h s other =
+    elim p.check as (λ b. compact_text (value_of (Job (request.Product (record { code = p.code; max = p.max; low = p.low; check = b })))) ≡ body_of (Job (request.Product (record { code = p.code; max = p.max; low = p.low; check = b })))) [
       | true ↦ simp (escape_plain p.code (name_plain p.code h), append_assoc)
       | false ↦ simp (escape_plain p.code (name_plain p.code h), append_assoc)
     ]
-text_is_body (request.Lot l) h s other = simp (escape_plain l.name (name_plain l.name h.0), escape_plain l.product (name_plain l.product h.1), append_assoc)
-text_is_body (request.Import b p raw) h s other = absurd (other b p raw refl)
-text_is_body (request.Open b blank) h s other = simp (escape_plain b (name_plain b h), append_assoc)
-text_is_body (request.Answer n k sw) h s other = simp (escape_plain (word_text sw) (word_is_plain sw (omega (arith, s.3))), append_assoc)
-text_is_body (request.Abort n) h s other = refl
-text_is_body request.Reset h s other = refl
-text_is_body (request.Discard blank) h s other = refl
-text_is_body (request.Remake b r) h s other = simp (escape_plain b (name_plain b h.0), escape_plain r (name_plain r h.1), append_assoc)
-text_is_body (request.Withdraw b r) h s other = simp (escape_plain b (name_plain b h.0), escape_plain r (name_plain r h.1), append_assoc)
-text_is_body (request.Close b) h s other = simp (escape_plain b (name_plain b h), append_assoc)
+text_is_body (Job (request.Lot l)) h s other = simp (escape_plain l.name (name_plain l.name h.0), escape_plain l.product (name_plain l.product h.1), append_assoc)
+text_is_body (Job (request.Import b p raw)) h s other = absurd (other b p raw refl)
+text_is_body (Job (request.Open b blank)) h s other = simp (escape_plain b (name_plain b h), append_assoc)
+text_is_body (Job (request.Answer n k sw)) h s other = simp (escape_plain (word_text sw) (word_is_plain sw (omega (arith, s.3))), append_assoc)
+text_is_body (Job (request.Abort n)) h s other = refl
+text_is_body (Job request.Reset) h s other = refl
+text_is_body (Job (request.Discard blank)) h s other = refl
+text_is_body (Job (request.Remake b r)) h s other = simp (escape_plain b (name_plain b h.0), escape_plain r (name_plain r h.1), append_assoc)
+text_is_body (Job (request.Withdraw b r)) h s other = simp (escape_plain b (name_plain b h.0), escape_plain r (name_plain r h.1), append_assoc)
+text_is_body (Job (request.Close b)) h s other = simp (escape_plain b (name_plain b h), append_assoc)
+text_is_body (Release upto) h s other = refl
 
-pub no_tail : (r : Request) → IsNoImport r → tail_of r ≡ []
-no_tail (request.Product p) other = refl
-no_tail (request.Lot l) other = refl
-no_tail (request.Import b p raw) other = absurd (other b p raw refl)
-no_tail (request.Open b blank) other = refl
-no_tail (request.Answer s k sw) other = refl
-no_tail (request.Abort s) other = refl
-no_tail request.Reset other = refl
-no_tail (request.Discard blank) other = refl
-no_tail (request.Remake b r) other = refl
-no_tail (request.Withdraw b r) other = refl
-no_tail (request.Close b) other = refl
+pub no_tail : (r : Call) → IsNoImport r → tail_of r ≡ []
+no_tail (Job (request.Product p)) other = refl
+no_tail (Job (request.Lot l)) other = refl
+no_tail (Job (request.Import b p raw)) other = absurd (other b p raw refl)
+no_tail (Job (request.Open b blank)) other = refl
+no_tail (Job (request.Answer s k sw)) other = refl
+no_tail (Job (request.Abort s)) other = refl
+no_tail (Job request.Reset) other = refl
+no_tail (Job (request.Discard blank)) other = refl
+no_tail (Job (request.Remake b r)) other = refl
+no_tail (Job (request.Withdraw b r)) other = refl
+no_tail (Job (request.Close b)) other = refl
+no_tail (Release upto) other = refl
 
-pub json_is_sent : (client : List ℕ) (number : ℕ) (r : Request) (body : List ℕ) → body ≡ body_of r → IsNoImport r
+pub json_is_sent : (client : List ℕ) (number : ℕ) (r : Call) (body : List ℕ) → body ≡ body_of r → IsNoImport r
     → post_with client number [] body ≡ sending_of client number r
 json_is_sent client number r body is other =
     ap (λ (t : List ℕ). post_with client number t body) (sym (no_tail r other)) ∙ ap (post_with client number (tail_of r)) is
 
-pub file_is_sent : (client : List ℕ) (number : ℕ) (r : Request) (b p raw body : List ℕ) → r ≡ request.Import b p raw → body ≡ raw
+pub file_is_sent : (client : List ℕ) (number : ℕ) (r : Call) (b p raw body : List ℕ) → r ≡ Job (request.Import b p raw) → body ≡ raw
     → post_with client number (import_tail b p) body ≡ sending_of client number r
 unfolding body_of
 file_is_sent client number r b p raw body is same = ap (post_with client number (import_tail b p)) same ∙ ap (sending_of client number) (sym is)

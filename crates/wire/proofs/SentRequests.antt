@@ -13,15 +13,16 @@ use Rattle.serde_json.specs.Read.{read}
 use Rattle.serde_json.specs.Written.{compact_text}
 use Rattle.serde_json.proofs.Numbers.{number_of-decimal}
 use Rattle.store_data.specs.Name.{is_name, is_name_char}
-use Rattle.job_core.specs.declared.request.Request.{Request}
+use Rattle.job_core.specs.declared.request.Call.{Call}
+use Rattle.job_core.specs.declared.request.Call.TheVariants.{Job, Release}
 use Rattle.job_core.specs.declared.request.Request.TheVariants as request
 use Rattle.arrivals.specs.Values.{flag_text}
 use Rattle.text_io.specs.Inputs.{most_input}
 use Rattle.asks.specs.Members.{passing, name_at, text_at}
-use Rattle.asks.specs.Requests.{abort_in, answer_in, close_in, discard_in, flag_at, is_lot, is_within, is_word, lot_in, number_within, open_in, product_in, remake_in, request_by_word, request_in, request_of_value, withdraw_in, word_in, with_two, with_three, with_four}
-use Rattle.wire.specs.Sending.{AreNames, IsSendable, body_of, value_of, word_text}
+use Rattle.asks.specs.Requests.{abort_in, answer_in, call_by_word, call_in, call_of_value, close_in, discard_in, flag_at, is_lot, is_within, is_word, lot_in, number_within, open_in, product_in, release_in, remake_in, request_by_word, withdraw_in, word_in, with_two, with_three, with_four}
+use Rattle.wire.specs.Sending.{AreNames, IsNoImport, IsSendable, body_of, value_of, word_text}
 use Rattle.wire.proofs.ParseLemmas.{read_whole, value_in-read}
-use Rattle.wire.proofs.SendLemmas.{IsNoImport, text_is_body, word_is_plain}
+use Rattle.wire.proofs.SendLemmas.{text_is_body, word_is_plain}
 
 -- ---- words
 
@@ -80,54 +81,56 @@ number_kept least most n low high =
 name_kept : (n : List ℕ) → IsTrue (is_name n) → passing is_name n ≡ Some n
 name_kept n h = ap (λ (t : Bool). cond t (Some n) None) h
 
-request_is_found : (r : Request) → AreNames r → IsSendable r → IsNoImport r → request_of_value (value_of r) ≡ Some r
-unfolding request_of_value request_by_word text_at name_at number_within flag_at product_in lot_in open_in answer_in word_in abort_in discard_in remake_in withdraw_in close_in
-request_is_found (request.Product p) h s other = λ i. with_four (λ code max low check. request.Product (record { code = code; max = max; low = low; check = check }))
-    (name_kept p.code h i) (number_kept 16 255 p.max s.least s.most i) (number_kept 0 31 p.low (omega arith) s.low i) (Some p.check)
-request_is_found (request.Lot l) h s other =
+call_is_found : (r : Call) → AreNames r → IsSendable r → IsNoImport r → call_of_value (value_of r) ≡ Some r
+unfolding call_of_value call_by_word release_in request_by_word text_at name_at number_within flag_at product_in lot_in open_in answer_in word_in abort_in discard_in remake_in withdraw_in close_in
+call_is_found (Job (request.Product p)) h s other = λ i. option_map Job (with_four (λ code max low check. request.Product (record { code = code; max = max; low = low; check = check }))
+    (name_kept p.code h i) (number_kept 16 255 p.max s.least s.most i) (number_kept 0 31 p.low (omega arith) s.low i) (Some p.check))
+call_is_found (Job (request.Lot l)) h s other =
     let range : is_lot l ≡ true = let r = s.range in grind (arith, nat_tests, r) in
-    (λ i. option_map request.Lot (option_and_then (passing is_lot) (with_four (λ name product first count. record { name = name; product = product; first = first; count = count })
+    ap (option_map Job) ((λ i. option_map request.Lot (option_and_then (passing is_lot) (with_four (λ name product first count. record { name = name; product = product; first = first; count = count })
     (name_kept l.name h.0 i) (name_kept l.product h.1 i) (number_kept 0 (10 ^ 18 - 1) l.first (omega arith) (omega (arith, s.range, s.least)) i) (number_kept 1 1000000 l.count s.least s.most i))))
-    ∙ ap (λ (t : Bool). option_map request.Lot (cond t (Some l) None)) range
-request_is_found (request.Import b p raw) h s other = absurd (other b p raw refl)
-request_is_found (request.Open b blank) h s other = λ i. with_two (λ batch blank. request.Open batch blank) (name_kept b h i) (number_kept 0 (10 ^ 18 - 1) blank (omega arith) (omega (arith, s)) i)
-request_is_found (request.Answer n k sw) h s other = λ i. with_three (λ session index sw. request.Answer session index sw)
-    (number_kept 1 (10 ^ 18 - 1) n s.0 (omega (arith, s.1)) i) (number_kept 0 (2 ^ 32 - 1) k (omega arith) (omega (arith, s.2)) i) (word_is_read sw (omega (arith, s.3)) i)
-request_is_found (request.Abort n) h s other = ap (option_map (λ session. request.Abort session)) (number_kept 1 (10 ^ 18 - 1) n s.0 (omega (arith, s.1)))
-request_is_found request.Reset h s other = refl
-request_is_found (request.Discard blank) h s other = ap (option_map (λ blank. request.Discard blank)) (number_kept 0 (10 ^ 18 - 1) blank (omega arith) (omega (arith, s)))
-request_is_found (request.Remake b r) h s other = λ i. with_two (λ batch rec. request.Remake batch rec) (name_kept b h.0 i) (name_kept r h.1 i)
-request_is_found (request.Withdraw b r) h s other = λ i. with_two (λ batch rec. request.Withdraw batch rec) (name_kept b h.0 i) (name_kept r h.1 i)
-request_is_found (request.Close b) h s other = ap (option_map (λ batch. request.Close batch)) (name_kept b h)
+    ∙ ap (λ (t : Bool). option_map request.Lot (cond t (Some l) None)) range)
+call_is_found (Job (request.Import b p raw)) h s other = absurd (other b p raw refl)
+call_is_found (Job (request.Open b blank)) h s other = λ i. option_map Job (with_two (λ batch blank. request.Open batch blank) (name_kept b h i) (number_kept 0 (10 ^ 18 - 1) blank (omega arith) (omega (arith, s)) i))
+call_is_found (Job (request.Answer n k sw)) h s other = λ i. option_map Job (with_three (λ session index sw. request.Answer session index sw)
+    (number_kept 1 (10 ^ 18 - 1) n s.0 (omega (arith, s.1)) i) (number_kept 0 (2 ^ 32 - 1) k (omega arith) (omega (arith, s.2)) i) (word_is_read sw (omega (arith, s.3)) i))
+call_is_found (Job (request.Abort n)) h s other = ap (λ o. option_map Job (option_map (λ session. request.Abort session) o)) (number_kept 1 (10 ^ 18 - 1) n s.0 (omega (arith, s.1)))
+call_is_found (Job request.Reset) h s other = refl
+call_is_found (Job (request.Discard blank)) h s other = ap (λ o. option_map Job (option_map (λ blank. request.Discard blank) o)) (number_kept 0 (10 ^ 18 - 1) blank (omega arith) (omega (arith, s)))
+call_is_found (Job (request.Remake b r)) h s other = λ i. option_map Job (with_two (λ batch rec. request.Remake batch rec) (name_kept b h.0 i) (name_kept r h.1 i))
+call_is_found (Job (request.Withdraw b r)) h s other = λ i. option_map Job (with_two (λ batch rec. request.Withdraw batch rec) (name_kept b h.0 i) (name_kept r h.1 i))
+call_is_found (Job (request.Close b)) h s other = ap (λ o. option_map Job (option_map (λ batch. request.Close batch) o)) (name_kept b h)
+call_is_found (Release upto) h s other = ap (option_map Release) (number_kept 1 (10 ^ 18 - 1) upto s.0 (omega (arith, s.1)))
 
 -- ---- the body is the value's text
 
-value_is_read : (r : Request) → IsSendable r → IsNoImport r → read (compact_text (value_of r)) ≡ Some (value_of r)
-value_is_read (request.Product p) s other =
+value_is_read : (r : Call) → IsSendable r → IsNoImport r → read (compact_text (value_of r)) ≡ Some (value_of r)
+value_is_read (Job (request.Product p)) s other =
     let low : p.low < 2 ^ 64 = omega (arith, s.low) in
     let max : p.max < 2 ^ 64 = omega (arith, s.most) in
-    elim p.check as (λ b. read (compact_text (value_of (request.Product (record { code = p.code; max = p.max; low = p.low; check = b })))) ≡ Some (value_of (request.Product (record { code = p.code; max = p.max; low = p.low; check = b })))) [
+    elim p.check as (λ b. read (compact_text (value_of (Job (request.Product (record { code = p.code; max = p.max; low = p.low; check = b }))))) ≡ Some (value_of (Job (request.Product (record { code = p.code; max = p.max; low = p.low; check = b }))))) [
       | true ↦ read_whole _ (tt, (tt, (IsNumber-decimal p.low low, (IsNumber-decimal p.max max, (tt, tt))))) (simp (number_of-decimal p.low low, number_of-decimal p.max max)) (omega arith)
       | false ↦ read_whole _ (tt, (tt, (IsNumber-decimal p.low low, (IsNumber-decimal p.max max, (tt, tt))))) (simp (number_of-decimal p.low low, number_of-decimal p.max max)) (omega arith)
     ]
-value_is_read (request.Lot l) s other =
+value_is_read (Job (request.Lot l)) s other =
     let count : l.count < 2 ^ 64 = omega (arith, s.most) in
     let first : l.first < 2 ^ 64 = omega (arith, s.range) in
     read_whole _ (IsNumber-decimal l.count count, (tt, (IsNumber-decimal l.first first, (tt, (tt, tt))))) (simp (number_of-decimal l.count count, number_of-decimal l.first first)) (omega arith)
-value_is_read (request.Import b p raw) s other = absurd (other b p raw refl)
-value_is_read (request.Open b blank) s other =
+value_is_read (Job (request.Import b p raw)) s other = absurd (other b p raw refl)
+value_is_read (Job (request.Open b blank)) s other =
     let few : blank < 2 ^ 64 = omega (arith, s) in
     read_whole _ (tt, (IsNumber-decimal blank few, (tt, tt))) (simp (number_of-decimal blank few)) (omega arith)
-value_is_read (request.Answer n k sw) s other =
+value_is_read (Job (request.Answer n k sw)) s other =
     let few : n < 2 ^ 64 = omega (arith, s.1) in
     let index : k < 2 ^ 64 = omega (arith, s.2) in
     read_whole _ (tt, (IsNumber-decimal k index, (IsNumber-decimal n few, (tt, tt)))) (simp (number_of-decimal k index, number_of-decimal n few)) (omega arith)
-value_is_read (request.Abort n) s other = let few : n < 2 ^ 64 = omega (arith, s.1) in read_whole _ (tt, (IsNumber-decimal n few, tt)) (simp (number_of-decimal n few)) (omega arith)
-value_is_read request.Reset s other = read_whole _ (tt, tt) refl (omega arith)
-value_is_read (request.Discard blank) s other = let few : blank < 2 ^ 64 = omega (arith, s) in read_whole _ (IsNumber-decimal blank few, (tt, tt)) (simp (number_of-decimal blank few)) (omega arith)
-value_is_read (request.Remake b r) s other = read_whole _ (tt, (tt, (tt, tt))) refl (omega arith)
-value_is_read (request.Withdraw b r) s other = read_whole _ (tt, (tt, (tt, tt))) refl (omega arith)
-value_is_read (request.Close b) s other = read_whole _ (tt, (tt, tt)) refl (omega arith)
+value_is_read (Job (request.Abort n)) s other = let few : n < 2 ^ 64 = omega (arith, s.1) in read_whole _ (tt, (IsNumber-decimal n few, tt)) (simp (number_of-decimal n few)) (omega arith)
+value_is_read (Job request.Reset) s other = read_whole _ (tt, tt) refl (omega arith)
+value_is_read (Job (request.Discard blank)) s other = let few : blank < 2 ^ 64 = omega (arith, s) in read_whole _ (IsNumber-decimal blank few, (tt, tt)) (simp (number_of-decimal blank few)) (omega arith)
+value_is_read (Job (request.Remake b r)) s other = read_whole _ (tt, (tt, (tt, tt))) refl (omega arith)
+value_is_read (Job (request.Withdraw b r)) s other = read_whole _ (tt, (tt, (tt, tt))) refl (omega arith)
+value_is_read (Job (request.Close b)) s other = read_whole _ (tt, (tt, tt)) refl (omega arith)
+value_is_read (Release upto) s other = let few : upto < 2 ^ 64 = omega (arith, s.1) in read_whole _ (tt, (IsNumber-decimal upto few, tt)) (simp (number_of-decimal upto few)) (omega arith)
 
 -- ---- sizes
 
@@ -141,24 +144,25 @@ flag_is_short false = omega arith
 few : (n : ℕ) → n < 2 ^ 64 → length (decimal n) ≤ 20
 few n h = length-decimal-le 20 n (omega arith) (omega (arith, h)) h
 
-pub body_is_short : (r : Request) → AreNames r → IsSendable r → IsNoImport r → length (body_of r) ≤ most_input
+pub body_is_short : (r : Call) → AreNames r → IsSendable r → IsNoImport r → length (body_of r) ≤ most_input
 unfolding body_of encode_with
-body_is_short (request.Product p) h s other =
+body_is_short (Job (request.Product p)) h s other =
     simp length-append (omega (arith, flag_is_short p.check, few p.low (omega (arith, s.low)), few p.max (omega (arith, s.most)), name_is_short p.code h))
-body_is_short (request.Lot l) h s other =
+body_is_short (Job (request.Lot l)) h s other =
     simp length-append (omega (arith, few l.count (omega (arith, s.most)), few l.first (omega (arith, s.range)), name_is_short l.name h.0, name_is_short l.product h.1))
-body_is_short (request.Import b p raw) h s other = absurd (other b p raw refl)
-body_is_short (request.Open b blank) h s other = simp length-append (omega (arith, name_is_short b h, few blank (omega (arith, s))))
-body_is_short (request.Answer n k sw) h s other = simp length-append (omega (arith, few k (omega (arith, s.2)), few n (omega (arith, s.1))))
-body_is_short (request.Abort n) h s other = simp length-append (omega (arith, few n (omega (arith, s.1))))
-body_is_short request.Reset h s other = omega arith
-body_is_short (request.Discard blank) h s other = simp length-append (omega (arith, few blank (omega (arith, s))))
-body_is_short (request.Remake b r) h s other = simp length-append (omega (arith, name_is_short b h.0, name_is_short r h.1))
-body_is_short (request.Withdraw b r) h s other = simp length-append (omega (arith, name_is_short b h.0, name_is_short r h.1))
-body_is_short (request.Close b) h s other = simp length-append (omega (arith, name_is_short b h))
+body_is_short (Job (request.Import b p raw)) h s other = absurd (other b p raw refl)
+body_is_short (Job (request.Open b blank)) h s other = simp length-append (omega (arith, name_is_short b h, few blank (omega (arith, s))))
+body_is_short (Job (request.Answer n k sw)) h s other = simp length-append (omega (arith, few k (omega (arith, s.2)), few n (omega (arith, s.1))))
+body_is_short (Job (request.Abort n)) h s other = simp length-append (omega (arith, few n (omega (arith, s.1))))
+body_is_short (Job request.Reset) h s other = omega arith
+body_is_short (Job (request.Discard blank)) h s other = simp length-append (omega (arith, few blank (omega (arith, s))))
+body_is_short (Job (request.Remake b r)) h s other = simp length-append (omega (arith, name_is_short b h.0, name_is_short r h.1))
+body_is_short (Job (request.Withdraw b r)) h s other = simp length-append (omega (arith, name_is_short b h.0, name_is_short r h.1))
+body_is_short (Job (request.Close b)) h s other = simp length-append (omega (arith, name_is_short b h))
+body_is_short (Release upto) h s other = simp length-append (omega (arith, few upto (omega (arith, s.1))))
 
-pub request_is_read : (r : Request) → AreNames r → IsSendable r → IsNoImport r → IsUtf8 (body_of r) → request_in (body_of r) ≡ Some r
-unfolding request_in
-request_is_read r h s other text =
+pub call_is_read : (r : Call) → AreNames r → IsSendable r → IsNoImport r → IsUtf8 (body_of r) → call_in (body_of r) ≡ Some r
+unfolding call_in
+call_is_read r h s other text =
     let body : read (body_of r) ≡ Some (value_of r) = ap read (sym (text_is_body r h s other)) ∙ value_is_read r s other in
-    ap (option_and_then request_of_value) (value_in-read (body_of r) (value_of r) text body) ∙ request_is_found r h s other
+    ap (option_and_then call_of_value) (value_in-read (body_of r) (value_of r) text body) ∙ call_is_found r h s other

@@ -10,7 +10,7 @@ use Rattle.job_core.specs.Refusals.{refusal_of}
 use Rattle.job_core.specs.declared.reply.Made.{Made}
 use Rattle.job_core.specs.declared.reply.Made.TheVariants.{Created, Known}
 use Rattle.job_core.specs.declared.reply.Reply.{Reply}
-use Rattle.job_core.specs.declared.reply.Reply.TheVariants.{Product, Lot, Import, Opened, Next, Good, Spoiled, Reset, Discarded, Waiting, Withdrawn, Closed, Refused, Busy, Faulty}
+use Rattle.job_core.specs.declared.reply.Reply.TheVariants.{Product, Lot, Import, Opened, Next, Good, Spoiled, Reset, Discarded, Waiting, Withdrawn, Closed, Refused, Busy, Released, NumberReleased, Faulty}
 use Rattle.std.specs.Option.{option_or}
 use Rattle.asks.specs.Members.{passing, name_at, number_at, text_at}
 
@@ -76,6 +76,7 @@ ended_in d word =
     else if bytes_eq word (codes "spoiled") then option_map (λ (s : ℕ). Spoiled s) (number_at (codes "session") d)
     else if bytes_eq word (codes "reset") then option_map (λ (s : ℕ). Reset s) (number_at (codes "session") d)
     else if bytes_eq word (codes "discarded") then option_map (λ (blank : ℕ). Discarded blank) (number_at (codes "blank") d)
+    else if bytes_eq word (codes "released") then option_map (λ (mark : ℕ). Released mark) (number_at (codes "mark") d)
     else noted_in d word
 
 abbrev pub accepted_in : Data → List ℕ → Option Reply
@@ -88,13 +89,15 @@ accepted_in d word =
 abbrev pub faulty_in : Option FaultKind → ℕ → Option Reply
 faulty_in k row = option_map (λ (kind : FaultKind). Faulty (record { row = row; kind = kind })) k
 
-abbrev pub refused_by : ℕ → Option ℕ → Option ℕ → Option Reply
-refused_by code (Some s) row = Some (Busy s)
-refused_by code None (Some row) = faulty_in (kind_of_code code) row
-refused_by code None None = option_map (λ (why : Refusal). Refused why) (refusal_of code)
+-- with the session, the mark or the row that is told beside
+abbrev pub refused_by : ℕ → Option ℕ → Option ℕ → Option ℕ → Option Reply
+refused_by code (Some s) mark row = Some (Busy s)
+refused_by code None (Some mark) row = Some (NumberReleased mark)
+refused_by code None None (Some row) = faulty_in (kind_of_code code) row
+refused_by code None None None = option_map (λ (why : Refusal). Refused why) (refusal_of code)
 
 abbrev pub refused_in : Data → Option Reply
-refused_in d = option_and_then (λ (code : ℕ). refused_by code (number_at (codes "session") d) (count_at (codes "row") d)) (number_at (codes "code") d)
+refused_in d = option_and_then (λ (code : ℕ). refused_by code (number_at (codes "session") d) (number_at (codes "mark") d) (count_at (codes "row") d)) (number_at (codes "code") d)
 
 abbrev pub reply_by : Option (List ℕ) → Data → Option Reply
 reply_by (Some word) d = accepted_in d word

@@ -1,10 +1,10 @@
 -- Replies as text, as far as they can be read back (this project's profile).
-use Rattle.std.specs.Prelude.{◌<◌, ◌^◌, ℕ, List, ⊤}
+use Rattle.std.specs.Prelude.{◌≡◌, ◌<◌, ◌^◌, ℕ, List, ⊤}
 use Rattle.hex.specs.Hex.{IsBytes}
 use Rattle.job_core.specs.Sound.{IsName}
 use Rattle.job_core.specs.declared.reply.Reply.{Reply}
-use Rattle.job_core.specs.declared.reply.Reply.TheVariants.{Product, Lot, Import, Opened, Next, Good, Spoiled, Reset, Discarded, Waiting, Withdrawn, Closed, Refused, Busy, Faulty}
-use Rattle.arrivals.specs.Told.{status_of, body_of}
+use Rattle.job_core.specs.declared.reply.Reply.TheVariants.{Product, Lot, Import, Opened, Next, Good, Spoiled, Reset, Discarded, Waiting, Withdrawn, Closed, Refused, Busy, Released, NumberReleased, Faulty}
+use Rattle.arrivals.specs.Told.{body_of, status_of, told_of}
 use Rattle.heads.specs.declared.reply.Content.TheVariants.{Json}
 use Rattle.heads.specs.Texts.{reply_text}
 
@@ -28,4 +28,10 @@ IsReply (Withdrawn b r) = IsName b × IsName r
 IsReply (Closed b) = IsName b
 IsReply (Refused why) = ⊤
 IsReply (Busy s) = s < 2 ^ 64
+IsReply (Released mark) = mark < 2 ^ 64
+IsReply (NumberReleased mark) = mark < 2 ^ 64
 IsReply (Faulty fault) = fault.row < 2 ^ 32
+
+-- no two replies have one text
+abbrev pub AreToldApart : Type 0
+AreToldApart = (q r : Reply) → IsReply q → IsReply r → told_of q ≡ told_of r → q ≡ r

@@ -5,7 +5,8 @@ use Rattle.serde_json.specs.Data.{Data, boolean, null, string, object, member, n
 use Rattle.arrivals.specs.Values.{flag_text, num}
 use Rattle.job_core.specs.Sound.{IsName}
 use Rattle.job_core.specs.Requests.{IsRequest}
-use Rattle.job_core.specs.declared.request.Request.{Request}
+use Rattle.job_core.specs.declared.request.Call.{Call}
+use Rattle.job_core.specs.declared.request.Call.TheVariants.{Job, Release}
 use Rattle.job_core.specs.declared.request.Request.TheVariants as request
 use Rattle.asks.specs.declared.ask.Asked.TheVariants as asked
 use Rattle.asks.specs.Asks.{ask_with, import_tail}
@@ -15,19 +16,20 @@ use Rattle.text_io.specs.Inputs.{most_input}
 
 -- ---- what callers owe
 
--- serials and sessions have at most 18 digits, and a file is no longer than a body
-abbrev pub IsSendable : Request → Type 0
-IsSendable (request.Product p) = IsRequest (request.Product p)
-IsSendable (request.Lot l) = IsRequest (request.Lot l)
-IsSendable (request.Import b p raw) = length raw ≤ most_input
-IsSendable (request.Open b blank) = blank < 10 ^ 18
-IsSendable (request.Answer s k sw) = (1 ≤ s) × (s < 10 ^ 18) × (k < 2 ^ 32) × (sw < 2 ^ 16)
-IsSendable (request.Abort s) = (1 ≤ s) × (s < 10 ^ 18)
-IsSendable request.Reset = ⊤
-IsSendable (request.Discard blank) = blank < 10 ^ 18
-IsSendable (request.Remake b r) = ⊤
-IsSendable (request.Withdraw b r) = ⊤
-IsSendable (request.Close b) = ⊤
+-- serials, sessions and numbers have at most 18 digits, and a file is no longer than a body
+abbrev pub IsSendable : Call → Type 0
+IsSendable (Job (request.Product p)) = IsRequest (request.Product p)
+IsSendable (Job (request.Lot l)) = IsRequest (request.Lot l)
+IsSendable (Job (request.Import b p raw)) = length raw ≤ most_input
+IsSendable (Job (request.Open b blank)) = blank < 10 ^ 18
+IsSendable (Job (request.Answer s k sw)) = (1 ≤ s) × (s < 10 ^ 18) × (k < 2 ^ 32) × (sw < 2 ^ 16)
+IsSendable (Job (request.Abort s)) = (1 ≤ s) × (s < 10 ^ 18)
+IsSendable (Job request.Reset) = ⊤
+IsSendable (Job (request.Discard blank)) = blank < 10 ^ 18
+IsSendable (Job (request.Remake b r)) = ⊤
+IsSendable (Job (request.Withdraw b r)) = ⊤
+IsSendable (Job (request.Close b)) = ⊤
+IsSendable (Release upto) = (1 ≤ upto) × (upto < 10 ^ 18)
 
 -- ---- bodies
 
@@ -36,88 +38,102 @@ abbrev pub word_text : ℕ → List ℕ
 word_text sw = encode_upper (sw / 256 ∷ sw % 256 ∷ [])
 
 -- names stand as they are, since none of their characters needs an escape; an import's body is its file
-unfoldable pub body_of : Request → List ℕ
-body_of (request.Product p) =
+unfoldable pub body_of : Call → List ℕ
+body_of (Job (request.Product p)) =
     codes "{\"check\":" ++ flag_text p.check ++ codes ",\"do\":\"product\",\"low\":" ++ decimal p.low
     ++ codes ",\"max\":" ++ decimal p.max ++ codes ",\"product\":\"" ++ p.code ++ codes "\"}"
-body_of (request.Lot l) =
+body_of (Job (request.Lot l)) =
     codes "{\"count\":" ++ decimal l.count ++ codes ",\"do\":\"lot\",\"first\":" ++ decimal l.first
     ++ codes ",\"lot\":\"" ++ l.name ++ codes "\",\"product\":\"" ++ l.product ++ codes "\"}"
-body_of (request.Import b p raw) = raw
-body_of (request.Open b blank) = codes "{\"batch\":\"" ++ b ++ codes "\",\"blank\":" ++ decimal blank ++ codes ",\"do\":\"open\"}"
-body_of (request.Answer s k sw) =
+body_of (Job (request.Import b p raw)) = raw
+body_of (Job (request.Open b blank)) = codes "{\"batch\":\"" ++ b ++ codes "\",\"blank\":" ++ decimal blank ++ codes ",\"do\":\"open\"}"
+body_of (Job (request.Answer s k sw)) =
     codes "{\"do\":\"answer\",\"index\":" ++ decimal k ++ codes ",\"session\":" ++ decimal s ++ codes ",\"sw\":\"" ++ word_text sw ++ codes "\"}"
-body_of (request.Abort s) = codes "{\"do\":\"abort\",\"session\":" ++ decimal s ++ codes "}"
-body_of request.Reset = codes "{\"do\":\"reset\"}"
-body_of (request.Discard blank) = codes "{\"blank\":" ++ decimal blank ++ codes ",\"do\":\"discard\"}"
-body_of (request.Remake b r) = codes "{\"batch\":\"" ++ b ++ codes "\",\"do\":\"remake\",\"record\":\"" ++ r ++ codes "\"}"
-body_of (request.Withdraw b r) = codes "{\"batch\":\"" ++ b ++ codes "\",\"do\":\"withdraw\",\"record\":\"" ++ r ++ codes "\"}"
-body_of (request.Close b) = codes "{\"batch\":\"" ++ b ++ codes "\",\"do\":\"close\"}"
+body_of (Job (request.Abort s)) = codes "{\"do\":\"abort\",\"session\":" ++ decimal s ++ codes "}"
+body_of (Job request.Reset) = codes "{\"do\":\"reset\"}"
+body_of (Job (request.Discard blank)) = codes "{\"blank\":" ++ decimal blank ++ codes ",\"do\":\"discard\"}"
+body_of (Job (request.Remake b r)) = codes "{\"batch\":\"" ++ b ++ codes "\",\"do\":\"remake\",\"record\":\"" ++ r ++ codes "\"}"
+body_of (Job (request.Withdraw b r)) = codes "{\"batch\":\"" ++ b ++ codes "\",\"do\":\"withdraw\",\"record\":\"" ++ r ++ codes "\"}"
+body_of (Job (request.Close b)) = codes "{\"batch\":\"" ++ b ++ codes "\",\"do\":\"close\"}"
+body_of (Release upto) = codes "{\"do\":\"release\",\"upto\":" ++ decimal upto ++ codes "}"
 
 -- ---- whole texts
 
-abbrev pub tail_of : Request → List ℕ
-tail_of (request.Import b p raw) = import_tail b p
-tail_of (request.Product p) = []
-tail_of (request.Lot l) = []
-tail_of (request.Open b blank) = []
-tail_of (request.Answer s k sw) = []
-tail_of (request.Abort s) = []
-tail_of request.Reset = []
-tail_of (request.Discard blank) = []
-tail_of (request.Remake b r) = []
-tail_of (request.Withdraw b r) = []
-tail_of (request.Close b) = []
+abbrev pub tail_of : Call → List ℕ
+tail_of (Job (request.Import b p raw)) = import_tail b p
+tail_of (Job (request.Product p)) = []
+tail_of (Job (request.Lot l)) = []
+tail_of (Job (request.Open b blank)) = []
+tail_of (Job (request.Answer s k sw)) = []
+tail_of (Job (request.Abort s)) = []
+tail_of (Job request.Reset) = []
+tail_of (Job (request.Discard blank)) = []
+tail_of (Job (request.Remake b r)) = []
+tail_of (Job (request.Withdraw b r)) = []
+tail_of (Job (request.Close b)) = []
+tail_of (Release upto) = []
 
--- the message that asks for a request
-abbrev pub sending_of : List ℕ → ℕ → Request → List ℕ
+-- the message that asks for a call
+abbrev pub sending_of : List ℕ → ℕ → Call → List ℕ
 sending_of client number r = post_with client number (tail_of r) (body_of r)
 
 -- what a repeat of it has to have alike
-abbrev pub ask_of : Request → List ℕ
+abbrev pub ask_of : Call → List ℕ
 ask_of r = ask_with (tail_of r) (body_of r)
 
--- ---- the JSON of a request
+-- ---- the JSON of a call
 
 -- a word, and the names that it is for
 abbrev pub record_request : List ℕ → List ℕ → List ℕ → Data
 record_request b word r = object (member (codes "batch") (string b) (member (codes "do") (string word) (member (codes "record") (string r) no_members)))
 
 -- an import has none
-abbrev pub value_of : Request → Data
-value_of (request.Product p) =
+abbrev pub value_of : Call → Data
+value_of (Job (request.Product p)) =
     object (member (codes "check") (boolean p.check) (member (codes "do") (string (codes "product")) (member (codes "low") (num p.low)
     (member (codes "max") (num p.max) (member (codes "product") (string p.code) no_members)))))
-value_of (request.Lot l) =
+value_of (Job (request.Lot l)) =
     object (member (codes "count") (num l.count) (member (codes "do") (string (codes "lot")) (member (codes "first") (num l.first)
     (member (codes "lot") (string l.name) (member (codes "product") (string l.product) no_members)))))
-value_of (request.Import b p raw) = null
-value_of (request.Open b blank) = object (member (codes "batch") (string b) (member (codes "blank") (num blank) (member (codes "do") (string (codes "open")) no_members)))
-value_of (request.Answer s k sw) =
+value_of (Job (request.Import b p raw)) = null
+value_of (Job (request.Open b blank)) = object (member (codes "batch") (string b) (member (codes "blank") (num blank) (member (codes "do") (string (codes "open")) no_members)))
+value_of (Job (request.Answer s k sw)) =
     object (member (codes "do") (string (codes "answer")) (member (codes "index") (num k) (member (codes "session") (num s) (member (codes "sw") (string (word_text sw)) no_members))))
-value_of (request.Abort s) = object (member (codes "do") (string (codes "abort")) (member (codes "session") (num s) no_members))
-value_of request.Reset = object (member (codes "do") (string (codes "reset")) no_members)
-value_of (request.Discard blank) = object (member (codes "blank") (num blank) (member (codes "do") (string (codes "discard")) no_members))
-value_of (request.Remake b r) = record_request b (codes "remake") r
-value_of (request.Withdraw b r) = record_request b (codes "withdraw") r
-value_of (request.Close b) = object (member (codes "batch") (string b) (member (codes "do") (string (codes "close")) no_members))
+value_of (Job (request.Abort s)) = object (member (codes "do") (string (codes "abort")) (member (codes "session") (num s) no_members))
+value_of (Job request.Reset) = object (member (codes "do") (string (codes "reset")) no_members)
+value_of (Job (request.Discard blank)) = object (member (codes "blank") (num blank) (member (codes "do") (string (codes "discard")) no_members))
+value_of (Job (request.Remake b r)) = record_request b (codes "remake") r
+value_of (Job (request.Withdraw b r)) = record_request b (codes "withdraw") r
+value_of (Job (request.Close b)) = object (member (codes "batch") (string b) (member (codes "do") (string (codes "close")) no_members))
+value_of (Release upto) = object (member (codes "do") (string (codes "release")) (member (codes "upto") (num upto) no_members))
 
 -- its names are names
-abbrev pub AreNames : Request → Type 0
-AreNames (request.Product p) = IsName p.code
-AreNames (request.Lot l) = IsName l.name × IsName l.product
-AreNames (request.Import b p raw) = ⊤
-AreNames (request.Open b blank) = IsName b
-AreNames (request.Answer s k sw) = ⊤
-AreNames (request.Abort s) = ⊤
-AreNames request.Reset = ⊤
-AreNames (request.Discard blank) = ⊤
-AreNames (request.Remake b r) = IsName b × IsName r
-AreNames (request.Withdraw b r) = IsName b × IsName r
-AreNames (request.Close b) = IsName b
+abbrev pub AreNames : Call → Type 0
+AreNames (Job (request.Product p)) = IsName p.code
+AreNames (Job (request.Lot l)) = IsName l.name × IsName l.product
+AreNames (Job (request.Import b p raw)) = ⊤
+AreNames (Job (request.Open b blank)) = IsName b
+AreNames (Job (request.Answer s k sw)) = ⊤
+AreNames (Job (request.Abort s)) = ⊤
+AreNames (Job request.Reset) = ⊤
+AreNames (Job (request.Discard blank)) = ⊤
+AreNames (Job (request.Remake b r)) = IsName b × IsName r
+AreNames (Job (request.Withdraw b r)) = IsName b × IsName r
+AreNames (Job (request.Close b)) = IsName b
+AreNames (Release upto) = ⊤
 
 -- ---- what becomes of a text
 
--- it means this request of a client under its number, and nothing else
-abbrev pub Arrives : List ℕ → List ℕ → ℕ → Request → Type 0
+-- it means this call of a client under its number, and nothing else
+abbrev pub Arrives : List ℕ → List ℕ → ℕ → Call → Type 0
 Arrives text client number r = Means text (Asks (asked.Arrival (record { client = client; number = number; ask = ask_of r; request = r })))
+
+-- ---- steps on the way
+
+-- a call that is JSON
+abbrev pub IsNoImport : Call → Type 0
+IsNoImport r = (b p raw : List ℕ) → r ≡ Job (request.Import b p raw) → ⊥
+
+-- its text, which means it
+abbrev pub IsMessageOf : List ℕ → ℕ → Call → List ℕ → Type 0
+IsMessageOf client number r text = (text ≡ sending_of client number r) × Arrives text client number r

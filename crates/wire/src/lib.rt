@@ -1,6 +1,8 @@
 //! Messages over HTTP/1.1 (RFC 9112), both ways: what the bytes of a connection ask, the text of a request, and a reply read back.
 #![tactic(auto)]
 
+ghost use Rattle.wire.specs.ReplyText.{AreToldApart};
+
 mod parse;
 mod sending;
 
@@ -11,3 +13,8 @@ pub use heads::{
 };
 pub use parse::parse_reply;
 pub use sending::request_text;
+
+/// No two replies have one text: a law. It does nothing.
+pub fn replies_are_told_apart()
+    ensures { AreToldApart }
+{}

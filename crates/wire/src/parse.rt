@@ -11,17 +11,18 @@ ghost use Rattle.wire.specs.ReplyReading.{opened_in, refused_in, reply_in};
 ghost use Rattle.wire.specs.ReplyText.{IsReply, reply_bytes};
 ghost use Rattle.asks.specs.Members.{name_at, number_at, text_at};
 
+use arrivals::{body_of, status_of};
 use asks::members::{name_at, number_at, text_at, value_in};
 use batch_import::{Kind as FaultKind, RowFault};
 use heads::{Content, reply_head};
 use hex::FromHexError;
 use job_core::{Made, Refusal, Reply};
-use reply_store::{body_of, status_of};
+
 use serde_json::Value;
 use std::alloc::{AllocError, Global};
 use store_data::{Bytes, Name};
 
-/// The reply to a request that these bytes are, status line to body, or `None` where they are no such reply. It fails only where
+/// The reply to a call that these bytes are, status line to body, or `None` where they are no such reply. It fails only where
 /// memory is refused.
 pub fn parse_reply(alloc: Global, bytes: &[u8]) -> Result<Option<Reply>, AllocError>
     ensures is { IfOk result
@@ -193,6 +194,9 @@ fn ended_in(value: &Value, word: &str) -> Option<Reply>
         "discarded" => Some(Reply::Discarded {
             blank: number_at(value, "blank")?,
         }),
+        "released" => Some(Reply::Released {
+            mark: number_at(value, "mark")?,
+        }),
         _ => noted_in(value, word),
     }
 }
@@ -223,6 +227,9 @@ fn refused_in(value: &Value) -> Option<Reply>
     let code = number_at(value, "code")?;
     if let Some(session) = number_at(value, "session") {
         return Some(Reply::Busy { session });
+    }
+    if let Some(mark) = number_at(value, "mark") {
+        return Some(Reply::NumberReleased { mark });
     }
     if let Some(row) = count_at(value, "row") {
         let kind = FaultKind::from_code(code)?;

@@ -1,20 +1,44 @@
-//! The texts of requests, as a machine's feeder sends them: a head, and compact JSON (RFC 8259) or a batch file.
+//! The texts of calls, as a machine's feeder sends them: a head, and compact JSON (RFC 8259) or a batch file.
 ghost use Rattle.std.specs.Prelude.{◌≡◌, ◌≤◌, ◌<◌, ◌^◌, IfOk, OnOk, string_bytes};
 ghost use Rattle.serde_json.specs.View.{view};
 ghost use Rattle.job_core.specs.Sound.{IsName};
-ghost use Rattle.wire.specs.Sending.{AreNames, Arrives, IsSendable, record_request, sending_of};
+ghost use Rattle.job_core.specs.declared.request.Call.{Call as CallValue};
+ghost use Rattle.wire.specs.Sending.{AreNames, Arrives, IsMessageOf, IsNoImport, IsSendable};
+ghost use Rattle.wire.specs.Sending.{record_request, sending_of};
 ghost use Rattle.wire.specs.Sending.{value_of, word_text};
 
+use arrivals::name_text;
 use asks::{import_text, job_text};
-use job_core::{Lot, Request};
-use reply_store::name_text;
+use job_core::{Call, Lot, Request};
 use serde_json::{Value, json};
 use std::alloc::{AllocError, Global};
 use store_data::{Bytes, Name, Product};
 
-/// The message that asks for a request under a client's number, head and body. The number is 1 to 999,999,999,999,999,999. It
+/// The message that asks for a call under a client's number, head and body. The number is 1 to 999,999,999,999,999,999. It
 /// fails only where memory is refused.
 pub fn request_text(
+    alloc: Global,
+    client: &Name,
+    number: u64,
+    call: &Call,
+) -> Result<Bytes, AllocError>
+    requires least { 1 ≤ number }
+    requires most { number < 10 ^ 18 }
+    requires sendable { IsSendable call.now }
+    ensures text { IfOk result (λ text. text ≡ sending_of client.now number call.now) }
+    ensures arrives { IfOk result (λ text. Arrives text client.now number call.now) }
+{
+    match call {
+        Call::Job { request } => job_message(alloc, client, number, request),
+        Call::Release { upto } => {
+            let value = release_value(alloc, *upto)?;
+            json_message(alloc, client, number, &value)
+        }
+    }
+}
+
+// A request of the plain machine: a batch file, or JSON.
+fn job_message(
     alloc: Global,
     client: &Name,
     number: u64,
@@ -22,9 +46,8 @@ pub fn request_text(
 ) -> Result<Bytes, AllocError>
     requires least { 1 ≤ number }
     requires most { number < 10 ^ 18 }
-    requires sendable { IsSendable request.now }
-    ensures text { IfOk result (λ text. text ≡ sending_of client.now number request.now) }
-    ensures arrives { IfOk result (λ text. Arrives text client.now number request.now) }
+    requires sendable { IsSendable (Call.Job request.now) }
+    ensures { IfOk result (IsMessageOf client.now number (Call.Job request.now)) }
 {
     match request {
         Request::Import {
@@ -33,16 +56,38 @@ pub fn request_text(
             raw,
         } => import_text(alloc, client, number, batch, product, raw.as_slice()),
         _ => {
-            let body = value_of(alloc, request)?.to_string(alloc)?;
-            job_text(alloc, client, number, body.as_bytes())
+            let value = job_value(alloc, request)?;
+            json_message(alloc, client, number, &value)
         }
     }
 }
 
+// What a JSON value asks for.
+fn json_message(
+    alloc: Global,
+    client: &Name,
+    number: u64,
+    value: &Value,
+) -> Result<Bytes, AllocError>
+    requires least { 1 ≤ number }
+    requires most { number < 10 ^ 18 }
+    ensures { (call : CallValue) → view value.now ≡ value_of call → AreNames call
+        → IsSendable call → IsNoImport call → IfOk result (IsMessageOf client.now number call) }
+{
+    let body = value.to_string(alloc)?;
+    job_text(alloc, client, number, body.as_bytes())
+}
+
+fn release_value(alloc: Global, upto: u64) -> Result<Value, AllocError>
+    ensures { IfOk result (λ v. view v ≡ value_of (Call.Release upto)) }
+{
+    json!(in alloc; {"do": "release", "upto": upto})
+}
+
 // The JSON of a request; an import has none.
-fn value_of(alloc: Global, request: &Request) -> Result<Value, AllocError>
-    ensures value { IfOk result (λ v. view v ≡ value_of request.now) }
-    ensures names { OnOk result (AreNames request.now) }
+fn job_value(alloc: Global, request: &Request) -> Result<Value, AllocError>
+    ensures value { IfOk result (λ v. view v ≡ value_of (Call.Job request.now)) }
+    ensures names { OnOk result (AreNames (Call.Job request.now)) }
 {
     match request {
         Request::Product { product } => product_value(alloc, product),
@@ -60,7 +105,7 @@ fn value_of(alloc: Global, request: &Request) -> Result<Value, AllocError>
 }
 
 fn product_value(alloc: Global, product: &Product) -> Result<Value, AllocError>
-    ensures value { IfOk result (λ v. view v ≡ value_of (Request.Product product.now)) }
+    ensures value { IfOk result (λ v. view v ≡ value_of (Call.Job (Request.Product product.now))) }
     ensures name { OnOk result (IsName product.now.code) }
 {
     json!(in alloc; {
@@ -73,7 +118,7 @@ fn product_value(alloc: Global, product: &Product) -> Result<Value, AllocError>
 }
 
 fn lot_value(alloc: Global, lot: &Lot) -> Result<Value, AllocError>
-    ensures value { IfOk result (λ v. view v ≡ value_of (Request.Lot lot.now)) }
+    ensures value { IfOk result (λ v. view v ≡ value_of (Call.Job (Request.Lot lot.now))) }
     ensures names { OnOk result (IsName lot.now.name × IsName lot.now.product) }
 {
     json!(in alloc; {
@@ -86,14 +131,14 @@ fn lot_value(alloc: Global, lot: &Lot) -> Result<Value, AllocError>
 }
 
 fn open_value(alloc: Global, batch: &Name, blank: u64) -> Result<Value, AllocError>
-    ensures value { IfOk result (λ v. view v ≡ value_of (Request.Open batch.now blank)) }
+    ensures value { IfOk result (λ v. view v ≡ value_of (Call.Job (Request.Open batch.now blank))) }
     ensures name { OnOk result (IsName batch.now) }
 {
     json!(in alloc; {"batch": text(batch), "blank": blank, "do": "open"})
 }
 
 fn answer_value(alloc: Global, session: u64, index: u32, sw: u16) -> Result<Value, AllocError>
-    ensures { IfOk result (λ v. view v ≡ value_of (Request.Answer session index sw)) }
+    ensures { IfOk result (λ v. view v ≡ value_of (Call.Job (Request.Answer session index sw))) }
 {
     json!(in alloc; {
         "do": "answer",
@@ -118,7 +163,7 @@ fn record_value(alloc: Global, batch: &Name, word: &str, rec: &Name) -> Result<V
 }
 
 fn close_value(alloc: Global, batch: &Name) -> Result<Value, AllocError>
-    ensures value { IfOk result (λ v. view v ≡ value_of (Request.Close batch.now)) }
+    ensures value { IfOk result (λ v. view v ≡ value_of (Call.Job (Request.Close batch.now))) }
     ensures name { OnOk result (IsName batch.now) }
 {
     json!(in alloc; {"batch": text(batch), "do": "close"})
