@@ -1,0 +1,4 @@
+pub mod StepCases
+pub mod Kept
+pub mod Numbered
+pub mod Growth

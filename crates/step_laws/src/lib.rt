@@ -1,0 +1,7 @@
+//! Laws of the plain machine: what its steps keep, and what its replies say of the facts. Each
+//! function does nothing; who calls it has its law.
+#![tactic(auto)]
+
+mod sessions;
+
+pub use sessions::{only_its_machine_changes_a_session, sessions_only_grow};
