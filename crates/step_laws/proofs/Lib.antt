@@ -2,3 +2,4 @@ pub mod StepCases
 pub mod Kept
 pub mod Numbered
 pub mod Growth
+pub mod SoundSteps

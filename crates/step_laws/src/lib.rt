@@ -3,5 +3,7 @@
 #![tactic(auto)]
 
 mod sessions;
+mod soundness;
 
 pub use sessions::{only_its_machine_changes_a_session, sessions_only_grow};
+pub use soundness::{sessions_are_few, sound_facts_stay_sound};
