@@ -3,3 +3,4 @@ pub mod Kept
 pub mod Numbered
 pub mod Growth
 pub mod SoundSteps
+pub mod GoodCards

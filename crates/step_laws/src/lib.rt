@@ -2,8 +2,12 @@
 //! function does nothing; who calls it has its law.
 #![tactic(auto)]
 
+mod cards;
 mod sessions;
 mod soundness;
 
+pub use cards::{
+    blank_has_one_session, good_stays_good, record_has_one_good_session, words_of_good_sessions_go,
+};
 pub use sessions::{only_its_machine_changes_a_session, sessions_only_grow};
 pub use soundness::{sessions_are_few, sound_facts_stay_sound};
