@@ -4,3 +4,6 @@ pub mod Numbered
 pub mod Growth
 pub mod SoundSteps
 pub mod GoodCards
+pub mod RecordStands
+pub mod Commands
+pub mod ReplyFacts

@@ -1,5 +1,5 @@
 -- Requests and replies in their ranges, for laws on all values: what a type says in code is a premise here (this project's profile).
-use Rattle.std.specs.Prelude.{◌≤◌, ◌<◌, ◌^◌, ℕ, List, All, ⊤}
+use Rattle.std.specs.Prelude.{◌≤◌, ◌<◌, ◌^◌, ℕ, List, slice_index, ⊤}
 use Rattle.store_data.specs.Sequence.{IsProduct}
 use Rattle.job_core.specs.declared.reply.Reply.{Reply}
 use Rattle.job_core.specs.declared.reply.Reply.TheVariants as reply
@@ -23,7 +23,7 @@ IsRanged (request.Withdraw b r) = IsName b × IsName r
 IsRanged (request.Close b) = IsName b
 
 abbrev pub AreBytes : List ℕ → Type 0
-AreBytes xs = All (λ b. b < 256) xs
+AreBytes xs = (i : ℕ) → slice_index xs i < 256
 
 -- its names are names, its command is bytes, and its numbers are no larger than contents can make them
 abbrev pub IsRangedReply : Reply → Type 0
