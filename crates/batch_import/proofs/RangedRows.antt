@@ -1,9 +1,9 @@
--- The rows of a batch file without a fault are in their ranges.
-use Rattle.std.proofs.Common.{◌≡◌, ◌≤◌, ◌<◌, ◌&&◌, ℕ, Bool, true, false, cond, List, [], ◌∷◌, ◌++◌, length, All, Option, Some, None, Result, Ok, Err, refl, sym, ap, ◌∙◌, subst, inl, inr, arith}
+-- The rows of a batch file without a fault are in their ranges, and so is the row of a fault.
+use Rattle.std.proofs.Common.{◌≡◌, ◌≤◌, ◌<◌, ◌+◌, ◌&&◌, ℕ, Bool, true, false, cond, List, [], ◌∷◌, ◌++◌, length, length-append, All, Option, Some, None, Result, Ok, Err, refl, sym, ap, ◌∙◌, subst, inl, inr, arith}
 use Rattle.std.specs.Prelude.{nat_le, is_some, IsTrue}
-use Rattle.std.specs.List.{cons_option, filter_map, list_all, position_or_len}
+use Rattle.std.specs.List.{cons_option, enumerate_from, filter_map, find, list_all, position_or_len}
 use Rattle.std.specs.Char.{is_ascii_digit}
-use Rattle.std.proofs.lemmas.Bool.{and_parts, cases_Bool, cond-true, cond-false, leb-true}
+use Rattle.std.proofs.lemmas.Bool.{and_parts, cases_Bool, cond-true, cond-false, leb-false, leb-true}
 use Rattle.std.proofs.lemmas.List.Elements.{All-nil, All-cons, All-head, All-tail, All-take}
 use Rattle.std.proofs.lemmas.Option.{none-some, same_Some}
 use Rattle.hex.specs.Hex.{IsBytes, decode_of}
@@ -12,14 +12,19 @@ use Rattle.dgi.specs.Coding.{IsSent, sent_of}
 use Rattle.dgi.proofs.Sent.{text_takes}
 use Rattle.store_data.specs.Name.{is_name}
 use Rattle.store_data.specs.Sequence.{IsRow}
+use Rattle.store_data.proofs.ByteLemmas.{all_numbered}
+use Rattle.store_data.proofs.IsPlanLemmas.{All-grouped}
 use Rattle.store_data.specs.declared.row.Enc.{Enc}
 use Rattle.store_data.specs.declared.row.Product.{Product}
 use Rattle.store_data.specs.declared.row.Row.{Row}
+use Rattle.batch_import.specs.declared.fault.Kind.{Kind}
+use Rattle.batch_import.specs.declared.fault.Kind.TheVariants as kind
 use Rattle.batch_import.specs.declared.fault.RowFault.{RowFault}
-use Rattle.batch_import.specs.Batch.{batch_of, coming_of, coming_of_records, coming_of_rows, first_record_fault, ok_unless, planned_rows, records_of_rows, unless_faulty}
+use Rattle.batch_import.specs.Batch.{batch_of, coming_of, coming_of_records, coming_of_rows, first_number, first_record_fault, group_fault, ok_unless, planned_rows, records_of_rows, unless_faulty}
 use Rattle.batch_import.specs.Fields.{Marks, aid_of_bytes, aid_of_text, coded_of, decimal, field, grouping_of_text, name_of_text, rank_of_text, row_of_values, row_with, values_of}
 use Rattle.batch_import.specs.Outlines.{AreBatchRows}
-use Rattle.batch_import.specs.RowFaults.{PlacedRow, header_fault, placed, row_fault}
+use Rattle.batch_import.specs.RowFaults.{PlacedRow, first_fault, header_fault, or_else, placed, row_fault, row_has, told_at}
+use Rattle.batch_import.specs.Kinds.{row_kinds}
 use Rattle.batch_import.specs.Records.{records_of}
 use Rattle.batch_import.proofs.WalkLemmas.{coming_of-few, planned_some}
 
@@ -183,3 +188,93 @@ batch_typed p raw rows is = at (coming_of p.check raw).fault is
             each = λ k d within. (typed k d within).is;
           },
         )
+
+-- ---- the row of a fault
+
+-- no kind before it is told, so neither is this one
+none_of : (has : Kind → Bool) (before after : List Kind) (k : Kind) → find has (before ++ k ∷ after) ≡ None → has k ≡ false
+none_of has [] after k none = elim (cases_Bool (has k)) [
+  | inl hit ↦ absurd (none-some k (sym none ∙ cond-true (has k) (Some k) (find has after) hit))
+  | inr miss ↦ miss
+]
+none_of has (x ∷ before) after k none = elim (cases_Bool (has x)) [
+  | inl hit ↦ absurd (none-some x (sym none ∙ cond-true (has x) (Some x) (find has (before ++ k ∷ after)) hit))
+  | inr miss ↦ none_of has before after k (sym (cond-false (has x) (Some x) (find has (before ++ k ∷ after)) miss) ∙ none)
+]
+
+told_row : (n : ℕ) (o : Option Kind) (fault : RowFault) → told_at n o ≡ Some fault → fault.row ≡ n
+told_row n None fault is = absurd (none-some fault is)
+told_row n (Some k) fault is = sym (ap (λ (f : RowFault). f.row) (same_Some _ fault is))
+
+told_none : (n : ℕ) (o : Option Kind) → told_at n o ≡ None → o ≡ None
+told_none n None is = refl
+told_none n (Some k) is = absurd (none-some _ (sym is))
+
+-- behind a row without a fault there is room for another
+room : (check : Bool) (row : PlacedRow) → row_fault check row ≡ None → length row.before < 4096
+room check row none =
+    let before = kind.NotSixFields ∷ kind.Header ∷ kind.RecordName ∷ kind.Aid ∷ kind.Rank ∷ kind.Mark ∷ kind.Grouping ∷ kind.NotARecord ∷ [] in
+    leb-false 4096 (length row.before)
+    (none_of (row_has check row) before (kind.TooManyRecords ∷ []) kind.TooManyRows (told_none (length row.before + 2) (find (row_has check row) row_kinds) none))
+
+placed_fault : (marks : Marks) (check : Bool) (before rest : List (List (List ℕ))) (fault : RowFault) → length before ≤ 4096
+    → first_fault (row_fault check) (placed marks before rest) ≡ Some fault → fault.row ≤ 4098
+placed_fault marks check before [] fault few is = absurd (none-some fault is)
+placed_fault marks check before (fields ∷ rest) fault few is =
+    let here : PlacedRow = record { before = before; fields = fields; values = values_of marks fields } in
+    let more = first_fault (row_fault check) (placed marks (before ++ fields ∷ []) rest) in
+    first (row_fault check here) more refl is (λ none last. placed_fault marks check (before ++ fields ∷ []) rest fault (omega (arith, room check here none, length-append before (fields ∷ []))) last)
+  where
+    first : (o more : Option RowFault) → row_fault check (record { before = before; fields = fields; values = values_of marks fields }) ≡ o → or_else o more ≡ Some fault
+        → (o ≡ None → more ≡ Some fault → fault.row ≤ 4098) → fault.row ≤ 4098
+    first None more own is later = later refl is
+    first (Some x) more own is later = omega (arith, few, told_row (length before + 2) _ fault (own ∙ is))
+
+coming_fault : (marks : Marks) (check : Bool) (records : List (List (List ℕ))) (fault : RowFault) → (coming_of_records marks check records).fault ≡ Some fault → fault.row ≤ 4098
+unfolding coming_of_records coming_of_rows
+coming_fault marks check [] fault is = omega (arith, told_row 1 (Some kind.Header) fault is)
+coming_fault marks check (first ∷ rest) fault is = at (header_fault first) refl is
+  where
+    at : (o : Option RowFault) → header_fault first ≡ o → (unless_faulty o (coming_of_rows check (placed marks [] rest))).fault ≡ Some fault → fault.row ≤ 4098
+    at (Some x) own is = omega (arith, told_row 1 _ fault (own ∙ is))
+    at None own is = placed_fault marks check [] rest fault (omega arith) is
+
+-- the fault of a record is told with a row of it
+group_row : (m : ℕ) (groups : List (List (ℕ × Row))) (fault : RowFault) → All (λ group. first_number group ≤ 4098) groups
+    → first_fault (group_fault m) groups ≡ Some fault → fault.row ≤ 4098
+group_row m [] fault each is = absurd (none-some fault is)
+group_row m (group ∷ groups) fault each is =
+    first (group_fault m group) (first_fault (group_fault m) groups) refl is (group_row m groups fault (All-tail (λ group. first_number group ≤ 4098) group groups each))
+  where
+    first : (o more : Option RowFault) → group_fault m group ≡ o → or_else o more ≡ Some fault → (more ≡ Some fault → fault.row ≤ 4098) → fault.row ≤ 4098
+    first None more own is later = later is
+    first (Some x) more own is later = omega (arith, All-head (λ group. first_number group ≤ 4098) group groups each, told_row (first_number group) _ fault (own ∙ is))
+
+numbers_small : (rows : List Row) → length rows ≤ 4096 → All (λ group. first_number group ≤ 4098) (records_of_rows rows)
+numbers_small rows few =
+    let IsSmall : ℕ × Row → Type 0 = λ e. (e.0 < 4098) × Unit {0} in
+    All-grouped (λ (e : ℕ × Row). e.1.rec) IsSmall (λ group. first_number group ≤ 4098) (enumerate_from 2 rows)
+    (all_numbered (λ row. Unit {0}) 2 4098 rows (omega (arith, few)) (λ k d within. tt))
+    (λ group each some. first group each)
+  where
+    first : (group : List (ℕ × Row)) → All (λ (e : ℕ × Row). (e.0 < 4098) × Unit {0}) group → first_number group ≤ 4098
+    first [] each = omega arith
+    first (e ∷ more) each = omega (arith, (All-head (λ (e : ℕ × Row). (e.0 < 4098) × Unit {0}) e more each).0)
+
+planned_fault : (m : ℕ) (rows : List Row) (fault : RowFault) → length rows ≤ 4096 → planned_rows m rows ≡ Err fault → fault.row ≤ 4098
+unfolding first_record_fault
+planned_fault m [] fault few is = let same : record { row = 1; kind = kind.NoRows } ≡ fault = cc in omega (arith, ap (λ (f : RowFault). f.row) same)
+planned_fault m (row ∷ more) fault few is = at (first_fault (group_fault m) (records_of_rows (row ∷ more))) refl is
+  where
+    at : (o : Option RowFault) → first_fault (group_fault m) (records_of_rows (row ∷ more)) ≡ o → ok_unless o (row ∷ more) ≡ Err fault → fault.row ≤ 4098
+    at None own is = absurd (cc)
+    at (Some x) own is = let same : x ≡ fault = cc in group_row m (records_of_rows (row ∷ more)) fault (numbers_small (row ∷ more) few) (own ∙ ap Some same)
+
+-- a fault is told with one of the first 4,098 rows
+pub batch_fault_row : (p : Product) (raw : List ℕ) (fault : RowFault) → batch_of p raw ≡ Err fault → fault.row ≤ 4098
+unfolding batch_of
+batch_fault_row p raw fault is = at (coming_of p.check raw).fault refl is
+  where
+    at : (o : Option RowFault) → (coming_of p.check raw).fault ≡ o → by_fault p.max (coming_of p.check raw).rows o ≡ Err fault → fault.row ≤ 4098
+    at (Some x) own found = let same : x ≡ fault = cc in coming_fault _ p.check (records_of raw) fault (own ∙ ap Some same)
+    at None own found = planned_fault p.max (coming_of p.check raw).rows fault (coming_of-few p.check raw) found

@@ -7,3 +7,4 @@ pub mod GoodCards
 pub mod RecordStands
 pub mod Commands
 pub mod ReplyFacts
+pub mod ReplyRanges

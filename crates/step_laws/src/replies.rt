@@ -4,6 +4,7 @@ ghost use Rattle.job_core.specs.declared.request.Request.{Request as RequestValu
 ghost use Rattle.job_core.specs.Facts.{Facts};
 ghost use Rattle.job_core.specs.Sound.{IsSound};
 ghost use Rattle.job_core.specs.Steps.{step};
+ghost use Rattle.step_laws.specs.Ranges.{IsRanged, IsRangedReply};
 ghost use Rattle.step_laws.specs.Replies.{MayBeTold, Says};
 
 /// A request is told what may be told to it, of what it names.
@@ -17,4 +18,11 @@ pub fn replies_are_to_requests()
 pub fn replies_tell_the_facts()
     ensures { (f : Facts) (client : List ℕ) (r : RequestValue) → IsSound f
         → Says f (step f client r).0 client (step f client r).1 }
+{}
+
+/// What is replied to a request in its ranges is in its own: a name is a name, a command is bytes,
+/// and no number is larger than contents can make it.
+pub fn replies_are_in_range()
+    ensures { (f : Facts) (client : List ℕ) (r : RequestValue) → IsSound f → IsRanged r
+        → IsRangedReply (step f client r).1 }
 {}

@@ -24,7 +24,7 @@ all_flat : {X Y : Type 0} (P : X → Type 0) (Q : Y → Type 0) (f : X → List 
 all_flat P Q f each [] all = All-nil Q
 all_flat P Q f each (x ∷ xs) all = All-append Q (f x) (flat_map f xs) (each x (All-head P x xs all)) (all_flat P Q f each xs (All-tail P x xs all))
 
-all_numbered : {X : Type 0} (P : X → Type 0) (n m : ℕ) (xs : List X) → n + length xs ≤ m → All P xs → All (λ (e : ℕ × X). (e.0 < m) × P e.1) (enumerate_from n xs)
+pub all_numbered : {X : Type 0} (P : X → Type 0) (n m : ℕ) (xs : List X) → n + length xs ≤ m → All P xs → All (λ (e : ℕ × X). (e.0 < m) × P e.1) (enumerate_from n xs)
 all_numbered {X = X} P n m [] few all = All-nil (λ (e : ℕ × X). (e.0 < m) × P e.1)
 all_numbered {X = X} P n m (x ∷ xs) few all =
     All-cons (λ (e : ℕ × X). (e.0 < m) × P e.1) (n, x) (enumerate_from (n + 1) xs) (omega (arith, few), All-head P x xs all) (all_numbered P (n + 1) m xs (omega (arith, few)) (All-tail P x xs all))
