@@ -10,7 +10,7 @@ use Rattle.job_core.specs.Sound.{IsSound}
 use Rattle.job_core.specs.States.{commands_for, session_numbered, session_state}
 use Rattle.job_core.specs.Steps.{step}
 use Rattle.job_core.proofs.SessionLemmas.{session_changed}
-use Rattle.step_laws.specs.Later.{AnswersWithin, IsLaterSession, IsMore, KnowsMore, Later, OthersStay, TakesInTurn, WordsWithin, is_on_session}
+use Rattle.step_laws.specs.Later.{AnswersWithin, IsLaterSession, IsMore, KnowsMore, Later, OtherSessionsStay, TakesInTurn, WordsWithin, is_on_session}
 use Rattle.step_laws.proofs.Kept.{commands_kept, commands_same, no_more, one_more, state_kept, state_same, step_knows}
 use Rattle.step_laws.proofs.Numbered.{at_or_other, length_changed, numbered_changed, numbered_other, numbered_push, numbered_pushed, session_sound}
 use Rattle.step_laws.proofs.StepCases.{IsOwn, facts_by, sessions_by}
@@ -136,7 +136,7 @@ later_on f g h first second s x is =
 -- ---- whose they are
 
 changed_others : (f : Facts) (client : List ℕ) (t : ℕ) (y : Session) (change : Session → Session) → IsOwn f client t y → ((x : Session) → GoesOn x (change x))
-    → OthersStay client f (record f { sessions = at_session t change f.sessions })
+    → OtherSessionsStay client f (record f { sessions = at_session t change f.sessions })
 changed_others f client t y change own on s x other = (
   λ is. elim (at_or_other s t) [
     | inl hit ↦ absurd (other (ap (λ (z : Session). z.machine) (same_Some x y (sym is ∙ ap (session_numbered f.sessions) hit ∙ own.there)) ∙ own.own))
@@ -148,15 +148,15 @@ changed_others f client t y change own on s x other = (
   ],
 )
 
-pushed_others : (f : Facts) (client : List ℕ) (new : Session) → new.machine ≡ client → OthersStay client f (with_session f new)
+pushed_others : (f : Facts) (client : List ℕ) (new : Session) → new.machine ≡ client → OtherSessionsStay client f (with_session f new)
 pushed_others f client new own s x other = (
   λ is. numbered_push f.sessions (new ∷ []) s x is,
   λ is. elim (numbered_pushed f.sessions new s x is) [ inl was ↦ was | inr now ↦ absurd (other (ap (λ (z : Session). z.machine) now ∙ own)) ],
 )
 
-pub step_others : (f : Facts) (client : List ℕ) (r : Request) → OthersStay client f (step f client r).0
+pub step_others : (f : Facts) (client : List ℕ) (r : Request) → OtherSessionsStay client f (step f client r).0
 step_others f client r =
-    sessions_by f client (λ r xs. OthersStay client f (record f { sessions = xs }))
+    sessions_by f client (λ r xs. OtherSessionsStay client f (record f { sessions = xs }))
     (record {
       stays = λ r s x other. (λ is. is, λ is. is);
       opens = λ b blank r opens. pushed_others f client (new_session client b r blank) refl;

@@ -19,7 +19,7 @@ use Rattle.job_core.proofs.Lists.{count_by-at, count_by_any, list_any-false, lis
 use Rattle.job_core.proofs.SessionLemmas.{session_changed, session_split}
 use Rattle.job_core.proofs.SoundFacts.{is_for, states_among, states_are}
 use Rattle.step_laws.specs.Later.{KnowsMore}
-use Rattle.step_laws.specs.Records.{OthersStand, is_told, record_by, record_of_session}
+use Rattle.step_laws.specs.Records.{OtherRecordsStand, is_told, record_by, record_of_session}
 use Rattle.step_laws.proofs.Kept.{state_kept, step_knows}
 use Rattle.step_laws.proofs.StepCases.{IsOwn, own_there, step_by}
 
@@ -164,9 +164,9 @@ withdrawn_stand f b r c q other =
     record_same f (with_withdrawal f b r) c q (same_states f f.discarded f.remakes (f.withdrawn ++ named b r ∷ []) f.closed c q)
     (list_any-append (is_record c q) f.withdrawn (named b r ∷ []) ∙ ap (λ t. is_withdrawn f c q || (t || false)) other ∙ or-false (is_withdrawn f c q)) refl
 
-pub step_stands : (f : Facts) (client : List ℕ) (r : Request) → IsSound f → OthersStand f (step f client r).0 (step f client r).1
+pub step_stands : (f : Facts) (client : List ℕ) (r : Request) → IsSound f → OtherRecordsStand f (step f client r).0 (step f client r).1
 step_stands f client r sound =
-    let P : Request → Outcome → Type 0 = λ r o. KnowsMore f o.0 → OthersStand f o.0 o.1 in
+    let P : Request → Outcome → Type 0 = λ r o. KnowsMore f o.0 → OtherRecordsStand f o.0 o.1 in
     step_by f client P
     (record {
       refuses = λ r why more b q other. refl;
@@ -184,7 +184,7 @@ step_stands f client r sound =
       opens = λ b blank r opens more c q other. opened_stand f (new_session client b r blank) c q other;
       word = λ s k sw x own turn more.
           let g : Facts = with_word f s sw in
-          let Q : Reply → Type 0 = λ told. OthersStand f g told in
+          let Q : Reply → Type 0 = λ told. OtherRecordsStand f g told in
           let stand = changed_stand f client s x (worded sw) own refl refl in
           cond_both {A = Reply} (goes_at (commands_for f x.batch x.rec) k sw) _ _ Q
           (λ goes. cond_both {A = Reply} (k + 1 == length (commands_for f x.batch x.rec)) _ _ Q (λ last. stand) (λ next. stand)) (λ stops. stand);

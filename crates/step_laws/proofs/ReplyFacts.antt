@@ -7,7 +7,7 @@ use Rattle.std.proofs.lemmas.Bool.{and_from, cond-true, cond_both, eq-eqb, false
 use Rattle.std.proofs.lemmas.List.{length_push}
 use Rattle.std.proofs.lemmas.List.Folds.{find-append}
 use Rattle.std.proofs.lemmas.List.Sums.{sum_by_push}
-use Rattle.std.proofs.lemmas.Option.{cond_some}
+use Rattle.std.proofs.lemmas.Option.{cond_some, none-some}
 use Rattle.store_data.specs.Sequence.{Command}
 use Rattle.store_data.specs.declared.row.Product.{Product}
 use Rattle.store_data.specs.declared.row.Row.{Row}
@@ -294,9 +294,9 @@ withdrawn_says f b r failed stands =
 
 -- ---- all replies
 
-given_up : (g : Facts) (client : List ℕ) (s : ℕ) (x : Session) → IsSessionOf g client s x session.Spoiled → IsGivenUp g client s
-given_up g client zero x is = tt
-given_up g client (suc s) x is = (x, is)
+given_up : (f g : Facts) (client : List ℕ) (s : ℕ) (x : Session) → IsSessionOf g client s x session.Spoiled → IsGivenUp f g client s
+given_up f g client zero x is = absurd (none-some x is.there)
+given_up f g client (suc s) x is = (x, is)
 
 pub step_says : (f : Facts) (client : List ℕ) (r : Request) → IsSound f → Says f (step f client r).0 client (step f client r).1
 step_says f client r sound =
@@ -308,7 +308,7 @@ step_says f client r sound =
       lot = λ l kept is. (ap is_some is, refl);
       batch = λ b p raw kept is. (kept, is, refl, refl, refl);
       busy = λ b blank s runs. (runs, refl);
-      idle = λ none. (none, tt);
+      idle = λ none. (none, refl);
     })
     (record {
       product = λ p new few. (ap is_some (found_push (λ (q : Product). bytes_eq q.code p.code) f.products p new (bytes_eq-same p.code)), tt);
@@ -320,7 +320,7 @@ step_says f client r sound =
       opens = λ b blank r is. opened_says f client b blank r sound is.waits is.free;
       word = λ s k sw x own turn. word_says f client s k sw x sound own turn;
       abort = λ s x own. (ended x, end_is f client s x sound own);
-      reset = λ s runs. let x = own_there f client s runs in (none_runs f client s x.0 sound x.1, given_up (with_end f s) client s (ended x.0) (end_is f client s x.0 sound x.1));
+      reset = λ s runs. let x = own_there f client s runs in (none_runs f client s x.0 sound x.1, given_up f (with_end f s) client s (ended x.0) (end_is f client s x.0 sound x.1));
       discard = λ blank l there free.
           or_right (list_any (λ (s : Session). s.blank == blank) f.sessions) _ (list_any-there (λ b. b == blank) f.discarded [] blank (eq-eqb blank blank refl));
       remake = λ b r more failed. remade_says f b r sound failed;

@@ -43,8 +43,8 @@ abbrev pub Later : Facts → Facts → Type 0
 Later f g = (s : ℕ) (x : Session) → session_numbered f.sessions s ≡ Some x → IsLaterSession f g s x
 
 -- the sessions of the other machines are the same in both
-abbrev pub OthersStay : List ℕ → Facts → Facts → Type 0
-OthersStay client f g = (s : ℕ) (x : Session) → x.machine ≢ client → (session_numbered f.sessions s ≡ Some x) ↔ (session_numbered g.sessions s ≡ Some x)
+abbrev pub OtherSessionsStay : List ℕ → Facts → Facts → Type 0
+OtherSessionsStay client f g = (s : ℕ) (x : Session) → x.machine ≢ client → (session_numbered f.sessions s ≡ Some x) ↔ (session_numbered g.sessions s ≡ Some x)
 
 -- a request that may change a session
 abbrev pub is_on_session : Request → Bool

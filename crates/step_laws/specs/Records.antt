@@ -36,10 +36,11 @@ record_told g (reply.Waiting b r) = Some (record { batch = b; rec = r })
 record_told g (reply.Withdrawn b r) = Some (record { batch = b; rec = r })
 record_told g _ = None
 
+-- it is this record
 abbrev pub is_told : List ℕ → List ℕ → Option RecordName → Bool
 is_told b r None = false
 is_told b r (Some n) = is_record b r n
 
 -- all other records stand as they did
-abbrev pub OthersStand : Facts → Facts → Reply → Type 0
-OthersStand f g reply = (b r : List ℕ) → is_told b r (record_told g reply) ≡ false → record_state g b r ≡ record_state f b r
+abbrev pub OtherRecordsStand : Facts → Facts → Reply → Type 0
+OtherRecordsStand f g reply = (b r : List ℕ) → is_told b r (record_told g reply) ≡ false → record_state g b r ≡ record_state f b r

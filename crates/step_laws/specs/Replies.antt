@@ -49,10 +49,10 @@ pub record IsSessionOf (g : Facts) (client : List ℕ) (s : ℕ) (x : Session) (
   pub stands : session_state g x ≡ state
   pub rec : record_state g x.batch x.rec ≡ record_by state
 
--- the session that a reset names is spoiled; 0 names none
-abbrev pub IsGivenUp : Facts → List ℕ → ℕ → Type 0
-IsGivenUp g client zero = ⊤
-IsGivenUp g client (suc s) = (x : Session) × IsSessionOf g client (suc s) x session.Spoiled
+-- the session that a reset names is spoiled; 0 names none, and leaves the facts
+abbrev pub IsGivenUp : Facts → Facts → List ℕ → ℕ → Type 0
+IsGivenUp f g client zero = g ≡ f
+IsGivenUp f g client (suc s) = (x : Session) × IsSessionOf g client (suc s) x session.Spoiled
 
 -- what a client's reply says of the facts before it and after it. What is not named is a refusal, which leaves them.
 abbrev pub Says : Facts → Facts → List ℕ → Reply → Type 0
@@ -68,7 +68,7 @@ Says f g client (reply.Next command k s) =
     (x : Session) × IsSessionOf g client s x session.Running × (length x.words ≡ k) × (command ≡ command_at g x.batch x.rec k)
 Says f g client (reply.Good s) = (x : Session) × IsSessionOf g client s x session.Good
 Says f g client (reply.Spoiled s) = (x : Session) × IsSessionOf g client s x session.Spoiled
-Says f g client (reply.Reset s) = (running_session g client ≡ None) × IsGivenUp g client s
+Says f g client (reply.Reset s) = (running_session g client ≡ None) × IsGivenUp f g client s
 Says f g client (reply.Discarded blank) = IsTrue (is_charged g blank)
 Says f g client (reply.Waiting b r) = record_state_of g b r ≡ Some rec.Waiting
 Says f g client (reply.Withdrawn b r) = record_state_of g b r ≡ Some rec.Withdrawn

@@ -4,7 +4,7 @@ ghost use Rattle.job_core.specs.declared.request.Request.{Request as RequestValu
 ghost use Rattle.job_core.specs.Facts.{Facts};
 ghost use Rattle.job_core.specs.Sound.{IsSound};
 ghost use Rattle.job_core.specs.Steps.{step};
-ghost use Rattle.step_laws.specs.Later.{AnswersWithin, KnowsMore, Later, OthersStay, TakesInTurn};
+ghost use Rattle.step_laws.specs.Later.{AnswersWithin, KnowsMore, Later, OtherSessionsStay, TakesInTurn};
 ghost use Rattle.step_laws.specs.Later.{WordsWithin, is_on_session};
 
 /// A session only grows: it stays the same card's, words come behind its words, an end stays, and
@@ -22,7 +22,7 @@ pub fn sessions_only_grow()
 /// where it is for the session's next place, and no other request adds one.
 pub fn only_its_machine_changes_a_session()
     ensures others { (f : Facts) (client : List ℕ) (r : RequestValue)
-        → OthersStay client f (step f client r).0 }
+        → OtherSessionsStay client f (step f client r).0 }
     ensures all { (f : Facts) (client : List ℕ) (r : RequestValue) → is_on_session r ≡ false
         → (step f client r).0.sessions ≡ f.sessions }
     ensures least { (f : Facts) (client : List ℕ) (r : RequestValue)
