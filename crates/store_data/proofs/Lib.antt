@@ -8,3 +8,4 @@ pub mod CommandLemmas
 pub mod IsPlanLemmas
 pub mod WalkLemmas
 pub mod CursorLemmas
+pub mod ByteLemmas

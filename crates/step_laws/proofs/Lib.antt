@@ -1,0 +1,10 @@
+pub mod StepCases
+pub mod Kept
+pub mod Numbered
+pub mod Growth
+pub mod SoundSteps
+pub mod GoodCards
+pub mod RecordStands
+pub mod Commands
+pub mod ReplyFacts
+pub mod ReplyRanges

@@ -1,0 +1,122 @@
+-- Sound facts stay sound, whatever is asked in its ranges; and they have few sessions.
+use Rattle.std.proofs.Common.{◌≡◌, ◌≢◌, ◌≤◌, ◌<◌, ◌+◌, ◌==◌, ℕ, zero, suc, Bool, true, cond, List, [], ◌∷◌, length, length-append, map, All, Some, refl, sym, ap, ◌∙◌, subst, inl, inr, arith}
+use Rattle.std.specs.Prelude.{AllPairs, IsSome, is_some, sum_by}
+use Rattle.std.specs.List.{flat_map, list_any}
+use Rattle.std.specs.Cmp.{nat_eq_equiv}
+use Rattle.std.proofs.lemmas.Bool.{cases_Bool, eqb-true, false≢true, or_cases, or_left, or_right}
+use Rattle.std.proofs.lemmas.Bool.Decides.{Decides-eqb, nat_tests}
+use Rattle.std.proofs.lemmas.List.{length-map}
+use Rattle.std.proofs.lemmas.List.Concat.{flat_map-cons}
+use Rattle.std.proofs.lemmas.List.Elements.{All-head, All-tail, All-weaker}
+use Rattle.std.proofs.lemmas.List.Folds.{list_any-append}
+use Rattle.std.proofs.lemmas.List.Sums.{sum_by-cons, sum_by-le}
+use Rattle.std.proofs.lemmas.Map.Made.{IsDistinct-from_AllPairs, length-le_from_is_member}
+use Rattle.batch_import.proofs.RangedRows.{batch_typed}
+use Rattle.job_core.specs.declared.facts.Lot.{Lot}
+use Rattle.job_core.specs.declared.request.Request.{Request}
+use Rattle.job_core.specs.Facts.{Facts, Session}
+use Rattle.job_core.specs.Sound.{IsLot, IsName, IsSound, charges}
+use Rattle.job_core.specs.States.{is_in, lot_of}
+use Rattle.job_core.specs.Steps.{step}
+use Rattle.job_core.proofs.SoundFacts.{sound_batch, sound_close, sound_discard, sound_lot, sound_product, sound_remake, sound_withdraw}
+use Rattle.job_core.proofs.SoundSessions.{sound_end, sound_open, sound_word}
+use Rattle.step_laws.specs.Ranges.{IsRanged}
+use Rattle.step_laws.proofs.StepCases.{facts_by, named_batch}
+
+pub step_sound : (f : Facts) (client : List ℕ) (r : Request) → IsSound f → IsName client → IsRanged r → IsSound (step f client r).0
+step_sound f client r sound name ranged =
+    facts_by f client (λ r g. IsRanged r → IsSound g)
+    (record {
+      stays = λ r ranged. sound;
+      product = λ p new few ranged. sound_product f p sound new few ranged.1 ranged.0;
+      lot = λ l p new there apart few ranged. sound_lot f l p sound new there apart few ranged.0 ranged.2.least ranged.2.most ranged.2.range;
+      batch = λ b p raw kept rows new there few read ranged.
+          sound_batch f (named_batch b p raw) kept rows sound new there read (batch_typed kept raw rows read).1 few ranged.0;
+      opens = λ b blank r is ranged.
+          sound_open f client b r blank is.batch is.lot sound name is.there is.more is.idle is.lot_is is.same is.free is.waits;
+      word = λ s k sw x own turn ranged. sound_word f s sw x sound own.there own.runs ranged.3;
+      ends = λ r s x own why ranged. sound_end f s x sound own.there own.runs;
+      discard = λ blank l there free ranged. sound_discard f blank l sound there free;
+      remake = λ b r more failed ranged. sound_remake f b r sound more failed;
+      withdraw = λ b r failed more stands ranged. sound_withdraw f b r failed sound more stands;
+      close = λ b batch more there done ranged. sound_close f b batch sound more there done;
+    }) r ranged
+
+-- ---- the serials of lots
+
+serials : ℕ → ℕ → List ℕ
+serials first zero = []
+serials first (suc n) = first ∷ serials (first + 1) n
+
+serials_of : Lot → List ℕ
+unfolding serials
+serials_of l = serials l.first l.count
+
+length-serials : (first n : ℕ) → length (serials first n) ≡ n
+unfolding serials
+length-serials first zero = refl
+length-serials first (suc n) = ap suc (length-serials (first + 1) n)
+
+length-all : (lots : List Lot) → length (flat_map serials_of lots) ≡ sum_by (λ (l : Lot). l.count) lots
+unfolding serials_of
+length-all [] = refl
+length-all (l ∷ lots) =
+    let joined = ap length (flat_map-cons serials_of l lots) ∙ length-append (serials_of l) (flat_map serials_of lots) in
+    omega (arith, joined, length-serials l.first l.count, length-all lots, sum_by-cons (λ (m : Lot). m.count) l lots)
+
+abbrev has : List ℕ → ℕ → Bool
+has xs q = list_any (λ x. q == x) xs
+
+has_serial : (first n q : ℕ) → first ≤ q → q < first + n → has (serials first n) q ≡ true
+unfolding serials
+has_serial first zero q low high = absurd (omega arith)
+has_serial first (suc n) q low high = elim (cases_Bool (q == first)) [
+  | inl here ↦ or_left (q == first) (has (serials (first + 1) n) q) here
+  | inr other ↦ or_right (q == first) (has (serials (first + 1) n) q) (has_serial (first + 1) n q (grind (arith, nat_tests)) (omega arith))
+]
+
+among_serials : (lots : List Lot) (q : ℕ) → IsSome (lot_of lots q) → has (flat_map serials_of lots) q ≡ true
+unfolding serials_of
+among_serials [] q some = absurd (false≢true some)
+among_serials (l ∷ lots) q some =
+    let split = ap (λ xs. has xs q) (flat_map-cons serials_of l lots) ∙ list_any-append (λ x. q == x) (serials_of l) (flat_map serials_of lots) in
+    elim (cases_Bool (is_in q l)) [
+      | inl inside ↦ split ∙ or_left (has (serials_of l) q) _ (has_serial l.first l.count q (grind (arith, nat_tests)) (grind (arith, nat_tests)))
+      | inr outside ↦
+          let rest = among_serials lots q (sym (ap (λ b. is_some (cond b (Some l) (lot_of lots q))) outside) ∙ some) in
+          split ∙ or_right (has (serials_of l) q) _ rest
+    ]
+
+-- what holds of each holds of one among them
+has_holds : (P : ℕ → Type 0) (xs : List ℕ) (q : ℕ) → All P xs → has xs q ≡ true → P q
+has_holds P [] q each there = absurd (false≢true there)
+has_holds P (x ∷ xs) q each there = elim (or_cases (q == x) (has xs q) there) [
+  | inl here ↦ subst P (sym (eqb-true q x here)) (All-head P x xs each)
+  | inr later ↦ has_holds P xs q (All-tail P x xs each) later
+]
+
+-- blanks that are charged once, each in one of these lots, are no more than the lots have
+pub few_in_lots : (lots : List Lot) (blanks : List ℕ) → AllPairs (λ a b. a ≢ b) blanks → All (λ blank. IsSome (lot_of lots blank)) blanks
+    → length blanks ≤ sum_by (λ (l : Lot). l.count) lots
+few_in_lots lots blanks once each =
+    let distinct = IsDistinct-from_AllPairs Decides-eqb blanks once in
+    let inside : (q : ℕ) → has blanks q ≡ true → has (flat_map serials_of lots) q ≡ true =
+    λ q there. among_serials lots q (has_holds (λ blank. IsSome (lot_of lots blank)) blanks q each there) in
+    omega (arith, length-le_from_is_member nat_eq_equiv blanks (flat_map serials_of lots) distinct inside, length-all lots)
+
+-- each session has a blank of its own: 4,096 lots of 1,000,000 blanks have no more
+pub few_sessions : (f : Facts) → IsSound f → length f.sessions ≤ 4096000000
+few_sessions f sound =
+    let blanks = map (λ (s : Session). s.blank) f.sessions in
+    let charged = few_in_lots f.lots (charges f) sound.sessions.charged_once sound.sessions.charged_lots in
+    let most : All (λ (l : Lot). l.count ≤ 1000000) f.lots =
+    All-weaker (IsLot f.products) (λ (l : Lot). l.count ≤ 1000000) (λ l is. is.most) f.lots sound.named.lots.each in
+    let few = sound.named.lots.few in
+    omega (
+      arith,
+      charged,
+      few,
+      sum_by-le (λ (l : Lot). l.count) 1000000 f.lots most,
+      length-append blanks f.discarded,
+      length-map f.sessions (λ (s : Session). s.blank),
+    )

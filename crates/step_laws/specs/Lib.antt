@@ -1,0 +1,4 @@
+pub mod Ranges
+pub mod Later
+pub mod Records
+pub mod Replies

@@ -1,0 +1,36 @@
+//! What becomes of sessions.
+ghost use Rattle.std.specs.Prelude.{◌≡◌, ◌≤◌, ◌+◌, ℕ, List, false, length};
+ghost use Rattle.job_core.specs.declared.request.Request.{Request as RequestValue};
+ghost use Rattle.job_core.specs.Facts.{Facts};
+ghost use Rattle.job_core.specs.Sound.{IsSound};
+ghost use Rattle.job_core.specs.Steps.{step};
+ghost use Rattle.step_laws.specs.Later.{AnswersWithin, KnowsMore, Later, OtherSessionsStay, TakesInTurn};
+ghost use Rattle.step_laws.specs.Later.{WordsWithin, is_on_session};
+
+/// A session only grows: it stays the same card's, words come behind its words, an end stays, and
+/// one that is good or spoiled is left as it is. What else is known stays known.
+pub fn sessions_only_grow()
+    ensures knows { (f : Facts) (client : List ℕ) (r : RequestValue)
+        → KnowsMore f (step f client r).0 }
+    ensures step { (f : Facts) (client : List ℕ) (r : RequestValue) → IsSound f
+        → Later f (step f client r).0 }
+    ensures none { (f : Facts) → Later f f }
+    ensures more { (f g h : Facts) → Later f g → Later g h → Later f h }
+{}
+
+/// A request changes no other machine's session, and opens none for it. An answer adds its word
+/// where it is for the session's next place, and no other request adds one.
+pub fn only_its_machine_changes_a_session()
+    ensures others { (f : Facts) (client : List ℕ) (r : RequestValue)
+        → OtherSessionsStay client f (step f client r).0 }
+    ensures all { (f : Facts) (client : List ℕ) (r : RequestValue) → is_on_session r ≡ false
+        → (step f client r).0.sessions ≡ f.sessions }
+    ensures least { (f : Facts) (client : List ℕ) (r : RequestValue)
+        → length f.sessions ≤ length (step f client r).0.sessions }
+    ensures most { (f : Facts) (client : List ℕ) (r : RequestValue)
+        → length (step f client r).0.sessions ≤ length f.sessions + 1 }
+    ensures turns { (f : Facts) (client : List ℕ) (r : RequestValue)
+        → TakesInTurn r f (step f client r).0 }
+    ensures words { (f : Facts) (client : List ℕ) (r : RequestValue) (most : ℕ → ℕ)
+        → AnswersWithin most f r → WordsWithin most f → WordsWithin most (step f client r).0 }
+{}

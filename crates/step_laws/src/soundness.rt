@@ -1,0 +1,18 @@
+//! What holds of all facts that requests have made.
+ghost use Rattle.std.specs.Prelude.{◌≤◌, ℕ, List, length};
+ghost use Rattle.job_core.specs.declared.request.Request.{Request as RequestValue};
+ghost use Rattle.job_core.specs.Facts.{Facts};
+ghost use Rattle.job_core.specs.Sound.{IsName, IsSound};
+ghost use Rattle.job_core.specs.Steps.{step};
+ghost use Rattle.step_laws.specs.Ranges.{IsRanged};
+
+/// Sound facts stay sound, whatever a client asks in its ranges.
+pub fn sound_facts_stay_sound()
+    ensures { (f : Facts) (client : List ℕ) (r : RequestValue)
+        → IsSound f → IsName client → IsRanged r → IsSound (step f client r).0 }
+{}
+
+/// There are no more sessions than blanks: 4,096 lots of 1,000,000.
+pub fn sessions_are_few()
+    ensures { (f : Facts) → IsSound f → length f.sessions ≤ 4096000000 }
+{}
