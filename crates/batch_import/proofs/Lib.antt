@@ -6,3 +6,4 @@ pub mod RowLemmas
 pub mod OutlineLemmas
 pub mod WalkLemmas
 pub mod SoundLemmas
+pub mod WideLemmas

@@ -104,11 +104,11 @@ batch_alike few many extends p raw rows read =
 -- ---- the third mark
 
 -- of a first, a second and a third text a field is, only the third is new
-third_is_new : (first second third : Bool) (plain all mixed enc : Enc) → cond first (Some plain) (cond second (Some all) None) ≡ Some enc
-    → cond first (Some plain) (cond second (Some all) (cond third (Some mixed) None)) ≡ Some enc
-third_is_new true second third plain all mixed enc e = e
-third_is_new false true third plain all mixed enc e = e
-third_is_new false false third plain all mixed enc e = absurd (none-some enc e)
+third_is_new : (first second third : Bool) (a b c enc : Enc) → cond first (Some a) (cond second (Some b) None) ≡ Some enc
+    → cond first (Some a) (cond second (Some b) (cond third (Some c) None)) ≡ Some enc
+third_is_new true second third a b c enc e = e
+third_is_new false true third a b c enc e = e
+third_is_new false false third a b c enc e = absurd (none-some enc e)
 
 three_extend_two : Extends two_marks three_marks
 unfolding two_marks three_marks
