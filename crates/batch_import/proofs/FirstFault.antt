@@ -11,7 +11,7 @@ use Rattle.batch_import.specs.declared.fault.Kind.{Kind}
 use Rattle.batch_import.specs.declared.fault.Kind.TheVariants as kind
 use Rattle.batch_import.specs.declared.fault.RowFault.{RowFault}
 use Rattle.batch_import.specs.Batch.{Coming, coming_of, coming_of_records, coming_of_rows, unless_faulty}
-use Rattle.batch_import.specs.Fields.{Values, field, name_of_text, row_of_values, two_marks, values_of}
+use Rattle.batch_import.specs.Fields.{Values, field, name_of_text, row_of_values, three_marks, values_of}
 use Rattle.batch_import.specs.Kinds.{row_kinds}
 use Rattle.batch_import.specs.Records.{records_of}
 use Rattle.batch_import.specs.Rows.{row_then}
@@ -77,7 +77,7 @@ in_limits check before values row is named =
 
 module _ (check : Bool) (rows : List (List (List ℕ))) (fields : List (List ℕ)) where
   abbrev read : Values
-  read = values_of two_marks fields
+  read = values_of three_marks fields
 
   abbrev here : PlacedRow
   here = record { before = rows; fields = fields; values = read }
@@ -139,35 +139,35 @@ module _ (rows : List (List (List ℕ))) (fields : List (List ℕ)) (row : Row) 
       ap (λ n. record { count = n; names = with_key (record_names rows) row.rec }) longer
       ∙ ap (λ names. record { count = length (rows ++ fields ∷ []); names = names }) (sym (names_more rows fields row.rec named))
 
-rows_agree : (check : Bool) (rows rest : List (List (List ℕ))) → data_rows check (so_far rows) rest ≡ coming_of_rows check (placed two_marks rows rest)
+rows_agree : (check : Bool) (rows rest : List (List (List ℕ))) → data_rows check (so_far rows) rest ≡ coming_of_rows check (placed three_marks rows rest)
 unfolding data_rows coming_of_rows
 rows_agree check rows [] = refl
 rows_agree check rows (fields ∷ rest) = go (row_of check (so_far rows) fields) (row_agrees check rows fields) (rows_agree check (rows ++ fields ∷ []) rest)
   where
     go : (r : Result Row Kind) → Agrees r (find (row_has check (here check rows fields)) row_kinds) (read check rows fields)
-        → data_rows check (so_far (rows ++ fields ∷ [])) rest ≡ coming_of_rows check (placed two_marks (rows ++ fields ∷ []) rest)
+        → data_rows check (so_far (rows ++ fields ∷ [])) rest ≡ coming_of_rows check (placed three_marks (rows ++ fields ∷ []) rest)
         → first_then r (length rows + 2) (λ row. data_rows check (with_row (so_far rows) row) rest)
-        ≡ coming_of_rows check (here check rows fields ∷ placed two_marks (rows ++ fields ∷ []) rest)
+        ≡ coming_of_rows check (here check rows fields ∷ placed three_marks (rows ++ fields ∷ []) rest)
     go (Err k) faulty later =
-        sym (faulty_first check (here check rows fields) (placed two_marks (rows ++ fields ∷ []) rest) (record { row = length rows + 2; kind = k })
+        sym (faulty_first check (here check rows fields) (placed three_marks (rows ++ fields ∷ []) rest) (record { row = length rows + 2; kind = k })
         (ap (told_at (length rows + 2)) faulty))
     go (Ok row) sound later =
         ap (λ before. row_then row (data_rows check before rest)) (one_more rows fields row sound.2) ∙ ap (row_then row) later
-        ∙ sym (sound_first check (here check rows fields) (placed two_marks (rows ++ fields ∷ []) rest) row (ap (told_at (length rows + 2)) sound.0) sound.1)
+        ∙ sym (sound_first check (here check rows fields) (placed three_marks (rows ++ fields ∷ []) rest) row (ap (told_at (length rows + 2)) sound.0) sound.1)
 
 module _ (check : Bool) (first : List (List ℕ)) (rest : List (List (List ℕ))) where
-  header_agrees : unless_faulty (header_fault first) (coming_of_rows check (placed two_marks [] rest)) ≡ after_header check (header_of first) rest
+  header_agrees : unless_faulty (header_fault first) (coming_of_rows check (placed three_marks [] rest)) ≡ after_header check (header_of first) rest
   unfolding header_of
   header_agrees = at (length first == 6) (is_header first)
     where
       at : (six titled : Bool) → unless_faulty (told_at 1 (cond (not six) (Some kind.NotSixFields) (cond (not titled) (Some kind.Header) None)))
-          (coming_of_rows check (placed two_marks [] rest))
+          (coming_of_rows check (placed three_marks [] rest))
           ≡ after_header check (cond (not six) (Err kind.NotSixFields) (cond titled (Ok tt) (Err kind.Header))) rest
       at false titled = refl
       at true false = refl
       at true true = sym (rows_agree check [] rest)
 
-records_agree : (check : Bool) (records : List (List (List ℕ))) → coming_of_records two_marks check records ≡ file_rows check records
+records_agree : (check : Bool) (records : List (List (List ℕ))) → coming_of_records three_marks check records ≡ file_rows check records
 unfolding coming_of_records
 records_agree check [] = refl
 records_agree check (first ∷ rest) = header_agrees check first rest

@@ -7,3 +7,4 @@ pub mod OutlineLemmas
 pub mod WalkLemmas
 pub mod SoundLemmas
 pub mod RangedRows
+pub mod WideLemmas

@@ -1,16 +1,17 @@
 -- Where field 4 may be more marks, a file without fault is read alike.
 use Rattle.std.proofs.Common.{◌≡◌, ℕ, ◌+◌, Bool, true, false, cond, ◌||◌, List, [], ◌∷◌, ◌++◌, length, Option, Some, None, Result, Ok, Err, refl, sym, ap, ◌∙◌}
-use Rattle.std.specs.Prelude.{is_none}
+use Rattle.std.specs.Prelude.{bytes_eq, codes, is_none}
 use Rattle.std.specs.List.{find}
 use Rattle.std.proofs.lemmas.Option.{none-some}
 use Rattle.store_data.specs.declared.row.Enc.{Enc}
+use Rattle.store_data.specs.declared.row.Enc.TheVariants.{Plain, All, Mixed}
 use Rattle.store_data.specs.declared.row.Product.{Product}
 use Rattle.store_data.specs.declared.row.Row.{Row}
 use Rattle.batch_import.specs.declared.fault.Kind.{Kind}
 use Rattle.batch_import.specs.declared.fault.Kind.TheVariants as kind
 use Rattle.batch_import.specs.declared.fault.RowFault.{RowFault}
-use Rattle.batch_import.specs.Batch.{batch_under, batch_with, coming_of_records, coming_of_rows, coming_under, planned_rows, unless_faulty}
-use Rattle.batch_import.specs.Fields.{Extends, Marks, Values, aid_of_text, field, grouping_of_text, name_of_text, rank_of_text, tol_of_text}
+use Rattle.batch_import.specs.Batch.{batch_of, batch_under, batch_with, coming_of_records, coming_of_rows, coming_under, planned_rows, unless_faulty}
+use Rattle.batch_import.specs.Fields.{Extends, Marks, Values, aid_of_text, field, grouping_of_text, name_of_text, rank_of_text, three_marks, tol_of_text, two_marks}
 use Rattle.batch_import.specs.Kinds.{row_kinds}
 use Rattle.batch_import.specs.Records.{records_of}
 use Rattle.batch_import.specs.RowFaults.{PlacedRow, first_fault, header_fault, or_else, placed, row_fault, row_has, told_at}
@@ -99,3 +100,21 @@ pub batch_alike : (few many : Marks) → Extends few many → (p : Product) (raw
 batch_alike few many extends p raw rows read =
     let old = coming_under few p.check raw in
     ap (batch_with p.max) (coming_alike few many extends p.check (records_of raw) (no_fault p.max old.rows rows old.fault read)) ∙ read
+
+-- ---- the third mark
+
+-- of a first, a second and a third text a field is, only the third is new
+third_is_new : (first second third : Bool) (a b c enc : Enc) → cond first (Some a) (cond second (Some b) None) ≡ Some enc
+    → cond first (Some a) (cond second (Some b) (cond third (Some c) None)) ≡ Some enc
+third_is_new true second third a b c enc e = e
+third_is_new false true third a b c enc e = e
+third_is_new false false third a b c enc e = absurd (none-some enc e)
+
+three_extend_two : Extends two_marks three_marks
+unfolding two_marks three_marks
+three_extend_two t enc e =
+    third_is_new (bytes_eq t (codes "0")) (bytes_eq t (codes "1")) (bytes_eq t (codes "2")) Plain All Mixed enc e
+
+pub third_mark_alike : (p : Product) (raw : List ℕ) (rows : List Row) → batch_under two_marks p raw ≡ Ok rows → batch_of p raw ≡ Ok rows
+unfolding batch_of
+third_mark_alike p raw rows read = batch_alike two_marks three_marks three_extend_two p raw rows read

@@ -5,7 +5,7 @@ use Rattle.store_data.specs.declared.row.Row.{Row}
 use Rattle.batch_import.specs.declared.fault.Kind.{Kind}
 use Rattle.batch_import.specs.declared.fault.Kind.TheVariants as kind
 use Rattle.batch_import.specs.Batch.{Coming, fault_at, no_more}
-use Rattle.batch_import.specs.Fields.{Values, two_marks, values_of}
+use Rattle.batch_import.specs.Fields.{Values, three_marks, values_of}
 use Rattle.batch_import.specs.RowFaults.{breaks_check, is_header}
 
 -- the ? of the logic: the second step, if the first gave a value
@@ -65,7 +65,7 @@ row_in_six check before values = do
 -- a data row, or its fault
 unfoldable pub row_of : Bool → Before → List (List ℕ) → Result Row Kind
 row_of check before fields =
-    if length fields == 6 then row_in_six check before (values_of two_marks fields) else Err kind.NotSixFields
+    if length fields == 6 then row_in_six check before (values_of three_marks fields) else Err kind.NotSixFields
 
 -- ---- the rows of a file
 

@@ -1,13 +1,14 @@
 //! A case's connections as typed arrivals and accounts.
 ghost use Rattle.std.specs.Prelude.{◌↔◌, ◌≤◌, ◌<◌, ◌^◌, All, IfOk, IfSome, IsTrue};
-ghost use Rattle.job_core.specs.Requests.{IsArrival, IsRequest};
+ghost use Rattle.job_core.specs.Requests.{IsArrival, IsCall};
 ghost use Rattle.wire.specs.Asks.{IsInRange};
 ghost use Rattle.wire.specs.Sending.{IsSendable};
 
 use crate::ways::{Exchange, Fresh};
 use case_files::{CaseFault, JSON, TEXT, check_bytes, reply_bytes};
-use job_core::{Arrival, JobStore, Refusal, Reply, Request};
-use reply_store::{Kept, body_of, handle, run, status_of};
+use arrivals::{Kept, body_of, status_of};
+use job_core::{Arrival, Call, JobStore, Refusal, Reply, Request};
+use reply_store::{handle, run};
 use reports::{AccountFault, batch_counts, blank_counts, close_report};
 use server::Replied;
 use std::alloc::Global;
@@ -222,18 +223,28 @@ fn input_anew(alloc: Global, input: &[u8]) -> Result<Vec<u8>, CaseFault> {
 fn anew(alloc: Global, arrival: &Arrival) -> Result<Option<Bytes>, CaseFault>
     requires { IsArrival arrival.now }
 {
-    let request = &arrival.request;
-    if !is_sendable(request) {
+    let call = &arrival.request;
+    if !is_sendable(call) {
         return Ok(None);
     }
-    let text = request_text(alloc, &arrival.client, arrival.number, request)?;
+    let text = request_text(alloc, &arrival.client, arrival.number, call)?;
     Ok(Some(text))
 }
 
-// Whether `request_text` takes a request.
-fn is_sendable(request: &Request) -> bool
-    requires { IsRequest request.now }
-    ensures { IsTrue result → IsSendable request.now }
+// Whether `request_text` takes a call.
+fn is_sendable(call: &Call) -> bool
+    requires { IsCall call.now }
+    ensures { IsTrue result → IsSendable call.now }
+{
+    match call {
+        Call::Job { request } => is_sendable_job(request),
+        Call::Release { .. } => true,
+    }
+}
+
+fn is_sendable_job(request: &Request) -> bool
+    requires { IsCall (Call.Job request.now) }
+    ensures { IsTrue result → IsSendable (Call.Job request.now) }
 {
     match request {
         Request::Import { raw, .. } => raw.as_slice().len() <= MOST_INPUT as usize,

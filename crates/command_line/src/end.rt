@@ -20,7 +20,7 @@ pub enum End {
     Usage,
     /// The batch has this fault first.
     Refused(RowFault),
-    /// The input has over 1,048,576 bytes.
+    /// The input has over `MOST_INPUT` bytes.
     TooLarge,
     /// The first line of a script that has none of its forms; a script's first line is 1.
     BadLine(u64),

@@ -80,7 +80,7 @@ impl From<WriteFailed> for PlanStop {
 /// command sequence in upper case hexadecimal, a line each (EMV CPS 1.1; this project's profile).
 ///
 /// It writes only after every record was planned, and leaves it to the caller to flush. Errors: the
-/// first fault of the batch; over 1,048,576 bytes; a read or a write that fails; refused memory.
+/// first fault of the batch; over `MOST_INPUT` bytes; a read or a write that fails; refused memory.
 pub fn plan_engine<R: Read, W: Write>(
     alloc: Global,
     product: &Product,

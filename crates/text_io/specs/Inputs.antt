@@ -8,7 +8,7 @@ use Rattle.text_io.specs.declared.reading.ReadFault.TheVariants.{Failed, Memory}
 
 -- the most bytes of a batch file, and of a request's body (this project's profile)
 abbrev pub most_input : ℕ
-most_input = 1048576
+most_input = 16777216
 
 -- the bytes are those that are known, if they are
 abbrev pub Tells : Option (List ℕ) → List ℕ → Type 0

@@ -9,7 +9,7 @@ use std::fmt;
 use std::io::{self, ErrorKind, Read};
 
 /// The most bytes of a batch file, and of a request's body (this project's profile).
-pub const MOST_INPUT: u32 = 1_048_576;
+pub const MOST_INPUT: u32 = 16_777_216;
 
 /// Why an input wasn't read.
 #[derive(Clone, Copy, Debug, PartialEq, Eq)]

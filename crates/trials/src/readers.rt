@@ -44,7 +44,7 @@ fn nothing_is_read_behind_a_message(rt: HostRuntime) -> Result<(), Fail> {
         assert_eq!(rt; at_last!(asked(rt.alloc(), most)), Ok(calls), "at {most}");
     }
     // A head that is refused is read to its end alone.
-    let head = b"GET /batch/B9 HTTP/1.1\r\nContent-Length: 1048577\r\n\r\n";
+    let head = b"GET /batch/B9 HTTP/1.1\r\nContent-Length: 16777217\r\n\r\n";
     let mut incoming = Counted::new(head, 1);
     assert!(rt;
         matches!(

@@ -151,7 +151,7 @@ static MESSAGES: [(&str, &str); 4] = [
         "HTTP/1.1 404 Not Found\r\nContent-Type: application/json\r\nContent-Length: 33\r\nConnection: close\r\n\r\n{\"code\":404,\"refused\":\"no-route\"}",
     ),
     (
-        "GET /batch/B9 HTTP/1.1\r\nHost: localhost\r\nContent-Length: 1048577\r\n\r\n",
+        "GET /batch/B9 HTTP/1.1\r\nHost: localhost\r\nContent-Length: 16777217\r\n\r\n",
         "HTTP/1.1 413 Payload Too Large\r\nContent-Type: application/json\r\nContent-Length: 34\r\nConnection: close\r\n\r\n{\"code\":413,\"refused\":\"too-large\"}",
     ),
 ];

@@ -4,9 +4,10 @@ ghost use Rattle.job_core.specs.Requests.{IsArrival, IsRequest};
 use crate::again::{MayWantMemory, at_last};
 use crate::exchanges::{Exchange, arrival, blank_totals, check_told, name, store_after, told};
 use crate::stories::{OPENED, SET_UP, STORIES, Story};
-use job_core::{Arrival, JobStore, Reply, Request, StoreFault, decide};
+use job_core::{Arrival, Call, JobStore, Reply, Request, StoreFault, decide};
 use list_store::ListStore;
-use reply_store::{Kept, body_of, run};
+use arrivals::{Kept, body_of};
+use reply_store::run;
 use std::alloc::Global;
 use std::process::Abort;
 use std::test::Fail;
@@ -116,7 +117,9 @@ fn discard(alloc: Global, client: Name, blank: u64) -> Arrival
         client,
         number: 1,
         ask: Bytes::from_vec(Vec::new(alloc)),
-        request: Request::Discard { blank },
+        request: Call::Job {
+            request: Request::Discard { blank },
+        },
     }
 }
 

@@ -3,7 +3,7 @@ ghost use Rattle.wire.specs.Sending.{IsSendable};
 
 use crate::again::{MayWantMemory, at_last};
 use crate::exchanges::{asked, name};
-use job_core::{Reply, Request};
+use job_core::{Call, Reply, Request};
 use std::alloc::Global;
 use std::process::Abort;
 use std::test::Fail;
@@ -46,12 +46,12 @@ fn messages_are_taken_after_refused_memory(rt: HostRuntime) {
     }
 }
 
-// A request of `office` under number 1 is sent so.
-fn check_sent(rt: &impl Abort, alloc: Global, request: &Request, text: &str) -> Result<(), Fail>
-    requires { IsSendable request.now }
+// A call of `office` under number 1 is sent so.
+fn check_sent(rt: &impl Abort, alloc: Global, call: &Call, text: &str) -> Result<(), Fail>
+    requires { IsSendable call.now }
 {
     let client = name("office")?;
-    let sent = at_last!(request_text(alloc, &client, 1, request))?;
+    let sent = at_last!(request_text(alloc, &client, 1, call))?;
     assert_eq!(rt; sent.as_slice(), text.as_bytes());
     Ok(())
 }
@@ -67,7 +67,7 @@ fn requests_are_sent_after_refused_memory(rt: HostRuntime) -> Result<(), Fail> {
     check_sent(
         &rt,
         alloc,
-        &answer,
+        &Call::Job { request: answer },
         "POST /c/office/1 HTTP/1.1\r\nHost: localhost\r\nContent-Length: 58\r\n\r\n{\"do\":\"answer\",\"index\":4294967295,\"session\":1,\"sw\":\"6A80\"}",
     )?;
     let raw = Bytes::from_vec(at_last!(b"file".to_vec(alloc))?);
@@ -79,7 +79,7 @@ fn requests_are_sent_after_refused_memory(rt: HostRuntime) -> Result<(), Fail> {
     check_sent(
         &rt,
         alloc,
-        &import,
+        &Call::Job { request: import },
         "POST /c/office/1/batch/B1/P1 HTTP/1.1\r\nHost: localhost\r\nContent-Length: 4\r\n\r\nfile",
     )
 }

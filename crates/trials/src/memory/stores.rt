@@ -14,12 +14,11 @@ const RAW: &[u8] =
 
 // How many products, lots, batches and sessions there are.
 fn counts(store: &mut ListStore) -> Result<[u64; 4], StoreFault> {
-    let counts = store.counts()?;
     Ok([
-        counts.products,
-        counts.lots,
-        counts.batches,
-        counts.sessions,
+        store.product_count()?,
+        store.lot_count()?,
+        store.batch_count()?,
+        store.session_count()?,
     ])
 }
 
@@ -83,17 +82,19 @@ fn worked(rt: &impl Abort, alloc: Global) -> Result<ListStore, Fail> {
         batch: name("B1")?,
         rec: name("R1")?,
         blank: 10,
+        lot: name("L1")?,
     };
     commit_at_last(rt, &mut store, 4, &opened)?;
-    for (number, sw) in [(5, 0x9000), (6, 0x9000), (7, 0x6A88)] {
+    for (index, sw) in [(0, 0x9000), (1, 0x9000), (2, 0x6A88)] {
         let row = at_last!(store.session(1))?.ok_or("no session")?;
         let word = Change::AddsWord {
             session: 1,
+            index,
             sw,
             stands: row.stands,
             cursor: row.cursor,
         };
-        commit_at_last(rt, &mut store, number, &word)?;
+        commit_at_last(rt, &mut store, 5 + u64::from(index), &word)?;
     }
     Ok(store)
 }
@@ -103,7 +104,9 @@ fn a_batch_is_read_after_refused_memory(rt: HostRuntime) -> Result<(), Fail> {
     let mut store = stocked(&rt, rt.alloc())?;
     let (batch, first, second) = (name("B1")?, name("R2")?, name("R1")?);
     let row = at_last!(store.batch(&batch))?.ok_or("no batch")?;
-    assert_eq!(rt; (row.rows, row.records, row.is_closed), (3, 2, false));
+    assert!(rt; !row.is_closed);
+    let size = at_last!(store.batch_size(&batch))?.ok_or("no batch")?;
+    assert_eq!(rt; (size.rows, size.records), (3, 2));
     assert!(rt; at_last!(store.first_waiting(&batch))? == Some(first));
     let waiting = Some(RecordState::Waiting);
     assert_eq!(rt; at_last!(store.record_state(&batch, &second))?, waiting);
@@ -115,7 +118,8 @@ fn a_batch_is_read_after_refused_memory(rt: HostRuntime) -> Result<(), Fail> {
     );
     assert!(rt; segment.tol && segment.last && segment.low == 7);
     assert!(rt; at_last!(store.segment(&batch, &second, 0, 2))?.is_none());
-    let line = at_last!(store.record_line(&batch, 0))?.ok_or("no line")?;
+    let lines = at_last!(store.record_lines(&batch))?;
+    let line = lines.first().ok_or("no line")?;
     assert!(rt; line.rec == first && line.stands == RecordState::Waiting);
     assert_eq!(rt; (line.sessions, line.blank), (0, None));
     let totals = at_last!(store.batch_totals(&batch))?;
@@ -133,7 +137,8 @@ fn a_session_is_read_after_refused_memory(rt: HostRuntime) -> Result<(), Fail> {
     let row = at_last!(store.session(1))?.ok_or("no session")?;
     assert_eq!(rt; (row.stands, row.words), (SessionState::Good, 3));
     assert!(rt; at_last!(store.running_session(&machine))?.is_none());
-    let line = at_last!(store.record_line(&batch, 1))?.ok_or("no line")?;
+    let lines = at_last!(store.record_lines(&batch))?;
+    let line = lines.get(1).ok_or("no line")?;
     assert!(rt; line.stands == RecordState::Good);
     assert_eq!(rt; (line.sessions, line.blank), (1, Some(10)));
     let totals = at_last!(store.batch_totals(&batch))?;
@@ -153,11 +158,13 @@ fn a_session_is_read_after_refused_memory(rt: HostRuntime) -> Result<(), Fail> {
 fn changes_are_made_once_after_refused_memory(rt: HostRuntime) -> Result<(), Fail> {
     let mut store = worked(&rt, rt.alloc())?;
     let (batch, rec, machine) = (name("B1")?, name("R2")?, name("M1")?);
+    let lot = name("L1")?;
     let opened = Change::Opens {
         machine,
         batch,
         rec,
         blank: 11,
+        lot,
     };
     commit_at_last(&rt, &mut store, 8, &opened)?;
     assert_eq!(rt; at_last!(store.running_session(&machine))?, Some(2));
@@ -167,12 +174,13 @@ fn changes_are_made_once_after_refused_memory(rt: HostRuntime) -> Result<(), Fai
     commit_at_last(&rt, &mut store, 10, &Change::Remakes { batch, rec })?;
     let waiting = Some(RecordState::Waiting);
     assert_eq!(rt; at_last!(store.record_state(&batch, &rec))?, waiting);
-    commit_at_last(&rt, &mut store, 11, &Change::Withdraws { batch, rec })?;
+    let was = RecordState::Waiting;
+    commit_at_last(&rt, &mut store, 11, &Change::Withdraws { batch, rec, was })?;
     assert!(rt; at_last!(store.is_finished(&batch))?);
     commit_at_last(&rt, &mut store, 12, &Change::Closes { batch })?;
     let row = at_last!(store.batch(&batch))?.ok_or("no batch")?;
     assert!(rt; row.is_closed);
-    commit_at_last(&rt, &mut store, 13, &Change::Discards { blank: 12 })?;
+    commit_at_last(&rt, &mut store, 13, &Change::Discards { blank: 12, lot })?;
     commit_at_last(&rt, &mut store, 14, &Change::Nothing)?;
     let totals = at_last!(store.blank_totals(&name("P1")?))?;
     assert_eq!(rt; (totals.good, totals.spoiled, totals.discarded), (1, 1, 1));
