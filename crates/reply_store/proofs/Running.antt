@@ -10,6 +10,7 @@ use Rattle.job_core.specs.declared.request.Arrival.{Arrival}
 use Rattle.job_core.specs.declared.store.StoreFault.{StoreFault}
 use Rattle.job_core.specs.Contents.{AreSame, AreSound, Contents, Entry, entry_of}
 use Rattle.job_core.specs.Store.{CountsFaults, IsHonest, State, Stays, failed_after, full_after}
+use Rattle.job_core.proofs.Lists.{each_more}
 use Rattle.arrivals.specs.declared.kept.Kept.{Kept}
 use Rattle.arrivals.specs.Told.{told}
 use Rattle.arrivals.specs.Meaning.{Arrived, contents_after, is_released, reply_to, told_on}
