@@ -1,5 +1,5 @@
 -- What a commit or a release makes of the contents of the lists.
-use Rattle.std.proofs.Common.{◌≡◌, ℕ, List, ◌∷◌, ◌++◌, [], Ok, refl, sym, ap, ◌∙◌, subst, inr, arith}
+use Rattle.std.proofs.Common.{◌≡◌, ℕ, List, ◌∷◌, ◌++◌, [], Ok, sym, ap, ◌∙◌, subst, inr, arith}
 use Rattle.job_core.specs.declared.change.Change.{Change}
 use Rattle.job_core.specs.Facts.{Facts}
 use Rattle.job_core.specs.Sound.{changed}

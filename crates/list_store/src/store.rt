@@ -169,10 +169,10 @@ impl JobStore for ListStore {
         body: &[u8],
         mark: u64,
     ) -> Result<(), StoreFault> {
-        let row = kept::row(self.alloc, client, number, ask, status, body)?;
+        let reply = kept::row(self.alloc, client, number, ask, status, body)?;
         self.kept.reserve(1)?;
         marks::set_mark(&mut self.marks, client, mark)?;
-        self.kept.push(row).unwrap();
+        self.kept.push(reply).unwrap();
         marks::drop_released(&mut self.kept, &self.marks);
         Ok(())
     }
