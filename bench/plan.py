@@ -6,6 +6,7 @@ are made for pieces of 255 bytes, so --low and --check serve, and --max does not
 
 Time is the best of several runs, from the start of the process to its end, with the output thrown away.
 Peak is the highest resident size, read while the program waits to write the last of its output.
+Files of the most bytes that are refused come last; their peak is read while the program waits to tell the fault.
 Growth is the ratio of two times over the ratio of the two sizes: 1 is linear, more is worse. For it alone
 the time of a batch of one row, that is of starting and ending, is taken off both times.
 """
@@ -23,6 +24,7 @@ PERSOD = HERE.parent / "crates" / "persod" / "out" / "persod"
 HEADER = "record,aid,rank,enc,tol,dgi"
 AID = "F00000000101"
 RUNS = 25
+MOST_FILE = 16_777_216
 
 
 class Batch(NamedTuple):
@@ -106,6 +108,15 @@ def measure(words: list[str], made: Batch, folder: pathlib.Path) -> Measured:
     return Measured(len(made.text), best_time(words, path, RUNS), highest)
 
 
+def refused() -> Iterator[tuple[str, bytes]]:
+    """Files of the most bytes that are one row each, or nearly."""
+    header = HEADER.encode() + b"\n"
+    yield "a row of commas", b"," * MOST_FILE
+    yield "a header, then a row of commas", header + b"," * (MOST_FILE - len(header))
+    yield "a row of one field", b"x" * MOST_FILE
+    yield "line ends", b"\n" * MOST_FILE
+
+
 def main() -> None:
     words = [str(PERSOD), "plan", *sys.argv[1:]]
     pairs = [
@@ -116,6 +127,7 @@ def main() -> None:
         (many_records(1024), many_records(128)),
         (mixed_records(1024), mixed_records(128)),
         (large_groupings(30), large_groupings(6)),
+        (large_groupings(500), large_groupings(30)),
     ]
     with tempfile.TemporaryDirectory() as name:
         folder = pathlib.Path(name)
@@ -133,6 +145,13 @@ def main() -> None:
                     f"{made.name:33} {it.size:9} {it.seconds * 1000:8.2f} {it.size / it.seconds / 1e6:7.1f} {it.peak / 1024:9.0f} "
                     f"{it.peak / it.size:10.2f} {(it.peak - floor) / it.size:12.2f} {grown}".rstrip()
                 )
+
+        print(f"\n{'refused':33} {'bytes':>9} {'peak KiB':>18} {'peak/input':>18}")
+        for name, text in refused():
+            path = folder / "refused.csv"
+            path.write_bytes(text)
+            highest = peak(words, path, PIPE, 0, "stderr")
+            print(f"{name:33} {len(text):9} {highest / 1024:18.0f} {highest / len(text):18.2f}")
 
 
 if __name__ == "__main__":

@@ -31,13 +31,14 @@ def best_time(words: list[str], path: pathlib.Path, runs: int) -> float:
     return best
 
 
-def peak(words: list[str], path: pathlib.Path, filled: int, taken: int) -> int:
-    """Starts with `filled` bytes in the pipe for the output, takes `taken` out of it, waits for the program to stand still in a write, and looks."""
+def peak(words: list[str], path: pathlib.Path, filled: int, taken: int, stream: str = "stdout") -> int:
+    """Starts with `filled` bytes in the pipe for the output, or for what is told on standard error, takes `taken` out of it, waits for the
+    program to stand still in a write, and looks."""
     with path.open("rb") as source:
         ours, theirs = os.pipe()
         fcntl.fcntl(ours, fcntl.F_SETPIPE_SZ, PIPE)
         os.write(theirs, bytes(filled))
-        child = subprocess.Popen(words, stdin=source, stdout=theirs)
+        child = subprocess.Popen(words, stdin=source, **{"stdout": subprocess.DEVNULL, stream: theirs})
         os.close(theirs)
         while taken > 0 and (some := os.read(ours, taken)):
             taken -= len(some)

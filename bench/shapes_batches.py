@@ -139,7 +139,7 @@ def row_data(draw: Draw, checked: bool, most: int) -> bytes:
 def application(draw: Draw, product: Product, record: str, aid: bytes, count: int, most: int, is_full: bool = False) -> list[Row]:
     """So many rows of one application, or fewer where its blocks are used up; a full one has more, which use them up."""
     ranks = draw.sample(range(1, 1000), draw.size(1, min(count, 999)))
-    marks = {rank: (draw.randrange(2), draw.randrange(2)) for rank in ranks}
+    marks = {rank: (draw.randrange(3), draw.randrange(2)) for rank in ranks}
     identifiers = draw.sample(range(0x0101, 0x0B00) if count < 2000 and draw.chance(0.5) else range(0xF000), count)
     sent: Counter = Counter()
     blocks, rows = 0, []
@@ -161,7 +161,7 @@ def application(draw: Draw, product: Product, record: str, aid: bytes, count: in
 
 
 def some_rows(draw: Draw, product: Product, shape: Shape) -> list[Row]:
-    """The rows of a sound batch, at most as many as a file may have."""
+    """The rows of a sound batch, at most as many as a file may have, and in about 1 MB: longer ones are few, and come from `whole_file`."""
     aids = list({draw.randbytes(draw.size(5, 16)): None for _ in range(shape.applications[1])})
     rows: list[Row] = []
     for record in draw.names(draw.size(*shape.records)):
@@ -169,7 +169,7 @@ def some_rows(draw: Draw, product: Product, shape: Shape) -> list[Row]:
             rows += application(draw, product, record, aid, draw.size(*shape.rows), shape.data)
     if draw.chance(0.3):
         draw.shuffle(rows)
-    room, kept = MOST_FILE - 1000, 0
+    room, kept = 1_000_000, 0
     for row in rows[:MOST_ROWS]:
         room -= 2 * len(row.data) + 140
         kept += room > 0
@@ -206,7 +206,7 @@ def commands_of(rows: list[Row], product: Product) -> list[Command]:
             cuts = range(0, len(sent), product.max)
             pieces += [(segment[0], sent[cut:cut + product.max], cut == cuts[-1]) for cut in cuts]
         for block, (row, piece, is_end) in enumerate(pieces):
-            first = product.low + 96 * row.enc + 128 * (block == len(pieces) - 1)
+            first = product.low + (0, 96, 32)[row.enc] + 128 * (block == len(pieces) - 1)
             text = f"80E2{first:02X}{block:02X}{len(piece):02X}{piece.hex().upper()}"
             made.append(Command(text, is_end and row.tol == 1))
     return made
@@ -249,7 +249,7 @@ def whole_file(draw: Draw, product: Product, size: int) -> tuple[list[str], list
     room, rows, lines = size - len(HEADER) - 1, [], [HEADER]
     most = min(MOST_DATA, MOST_BLOCKS * product.max - 5)
     while room > 0:
-        row = Row(f"R{len(rows)}", draw.randbytes(8), draw.randint(1, 9), 1, 0, draw.randrange(65536), b"")
+        row = Row(f"R{len(rows) // 4}", draw.randbytes(8), draw.randint(1, 9), 1, 0, draw.randrange(65536), b"")
         front = len(line_of(draw, row, False)) + 1
         # The last two share what is left, so that the last one is neither too short nor too long.
         share = room if room <= 2 * most else room // 2 if room <= 4 * most else 2 * draw.randint(most // 2, most) + front
@@ -273,7 +273,7 @@ BAD_FIELDS: dict[int, tuple[tuple[int, ...], Callable[[Draw], str]]] = {
     32: ((0,), lambda draw: draw.choice(("", "R.1", "R 1", " R1", "R1 ", "R\xE9", "A" * draw.size(33, 5000)))),
     33: ((1,), lambda draw: draw.choice(("", "A0" * draw.size(0, 4), "A0" * draw.size(17, 5000), "A" * 11, "G0" * 6, "A0000000 0"))),
     34: ((2,), lambda draw: draw.choice(("", "0", "000", "1000", "0001", "+1", "-1", "1.0", "1a", " 1", "9" * draw.size(4, 5000)))),
-    35: ((3, 4), lambda draw: draw.choice(("", "2", "00", "01", " 1", "x", "1" * draw.size(2, 5000)))),
+    35: ((3, 4), lambda draw: draw.choice(("", "3", "00", "01", " 1", "x", "1" * draw.size(2, 5000)))),
     36: ((5,), lambda draw: bad_grouping(draw)),
 }
 BAD_HEADERS = ("", "\n\r\n", "a,b,c,d,e,f", HEADER.upper(), HEADER + " ", " " + HEADER, "\xEF\xBB\xBF" * 2 + HEADER, HEADER.replace("tol", "tot"))
@@ -302,7 +302,8 @@ def with_record_fault(draw: Draw, kind: int, product: Product, rows: list[Row]) 
     """One record gets rows that are wrong beside its others."""
     one = draw.choice(rows)
     if kind == 21:
-        enc, tol = draw.choice(((1 - one.enc, one.tol), (one.enc, 1 - one.tol), (1 - one.enc, 1 - one.tol)))
+        other = (one.enc + draw.randint(1, 2)) % 3
+        enc, tol = draw.choice(((other, one.tol), (one.enc, 1 - one.tol), (other, 1 - one.tol)))
         more = [one._replace(enc=enc, tol=tol, identifier=0xF100, data=b"")]
     elif kind == 22:
         more = [one]
@@ -336,7 +337,7 @@ def with_fault(draw: Draw, kind: int, product: Product, rows: list[Row]) -> tupl
     at = draw.choice((0, at)) if kind == 30 else at
     fields = lines[at].split(",")
     if kind == 30:
-        fields = fields[:draw.randint(1, 5)] if draw.chance(0.5) else fields + [""] * draw.size(1, 3000)
+        fields = fields[:draw.randint(1, 5)] if draw.chance(0.5) else fields + [""] * draw.size(1, 100_000)
     else:
         places, bad_field = BAD_FIELDS[kind]
         fields[draw.choice(places)] = bad_field(draw)

@@ -4,7 +4,7 @@ import re
 from collections import Counter
 from typing import NamedTuple
 
-MOST_FILE = 1_048_576
+MOST_FILE = 16_777_216
 MOST_HEAD = 8192
 MOST_ROWS = 4096
 MOST_RECORDS = 1024

@@ -90,7 +90,7 @@ def headers(draw: Draw, body: bytes, fault: str) -> list[str]:
     made = ["Host: localhost"] * draw.chance(0.9)
     most = 200 if draw.chance(0.97) else MOST_HEAD
     made += [f"X-{draw.name()}: {'y' * draw.size(0, most)}" for _ in range(draw.size(0, 30) if draw.chance(0.3) else 1)]
-    length = {"length": draw.choice(BAD_LENGTHS), "large": str(draw.choice((MOST_FILE + 1, 10**draw.randint(7, 40))))}.get(fault, f"{len(body)}")
+    length = {"length": draw.choice(BAD_LENGTHS), "large": str(draw.choice((MOST_FILE + 1, 10**draw.randint(8, 40))))}.get(fault, f"{len(body)}")
     if body or length != "0" or fault == "twice" or draw.chance(0.5):
         gap = " " * draw.size(0, 5) + "\t" * draw.randrange(2)
         length = length.zfill(draw.size(1, 60)) if length.isdigit() and draw.chance(0.2) else length

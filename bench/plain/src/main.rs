@@ -8,7 +8,7 @@ const MOST: usize = 255;
 
 struct Row {
     rank: u16,
-    is_enciphered: bool,
+    enciphered: u8,
     coded: Vec<u8>,
 }
 
@@ -56,10 +56,10 @@ fn records(raw: &[u8]) -> Result<Vec<Record>, Box<dyn Error>> {
         let aid = bytes_of(&fields[1])?;
         let row = Row {
             rank: std::str::from_utf8(&fields[2])?.parse()?,
-            is_enciphered: mark(&fields[3])?,
+            enciphered: enciphered(&fields[3])?,
             coded: bytes_of(&fields[5])?,
         };
-        mark(&fields[4])?;
+        tolerant(&fields[4])?;
         let applications = &mut records[place].applications;
         match applications.iter_mut().find(|it| it.aid == aid) {
             Some(application) => application.rows.push(row),
@@ -78,31 +78,40 @@ fn bytes_of(field: &[u8]) -> Result<Vec<u8>, hex::FromHexError> {
     Ok(bytes)
 }
 
-fn mark(field: &[u8]) -> Result<bool, Box<dyn Error>> {
+// Bits 7 and 6 of P1.
+fn enciphered(field: &[u8]) -> Result<u8, Box<dyn Error>> {
+    match field {
+        b"0" => Ok(0),
+        b"1" => Ok(0x60),
+        b"2" => Ok(0x20),
+        _ => Err("this mark is 0, 1 or 2".into()),
+    }
+}
+
+fn tolerant(field: &[u8]) -> Result<bool, Box<dyn Error>> {
     match field {
         b"0" => Ok(false),
         b"1" => Ok(true),
-        _ => Err("a mark is 0 or 1".into()),
+        _ => Err("this mark is 0 or 1".into()),
     }
 }
 
 fn put_application(text: &mut Vec<u8>, mut application: Application) -> io::Result<()> {
     put_command(text, [0x00, 0xA4, 0x04, 0x00], &application.aid)?;
     application.rows.sort_by_key(|row| row.rank);
-    let segments: Vec<(bool, Vec<u8>)> = application
+    let segments: Vec<(u8, Vec<u8>)> = application
         .rows
         .chunk_by(|a, b| a.rank == b.rank)
         .map(|rows| {
             let parts: Vec<&[u8]> = rows.iter().map(|row| row.coded.as_slice()).collect();
-            (rows[0].is_enciphered, parts.concat())
+            (rows[0].enciphered, parts.concat())
         })
         .collect();
     let count: usize = segments.iter().map(|it| it.1.len().div_ceil(MOST)).sum();
     let mut block = 0;
-    for (is_enciphered, bytes) in segments {
+    for (enciphered, bytes) in segments {
         for piece in bytes.chunks(MOST) {
             let last = if block + 1 == count { 0x80 } else { 0 };
-            let enciphered = if is_enciphered { 0x60 } else { 0 };
             put_command(text, [0x80, 0xE2, last + enciphered, block as u8], piece)?;
             block += 1;
         }

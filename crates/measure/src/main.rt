@@ -14,10 +14,11 @@ use std::env;
 use std::io::{self, ErrorKind, Read};
 use std::process::ExitCode;
 use store_data::{Name, Product};
+use text_io::MOST_INPUT;
 use tlv_check::is_record;
 
 /// The room that is asked for at once, in bytes: one more than a batch may have, so that reading a batch moves nothing.
-const ROOM: usize = 1_048_577;
+const ROOM: usize = MOST_INPUT as usize + 1;
 
 /// How many bytes of a connection come at once, at most.
 const MOST_PIECE: usize = 65_536;
