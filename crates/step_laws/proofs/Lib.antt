@@ -8,3 +8,4 @@ pub mod RecordStands
 pub mod Commands
 pub mod ReplyFacts
 pub mod ReplyRanges
+pub mod ChangeStands
