@@ -9,3 +9,4 @@ pub mod Commands
 pub mod ReplyFacts
 pub mod ReplyRanges
 pub mod ChangeStands
+pub mod BlankSums
