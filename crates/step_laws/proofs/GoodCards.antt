@@ -52,7 +52,7 @@ module _ {X Y : Type 0} (q : Y → Bool) (h : X → Y) (p : X → Bool) where
         | inr other ↦ ap (λ b. list_any q (map h (cond b (z ∷ filter p xs) (filter p xs)))) other ∙ rest
       ]
 
-  count_among : (xs : List X) → count_by q (among xs) ≡ count_by (λ x. p x && q (h x)) xs
+  pub count_among : (xs : List X) → count_by q (among xs) ≡ count_by (λ x. p x && q (h x)) xs
   count_among [] = refl
   count_among (x ∷ xs) =
       let rest = count_among xs in

@@ -4,6 +4,7 @@ use Rattle.std.specs.Prelude.{bytes_eq, option_and_then, option_map}
 use Rattle.store_data.specs.declared.row.Product.{Product}
 use Rattle.store_data.specs.declared.row.Row.{Row}
 use Rattle.store_data.specs.Sequence.{Plan, plan_of}
+use Rattle.job_core.specs.declared.facts.Lot.{Lot}
 use Rattle.job_core.specs.Facts.{Batch, Facts, Session, at_session, ended, new_session, with_batch, with_close, with_discard, with_lot, with_product, with_remake, with_withdrawal, worded}
 use Rattle.job_core.specs.Sound.{IsBatch, IsSession, IsSound}
 use Rattle.job_core.specs.States.{batch_named, commands_for, commands_under, plan_for, product_named, rows_of, rows_of_record, rows_under, session_state, state_with}
@@ -27,6 +28,22 @@ known : (f g : Facts) → IsMore f.products g.products → IsMore f.lots g.lots 
 known f g products lots batches discarded remakes withdrawn closed =
     record { products = products; lots = lots; batches = batches; discarded = discarded; remakes = remakes; withdrawn = withdrawn; closed = closed }
 
+module _ (f : Facts) where
+  -- one more of what has a name
+  more_named : (products : List Product) (lots : List Lot) (batches : List Batch) → IsMore f.products products → IsMore f.lots lots → IsMore f.batches batches
+      → KnowsMore f (record f { products = products; lots = lots; batches = batches })
+  more_named products lots batches ps ls bs =
+      known f (record f { products = products; lots = lots; batches = batches }) ps ls bs (no_more f.discarded) (no_more f.remakes) (no_more f.withdrawn) (no_more f.closed)
+
+  pub product_knows : (p : Product) → KnowsMore f (with_product f p)
+  product_knows p = more_named (f.products ++ p ∷ []) f.lots f.batches (one_more f.products p) (no_more f.lots) (no_more f.batches)
+
+  pub lot_knows : (l : Lot) → KnowsMore f (with_lot f l)
+  lot_knows l = more_named f.products (f.lots ++ l ∷ []) f.batches (no_more f.products) (one_more f.lots l) (no_more f.batches)
+
+  pub batch_knows : (b : Batch) → KnowsMore f (with_batch f b)
+  batch_knows b = more_named f.products f.lots (f.batches ++ b ∷ []) (no_more f.products) (no_more f.lots) (one_more f.batches b)
+
 pub step_knows : (f : Facts) (client : List ℕ) (r : Request) → KnowsMore f (step f client r).0
 step_knows f client r =
     let ps = no_more f.products in
@@ -40,9 +57,9 @@ step_knows f client r =
     facts_by f client (λ r g. KnowsMore f g)
     (record {
       stays = λ r. same f.sessions;
-      product = λ p new few. known f (with_product f p) (one_more f.products p) ls bs ds rs ws cs;
-      lot = λ l p new there apart few. known f (with_lot f l) ps (one_more f.lots l) bs ds rs ws cs;
-      batch = λ b p raw kept rows new there few read. known f (with_batch f (named_batch b p raw)) ps ls (one_more f.batches (named_batch b p raw)) ds rs ws cs;
+      product = λ p new few. product_knows f p;
+      lot = λ l p new there apart few. lot_knows f l;
+      batch = λ b p raw kept rows new there few read. batch_knows f (named_batch b p raw);
       opens = λ b blank r opens. same (f.sessions ++ new_session client b r blank ∷ []);
       word = λ s k sw x own turn. same (at_session s (worded sw) f.sessions);
       ends = λ r s x own why. same (at_session s ended f.sessions);

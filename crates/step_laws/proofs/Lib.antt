@@ -8,3 +8,5 @@ pub mod RecordStands
 pub mod Commands
 pub mod ReplyFacts
 pub mod ReplyRanges
+pub mod ChangeStands
+pub mod BlankSums

@@ -13,7 +13,7 @@ use Rattle.job_core.specs.declared.request.Request.{Request}
 use Rattle.job_core.specs.declared.reply.Reply.{Reply}
 use Rattle.job_core.specs.Facts.{Facts, RecordName, Session, at_session, ended, new_session, with_remake, with_session, with_withdrawal, with_word, worded}
 use Rattle.job_core.specs.Sound.{IsSession, IsSound, IsSoundRecord, has_card}
-use Rattle.job_core.specs.States.{goes_at, commands_for, is_good, is_record, is_running, is_spoiled, is_withdrawn, plan_for, record_state, remakes_of, session_state, state_by, states_of}
+use Rattle.job_core.specs.States.{goes_at, commands_for, is_good, is_record, is_running, is_spoiled, is_withdrawn, plan_for, record_state, remakes_of, session_numbered, session_state, state_by, states_of}
 use Rattle.job_core.specs.Steps.{Outcome, step}
 use Rattle.job_core.proofs.Lists.{count_by-at, count_by_any, list_any-false, list_any-there, map_filter-at, map_same}
 use Rattle.job_core.proofs.SessionLemmas.{session_changed, session_split}
@@ -21,7 +21,7 @@ use Rattle.job_core.proofs.SoundFacts.{is_for, states_among, states_are}
 use Rattle.step_laws.specs.Later.{KnowsMore}
 use Rattle.step_laws.specs.Records.{OtherRecordsStand, is_told, record_by, record_of_session}
 use Rattle.step_laws.proofs.Kept.{state_kept, step_knows}
-use Rattle.step_laws.proofs.StepCases.{IsOwn, own_there, step_by}
+use Rattle.step_laws.proofs.StepCases.{own_there, step_by}
 
 -- ---- by the session that has the card
 
@@ -119,31 +119,29 @@ states_elsewhere f before after x y b r batch rec miss =
 -- ---- the others stand as before
 
 -- a session that changes leaves the records of others
-module _ (f : Facts) (client : List ℕ) (s : ℕ) (x : Session) (change : Session → Session) (own : IsOwn f client s x)
+module _ (f : Facts) (s : ℕ) (x : Session) (change : Session → Session) (there : session_numbered f.sessions s ≡ Some x)
     (batch : (change x).batch ≡ x.batch) (rec : (change x).rec ≡ x.rec) where
   abbrev after_change : Facts
   after_change = record f { sessions = at_session s change f.sessions }
 
+  pub changed_states : (b r : List ℕ) → is_for b r x ≡ false → states_of after_change b r ≡ states_of f b r
+  changed_states b r miss =
+      let split = session_split f.sessions s x change there in
+      ap (λ xs. states_of (record f { sessions = xs }) b r) split.3 ∙ states_elsewhere f split.0 split.1 x (change x) b r batch rec miss
+      ∙ sym (ap (λ xs. states_of (record f { sessions = xs }) b r) split.2)
+
   told_of_session : record_of_session after_change s ≡ Some (record { batch = x.batch; rec = x.rec })
   told_of_session =
-      ap (option_map (λ (y : Session). record { batch = y.batch; rec = y.rec })) (session_changed f.sessions s x change own.there)
+      ap (option_map (λ (y : Session). record { batch = y.batch; rec = y.rec })) (session_changed f.sessions s x change there)
       ∙ ap (λ b. Some (record { batch = b; rec = (change x).rec })) batch ∙ ap (λ r. Some (record { batch = x.batch; rec = r })) rec
 
-  pub changed_stand : (b r : List ℕ) → is_told b r (record_of_session after_change s) ≡ false → record_state after_change b r ≡ record_state f b r
-  changed_stand b r other =
-      let split = session_split f.sessions s x change own.there in
-      let miss : is_for b r x ≡ false = sym (ap (is_told b r) told_of_session) ∙ other in
-      let states : states_of after_change b r ≡ states_of f b r =
-      ap (λ xs. states_of (record f { sessions = xs }) b r) split.3 ∙ states_elsewhere f split.0 split.1 x (change x) b r batch rec miss
-      ∙ sym (ap (λ xs. states_of (record f { sessions = xs }) b r) split.2) in
-      record_same f after_change b r states refl refl
+  changed_stand : (b r : List ℕ) → is_told b r (record_of_session after_change s) ≡ false → record_state after_change b r ≡ record_state f b r
+  changed_stand b r other = record_same f after_change b r (changed_states b r (sym (ap (is_told b r) told_of_session) ∙ other)) refl refl
 
-opened_stand : (f : Facts) (new : Session) (b r : List ℕ) → is_for b r new ≡ false → record_state (with_session f new) b r ≡ record_state f b r
-opened_stand f new b r miss =
-    let states : states_of (with_session f new) b r ≡ states_of f b r =
+pub opened_states : (f : Facts) (new : Session) (b r : List ℕ) → is_for b r new ≡ false → states_of (with_session f new) b r ≡ states_of f b r
+opened_states f new b r miss =
     states_around f f.sessions [] new b r ∙ ap (λ ts. map (session_state f) (filter (is_for b r) f.sessions) ++ ts) (cond-false (is_for b r new) (session_state f new ∷ []) [] miss)
-    ∙ append-nil (map (session_state f) (filter (is_for b r) f.sessions)) ∙ sym (states_are f b r) in
-    record_same f (with_session f new) b r states refl refl
+    ∙ append-nil (map (session_state f) (filter (is_for b r) f.sessions)) ∙ sym (states_are f b r)
 
 pub same_states : (f : Facts) (discarded : List ℕ) (remakes withdrawn : List RecordName) (closed : List (List ℕ)) (b r : List ℕ)
     → states_of (record f { discarded = discarded; remakes = remakes; withdrawn = withdrawn; closed = closed }) b r ≡ states_of f b r
@@ -153,16 +151,15 @@ same_states f discarded remakes withdrawn closed b r = refl
 abbrev pub named : List ℕ → List ℕ → RecordName
 named b r = record { batch = b; rec = r }
 
-remade_stand : (f : Facts) (b r c q : List ℕ) → is_record c q (named b r) ≡ false → record_state (with_remake f b r) c q ≡ record_state f c q
-remade_stand f b r c q other =
+pub remakes_elsewhere : (f : Facts) (b r c q : List ℕ) → is_record c q (named b r) ≡ false → remakes_of (with_remake f b r) c q ≡ remakes_of f c q
+remakes_elsewhere f b r c q other =
     let more : remakes_of (with_remake f b r) c q ≡ remakes_of f c q + cond (is_record c q (named b r)) 1 0 = sum_by_push (λ n. cond (is_record c q n) 1 0) f.remakes (named b r) in
     let none : cond {A = ℕ} (is_record c q (named b r)) 1 0 ≡ 0 = ap (λ t. cond {A = ℕ} t 1 0) other in
-    record_same f (with_remake f b r) c q (same_states f f.discarded (f.remakes ++ named b r ∷ []) f.withdrawn f.closed c q) refl (omega (arith, more, none))
+    omega (arith, more, none)
 
-withdrawn_stand : (f : Facts) (b r c q : List ℕ) → is_record c q (named b r) ≡ false → record_state (with_withdrawal f b r) c q ≡ record_state f c q
-withdrawn_stand f b r c q other =
-    record_same f (with_withdrawal f b r) c q (same_states f f.discarded f.remakes (f.withdrawn ++ named b r ∷ []) f.closed c q)
-    (list_any-append (is_record c q) f.withdrawn (named b r ∷ []) ∙ ap (λ t. is_withdrawn f c q || (t || false)) other ∙ or-false (is_withdrawn f c q)) refl
+pub withdrawn_elsewhere : (f : Facts) (b r c q : List ℕ) → is_record c q (named b r) ≡ false → is_withdrawn (with_withdrawal f b r) c q ≡ is_withdrawn f c q
+withdrawn_elsewhere f b r c q other =
+    list_any-append (is_record c q) f.withdrawn (named b r ∷ []) ∙ ap (λ t. is_withdrawn f c q || (t || false)) other ∙ or-false (is_withdrawn f c q)
 
 pub step_stands : (f : Facts) (client : List ℕ) (r : Request) → IsSound f → OtherRecordsStand f (step f client r).0 (step f client r).1
 step_stands f client r sound =
@@ -181,17 +178,17 @@ step_stands f client r sound =
       product = λ p new few more b q other. record_same f _ b q (states_known f _ b q sound more refl) refl refl;
       lot = λ l p new there apart few more b q other. record_same f _ b q (states_known f _ b q sound more refl) refl refl;
       batch = λ b p raw kept rows new there few read more c q other. record_same f _ c q (states_known f _ c q sound more refl) refl refl;
-      opens = λ b blank r opens more c q other. opened_stand f (new_session client b r blank) c q other;
+      opens = λ b blank r opens more c q other. let new = new_session client b r blank in record_same f _ c q (opened_states f new c q other) refl refl;
       word = λ s k sw x own turn more.
           let g : Facts = with_word f s sw in
           let Q : Reply → Type 0 = λ told. OtherRecordsStand f g told in
-          let stand = changed_stand f client s x (worded sw) own refl refl in
+          let stand = changed_stand f s x (worded sw) own.there refl refl in
           cond_both {A = Reply} (goes_at (commands_for f x.batch x.rec) k sw) _ _ Q
           (λ goes. cond_both {A = Reply} (k + 1 == length (commands_for f x.batch x.rec)) _ _ Q (λ last. stand) (λ next. stand)) (λ stops. stand);
-      abort = λ s x own more. changed_stand f client s x ended own refl refl;
-      reset = λ s runs more. let x = own_there f client s runs in changed_stand f client s x.0 ended x.1 refl refl;
+      abort = λ s x own more. changed_stand f s x ended own.there refl refl;
+      reset = λ s runs more. let x = own_there f client s runs in changed_stand f s x.0 ended x.1.there refl refl;
       discard = λ blank l there free more b q other. record_same f _ b q (same_states f _ f.remakes f.withdrawn f.closed b q) refl refl;
-      remake = λ b r more failed knows c q other. remade_stand f b r c q other;
-      withdraw = λ b r failed more stands knows c q other. withdrawn_stand f b r c q other;
+      remake = λ b r more failed knows c q other. record_same f _ c q (same_states f f.discarded _ f.withdrawn f.closed c q) refl (remakes_elsewhere f b r c q other);
+      withdraw = λ b r failed more stands knows c q other. record_same f _ c q (same_states f f.discarded f.remakes _ f.closed c q) (withdrawn_elsewhere f b r c q other) refl;
       close = λ b batch more there done knows c q other. record_same f _ c q (same_states f f.discarded f.remakes f.withdrawn _ c q) refl refl;
     }) r (step_knows f client r)

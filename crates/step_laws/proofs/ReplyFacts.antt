@@ -22,7 +22,7 @@ use Rattle.job_core.specs.declared.reply.Reply.{Reply}
 use Rattle.job_core.specs.declared.request.Request.{Request}
 use Rattle.job_core.specs.declared.request.Request.TheVariants as request
 use Rattle.job_core.specs.Facts.{Batch, Facts, Session, at_session, ended, new_session, with_end, with_remake, with_session, with_withdrawal, with_word, worded}
-use Rattle.job_core.specs.Sound.{IsSound, IsSoundRecord, has_card, runs_on}
+use Rattle.job_core.specs.Sound.{IsRecord, IsSound, IsSoundRecord, has_card, runs_on}
 use Rattle.job_core.specs.States.{command_bytes, commands_for, first_waiting, goes_at, is_charged, is_record, is_running, is_spoiled, is_waiting, is_withdrawn, last_stops, last_stops_from, product_named, record_state, record_state_of, records_named, remakes_of, rows_of, rows_or_none, rows_under, running_session, session_state, state_by, states_of}
 use Rattle.job_core.specs.Steps.{opened, step, take_word}
 use Rattle.job_core.proofs.Lists.{found_among, list_any-there}
@@ -92,7 +92,7 @@ record_waits : (f : Facts) (b r : List ℕ) → first_waiting f b ≡ Some r →
 unfolding first_waiting
 record_waits f b r waits = waiting_is (record_state f b r) (found_among (λ n. is_waiting (record_state f b n)) (records_named f b) r waits).0
 
-module _ (f : Facts) (client b : List ℕ) (blank : ℕ) (r : List ℕ) (sound : IsSound f) (waits : first_waiting f b ≡ Some r) where
+module _ (f : Facts) (client b : List ℕ) (blank : ℕ) (r : List ℕ) (sound : IsSound f) (there : IsRecord f b r) (waits : record_state f b r ≡ rec.Waiting) where
   abbrev new : Session
   new = new_session client b r blank
 
@@ -102,10 +102,10 @@ module _ (f : Facts) (client b : List ℕ) (blank : ℕ) (r : List ℕ) (sound :
   new_runs : session_state f new ≡ session.Running
   unfolding session_state
   new_runs =
-      let some = commands_some f b r sound (waiting_there f b r waits) in
+      let some = commands_some f b r sound there in
       rw (ne_eqb 0 (length (commands_for f b r)) (λ e. omega (arith, some, e))) refl
 
-  new_record : record_state with_new b r ≡ rec.Running
+  pub new_record : record_state with_new b r ≡ rec.Running
   unfolding record_state
   new_record =
       let states = states_of f b r in
@@ -116,7 +116,7 @@ module _ (f : Facts) (client b : List ℕ) (blank : ℕ) (r : List ℕ) (sound :
       ∙ ap (λ ts. map (session_state f) (filter (is_for b r) f.sessions) ++ ts) (cond-true (is_for b r new) (session_state f new ∷ []) [] (for_own new) ∙ ap (λ t. t ∷ []) new_runs)
       ∙ ap (λ ts. ts ++ session.Running ∷ []) (sym (states_are f b r)) in
       ap (λ ts. state_by ts w m) now
-      ∙ stands_by states [] session.Running w m (record_opened states session.Running w m (sound.told.records b r) (record_waits f b r waits))
+      ∙ stands_by states [] session.Running w m (record_opened states session.Running w m (sound.told.records b r) waits)
 
   new_is : IsSessionOf with_new client (length f.sessions + 1) new session.Running
   new_is = record { there = numbered_top f.sessions new; own = refl; stands = state_same f (f.sessions ++ new ∷ []) new ∙ new_runs; rec = new_record }
@@ -132,7 +132,7 @@ module _ (f : Facts) (client b : List ℕ) (blank : ℕ) (r : List ℕ) (sound :
 -- ---- a session that changes
 
 -- the record of the session with the card, with other words or ended
-changed_record : (f : Facts) (before after : List Session) (x : Session) (words : List ℕ) (over : Bool) (t : SessionState) → IsSound f → f.sessions ≡ before ++ x ∷ after
+pub changed_record : (f : Facts) (before after : List Session) (x : Session) (words : List ℕ) (over : Bool) (t : SessionState) → IsSound f → f.sessions ≡ before ++ x ∷ after
     → session_state f x ≡ session.Running → session_state f (record x { words = words; ended = over }) ≡ t
     → record_state (record f { sessions = before ++ record x { words = words; ended = over } ∷ after }) x.batch x.rec ≡ record_by t
 unfolding record_state
@@ -152,7 +152,7 @@ changed_record f before after x words over t sound split runs is =
     ap (λ ts. state_by ts w m) now ∙ stands_by first rest t w m (subst (λ ts. IsSoundRecord ts w m) was (sound.told.records b r))
 
 module _ (f : Facts) (client : List ℕ) (s : ℕ) (x : Session) (sound : IsSound f) (own : IsOwn f client s x) where
-  word_is : (sw : ℕ) (t : SessionState) → session_state f (worded sw x) ≡ t → IsSessionOf (with_word f s sw) client s (worded sw x) t
+  pub word_is : (sw : ℕ) (t : SessionState) → session_state f (worded sw x) ≡ t → IsSessionOf (with_word f s sw) client s (worded sw x) t
   word_is sw t is =
       let split = session_split f.sessions s x (worded sw) own.there in
       record {
@@ -167,7 +167,7 @@ module _ (f : Facts) (client : List ℕ) (s : ℕ) (x : Session) (sound : IsSoun
   unfolding session_state
   ended_state = refl
 
-  end_is : IsSessionOf (with_end f s) client s (ended x) session.Spoiled
+  pub end_is : IsSessionOf (with_end f s) client s (ended x) session.Spoiled
   end_is =
       let split = session_split f.sessions s x ended own.there in
       record {
@@ -265,7 +265,7 @@ there_record f b r state there is = rw there (ap Some is)
 own_record : (b r : List ℕ) → is_record b r (named b r) ≡ true
 own_record b r = and_from (bytes_eq b b) (bytes_eq r r) (bytes_eq-same b) (bytes_eq-same r)
 
-remade_says : (f : Facts) (b r : List ℕ) → IsSound f → record_state_of f b r ≡ Some rec.Failed → record_state_of (with_remake f b r) b r ≡ Some rec.Waiting
+pub remade_says : (f : Facts) (b r : List ℕ) → IsSound f → record_state_of f b r ≡ Some rec.Failed → record_state_of (with_remake f b r) b r ≡ Some rec.Waiting
 unfolding record_state
 remade_says f b r sound failed =
     let g : Facts = with_remake f b r in
@@ -279,7 +279,7 @@ remade_says f b r sound failed =
     (ap (λ ts. state_by ts (is_withdrawn f b r) (remakes_of g b r)) (same_states f f.discarded g.remakes f.withdrawn f.closed b r)
     ∙ cardless states (is_withdrawn f b r) false (remakes_of g b r) was.1 enough ∙ ap (λ w. cond w rec.Withdrawn rec.Waiting) was.2)
 
-withdrawn_says : (f : Facts) (b r : List ℕ) (failed : Bool) → record_state_of f b r ≡ Some (cond failed rec.Failed rec.Waiting)
+pub withdrawn_says : (f : Facts) (b r : List ℕ) (failed : Bool) → record_state_of f b r ≡ Some (cond failed rec.Failed rec.Waiting)
     → record_state_of (with_withdrawal f b r) b r ≡ Some rec.Withdrawn
 unfolding record_state
 withdrawn_says f b r failed stands =
@@ -317,7 +317,7 @@ step_says f client r sound =
           let is = rows_read f b p raw kept rows there read in
           let found = found_push (λ (x : Batch). bytes_eq x.name b) f.batches (named_batch b p raw) new (bytes_eq-same b) in
           (named_batch b p raw, found, ap length is, ap (λ rows. length (records_of_rows rows)) is, tt);
-      opens = λ b blank r is. opened_says f client b blank r sound is.waits is.free;
+      opens = λ b blank r is. opened_says f client b blank r sound (waiting_there f b r is.waits) (record_waits f b r is.waits) is.free;
       word = λ s k sw x own turn. word_says f client s k sw x sound own turn;
       abort = λ s x own. (ended x, end_is f client s x sound own);
       reset = λ s runs. let x = own_there f client s runs in (none_runs f client s x.0 sound x.1, given_up f (with_end f s) client s (ended x.0) (end_is f client s x.0 sound x.1));

@@ -2,3 +2,4 @@ pub mod Ranges
 pub mod Later
 pub mod Records
 pub mod Replies
+pub mod Sums

@@ -1,5 +1,7 @@
--- What the sessions of a record say of it, and of which record a reply tells.
+-- What the sessions of a record say of it, and of which record a reply and a change tell.
 use Rattle.std.specs.Prelude.{◌≡◌, ℕ, Bool, false, List, slice_get, IsTrue, Option, Some, None, option_map}
+use Rattle.job_core.specs.declared.change.Change.{Change}
+use Rattle.job_core.specs.declared.change.Change.TheVariants as change
 use Rattle.job_core.specs.declared.facts.RecordState.{RecordState}
 use Rattle.job_core.specs.declared.facts.RecordState.TheVariants as rec
 use Rattle.job_core.specs.declared.facts.SessionState.{SessionState}
@@ -7,7 +9,8 @@ use Rattle.job_core.specs.declared.facts.SessionState.TheVariants as session
 use Rattle.job_core.specs.declared.reply.Reply.{Reply}
 use Rattle.job_core.specs.declared.reply.Reply.TheVariants as reply
 use Rattle.job_core.specs.Facts.{Facts, RecordName, Session}
-use Rattle.job_core.specs.States.{commands_for, goes_at, is_record, record_state, session_numbered}
+use Rattle.job_core.specs.Sound.{changed}
+use Rattle.job_core.specs.States.{commands_for, goes_at, is_record, is_withdrawn, record_state, remakes_of, session_numbered, states_of}
 
 -- each of a session's words goes
 abbrev pub WordsGo : Facts → Session → Type 0
@@ -44,3 +47,47 @@ is_told b r (Some n) = is_record b r n
 -- all other records stand as they did
 abbrev pub OtherRecordsStand : Facts → Facts → Reply → Type 0
 OtherRecordsStand f g reply = (b r : List ℕ) → is_told b r (record_told g reply) ≡ false → record_state g b r ≡ record_state f b r
+
+-- ---- the record of a change
+
+-- the record that a change touches, by the facts before it
+abbrev pub touches : Facts → Change → Option RecordName
+touches f (change.Opens machine b r blank lot) = Some (record { batch = b; rec = r })
+touches f (change.AddsWord s index sw stands cursor) = record_of_session f s
+touches f (change.Ends s) = record_of_session f s
+touches f (change.Remakes b r) = Some (record { batch = b; rec = r })
+touches f (change.Withdraws b r was) = Some (record { batch = b; rec = r })
+touches f _ = None
+
+-- how that record stands before the change
+abbrev pub stood_before : Change → Option RecordState
+stood_before (change.Opens machine b r blank lot) = Some rec.Waiting
+stood_before (change.AddsWord s index sw stands cursor) = Some rec.Running
+stood_before (change.Ends s) = Some rec.Running
+stood_before (change.Remakes b r) = Some rec.Failed
+stood_before (change.Withdraws b r was) = Some was
+stood_before _ = None
+
+-- and after it
+abbrev pub stands_after : Change → Option RecordState
+stands_after (change.Opens machine b r blank lot) = Some rec.Running
+stands_after (change.AddsWord s index sw stands cursor) = Some (record_by stands)
+stands_after (change.Ends s) = Some rec.Failed
+stands_after (change.Remakes b r) = Some rec.Waiting
+stands_after (change.Withdraws b r was) = Some rec.Withdrawn
+stands_after _ = None
+
+-- as much is told of the record
+pub record StandsSame (f g : Facts) (b r : List ℕ) : Type 0 where
+  pub states : states_of g b r ≡ states_of f b r
+  pub withdrawn : is_withdrawn g b r ≡ is_withdrawn f b r
+  pub remakes : remakes_of g b r ≡ remakes_of f b r
+  pub stands : record_state g b r ≡ record_state f b r
+
+-- of each record that the change does not touch
+abbrev pub OthersStandSame : Facts → Change → Type 0
+OthersStandSame f change = (b r : List ℕ) → is_told b r (touches f change) ≡ false → StandsSame f (changed f change) b r
+
+-- the record that it touches stands so in these facts
+abbrev pub TouchedStands : Facts → Facts → Change → Option RecordState → Type 0
+TouchedStands f g change stands = (n : RecordName) (state : RecordState) → touches f change ≡ Some n → stands ≡ Some state → record_state g n.batch n.rec ≡ state
