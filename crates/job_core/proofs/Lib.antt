@@ -6,3 +6,4 @@ pub mod SoundFacts
 pub mod SessionLemmas
 pub mod SoundSessions
 pub mod RunningLemmas
+pub mod NextContents

@@ -5,14 +5,15 @@ use Rattle.job_core.specs.Store.{State}
 use Rattle.list_store.specs.declared.store.ListStore.{ListStore}
 
 abbrev pub contents : ListStore → Contents
-contents s = record { facts = s.facts; kept = s.kept.items }
+contents s = record { facts = s.facts; kept = s.kept.items; marks = s.marks.items }
 
 -- Without a device, a crash finds what is there.
 abbrev pub state_of : Contents → State
 state_of c = record {
   holds = λ d. (c ≡ d) × AreSound d;
   doubts = 0;
-  faults = 0;
+  failed = 0;
+  full = 0;
   may_leave = λ d. d ≡ c;
 }
 

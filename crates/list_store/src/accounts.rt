@@ -4,7 +4,7 @@ ghost use Rattle.std.specs.Prelude.{length, map, option_map, sum_by};
 ghost use Rattle.job_core.specs.declared.store.StoreFault.TheVariants.{Memory};
 ghost use Rattle.job_core.specs.declared.facts.Lot.{Lot as LotValue};
 ghost use Rattle.job_core.specs.Accounts.{batch_totals, blank_states, blank_totals, count_records};
-ghost use Rattle.job_core.specs.Accounts.{is_blank_of, is_lot_of, record_line, record_line_at};
+ghost use Rattle.job_core.specs.Accounts.{is_blank_of, is_lot_of, record_line, record_lines};
 ghost use Rattle.job_core.specs.Accounts.{record_states, session_states};
 ghost use Rattle.job_core.specs.Facts.{Session};
 ghost use Rattle.job_core.specs.States.{is_good, lot_of, record_state, session_state};
@@ -137,22 +137,36 @@ fn record_line(
     })
 }
 
-/// How the record at a place of a batch stands, from 0, if the batch has as many.
-#[tactic(auto, unfolding(job_core::specs::Accounts::record_line_at))]
-pub(crate) fn record_line_at(
+// How these records of a batch stand.
+fn lines_of(
     alloc: Global,
     facts: &FactLists,
     batch: &Name,
-    place: u32,
-) -> Result<Option<RecordLine>, StoreFault>
-    ensures value { IfOk result (λ line. line ≡ record_line_at facts.now batch.now place) }
+    names: &[Name],
+) -> Result<Vec<RecordLine>, StoreFault>
+    ensures value { IfOk result
+        (λ lines. lines.items ≡ map (record_line facts.now batch.now) names.now) }
+    ensures cause { IfErr result (λ fault. fault ≡ Memory) }
+{
+    let mut lines = Vec::new(alloc);
+    for rec in names {
+        lines.push(record_line(alloc, facts, batch, rec)?)?;
+    }
+    Ok(lines)
+}
+
+/// How the records of a batch stand, in file order.
+#[tactic(auto, unfolding(job_core::specs::Accounts::record_lines))]
+pub(crate) fn record_lines(
+    alloc: Global,
+    facts: &FactLists,
+    batch: &Name,
+) -> Result<Vec<RecordLine>, StoreFault>
+    ensures value { IfOk result (λ lines. lines.items ≡ record_lines facts.now batch.now) }
     ensures cause { IfErr result (λ fault. fault ≡ Memory) }
 {
     let names = record_names(alloc, facts, batch)?;
-    match names.get(place as usize) {
-        None => Ok(None),
-        Some(rec) => Ok(Some(record_line(alloc, facts, batch, rec)?)),
-    }
+    lines_of(alloc, facts, batch, &names)
 }
 
 // ---- a product's blanks

@@ -39,14 +39,15 @@ pub(crate) fn change_facts(
             batch,
             rec,
             blank,
+            ..
         } => facts
             .sessions
             .push(new_session(alloc, machine, batch, rec, blank))?,
         Change::AddsWord { session, sw, .. } => add_word(&mut facts.sessions, session, sw)?,
         Change::Ends { session } => end(&mut facts.sessions, session),
-        Change::Discards { blank } => facts.discarded.push(blank)?,
+        Change::Discards { blank, .. } => facts.discarded.push(blank)?,
         Change::Remakes { batch, rec } => facts.remakes.push(KeptRecord { batch, rec })?,
-        Change::Withdraws { batch, rec } => facts.withdrawn.push(KeptRecord { batch, rec })?,
+        Change::Withdraws { batch, rec, .. } => { facts.withdrawn.push(KeptRecord { batch, rec })? }
         Change::Closes { batch } => facts.closed.push(batch)?,
     }
     Ok(())

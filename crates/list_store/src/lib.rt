@@ -8,6 +8,7 @@ mod changes;
 mod cursors;
 mod kept;
 mod lists;
+mod marks;
 mod names;
 mod records;
 mod segments;

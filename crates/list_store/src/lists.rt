@@ -190,3 +190,18 @@ impl Model for KeptRow {
       body = r.body;
     } };
 }
+
+/// How far a client has released its numbers.
+#[derive(Drop)]
+pub(crate) struct KeptMark {
+    pub(crate) client: Name,
+    pub(crate) upto: u64,
+}
+
+impl Model for KeptMark {
+    ghost use Rattle.job_core.specs.Contents.{Mark};
+
+    ghost Value = { Mark };
+
+    ghost view = { λ m. record { client = m.client; upto = m.upto } };
+}

@@ -7,14 +7,14 @@ ghost use Rattle.store_data.specs.declared.row.Row.{Row as RowValue};
 ghost use Rattle.batch_import.specs.Batch.{batch_of, records_of_rows};
 ghost use Rattle.batch_import.specs.SoundRecords.{AreSoundRecords};
 ghost use Rattle.job_core.specs.declared.store.StoreFault.TheVariants.{Memory};
-ghost use Rattle.job_core.specs.Rows.{batch_has, batch_row_of};
+ghost use Rattle.job_core.specs.Rows.{batch_has, batch_row_of, batch_size_of};
 ghost use Rattle.job_core.specs.States.{is_closed, plan_for, records_named, records_of, rows_of};
 ghost use Rattle.job_core.specs.States.{rows_of_record, rows_or_none};
 
 use crate::lists::{FactLists, KeptBatch};
 use crate::names::{batch_named, product_named};
 use batch_import::{ImportFault, Totals, check_batch, read_batch};
-use job_core::{BatchRow, StoreFault};
+use job_core::{BatchRow, BatchSize, StoreFault};
 use std::alloc::{AllocError, Global};
 use std::marker::Model;
 use store_data::{Name, Product, RecordPlan, Row, plan_of_sound};
@@ -99,21 +99,29 @@ fn totals(alloc: Global, facts: &FactLists, batch: &KeptBatch) -> Result<Totals,
 }
 
 /// The batch of a name.
-pub(crate) fn batch_row(
+pub(crate) fn batch_row(facts: &FactLists, name: &Name) -> Option<BatchRow>
+    ensures { result ≡ batch_row_of facts.now name.now }
+{
+    batch_named(&facts.batches, name).map(|batch| BatchRow {
+        product: batch.product,
+        is_closed: has_name(&facts.closed, name),
+    })
+}
+
+/// How many rows and records the batch of a name has.
+pub(crate) fn batch_size(
     alloc: Global,
     facts: &FactLists,
     name: &Name,
-) -> Result<Option<BatchRow>, StoreFault>
-    ensures value { IfOk result (λ row. row ≡ batch_row_of facts.now name.now) }
+) -> Result<Option<BatchSize>, StoreFault>
+    ensures value { IfOk result (λ size. size ≡ batch_size_of facts.now name.now) }
     ensures cause { IfErr result (λ fault. fault ≡ Memory) }
 {
     match batch_named(&facts.batches, name) {
         None => Ok(None),
         Some(batch) => {
             let totals = totals(alloc, facts, batch)?;
-            Ok(Some(BatchRow {
-                product: batch.product,
-                is_closed: has_name(&facts.closed, name),
+            Ok(Some(BatchSize {
                 rows: totals.rows,
                 records: totals.records,
             }))

@@ -1,20 +1,21 @@
 //! The store.
-use crate::lists::{FactLists, KeptRow};
-use crate::{accounts, blanks, changes, kept, names, records, segments, sessions, states};
+use crate::lists::{FactLists, KeptMark, KeptRow};
+use crate::{accounts, blanks, changes, kept, marks, names, records, segments, sessions, states};
 use job_core::{
-    BatchRow, BatchTotals, BlankTotals, Change, Counts, JobStore, KeptReply, Lot, RecordLine,
+    BatchRow, BatchSize, BatchTotals, BlankTotals, Change, JobStore, KeptReply, Lot, RecordLine,
     RecordState, SegmentRow, SessionRow, StoreFault,
 };
 use std::alloc::Global;
 use store_data::{Name, Product};
 
-/// The facts and the kept replies, the oldest first. It has no device, so that it only ever lacks
-/// memory.
+/// The facts, the kept replies, the oldest first, and the marks of clients. It has no device, so
+/// that it only ever lacks memory.
 #[derive(Drop)]
 pub struct ListStore {
     alloc: Global,
     facts: FactLists,
     kept: Vec<KeptRow>,
+    marks: Vec<KeptMark>,
 }
 
 impl ListStore {
@@ -29,6 +30,7 @@ impl ListStore {
             alloc,
             facts: FactLists::new(alloc),
             kept: Vec::new(alloc),
+            marks: Vec::new(alloc),
         }
     }
 }
@@ -57,7 +59,11 @@ impl JobStore for ListStore {
     }
 
     fn batch(&mut self, name: &Name) -> Result<Option<BatchRow>, StoreFault> {
-        records::batch_row(self.alloc, &self.facts, name)
+        Ok(records::batch_row(&self.facts, name))
+    }
+
+    fn batch_size(&mut self, name: &Name) -> Result<Option<BatchSize>, StoreFault> {
+        records::batch_size(self.alloc, &self.facts, name)
     }
 
     fn batch_has(&mut self, name: &Name, raw: &[u8]) -> Result<bool, StoreFault> {
@@ -102,21 +108,28 @@ impl JobStore for ListStore {
         segments::segment_row_of(self.alloc, &self.facts, batch, rec, app, segment)
     }
 
-    fn counts(&mut self) -> Result<Counts, StoreFault> {
-        Ok(Counts {
-            products: self.facts.products.len() as u64,
-            lots: self.facts.lots.len() as u64,
-            batches: self.facts.batches.len() as u64,
-            sessions: self.facts.sessions.len() as u64,
-        })
+    fn product_count(&mut self) -> Result<u64, StoreFault> {
+        Ok(self.facts.products.len() as u64)
+    }
+
+    fn lot_count(&mut self) -> Result<u64, StoreFault> {
+        Ok(self.facts.lots.len() as u64)
+    }
+
+    fn batch_count(&mut self) -> Result<u64, StoreFault> {
+        Ok(self.facts.batches.len() as u64)
+    }
+
+    fn session_count(&mut self) -> Result<u64, StoreFault> {
+        Ok(self.facts.sessions.as_slice().len() as u64)
     }
 
     fn batch_totals(&mut self, batch: &Name) -> Result<BatchTotals, StoreFault> {
         accounts::batch_totals(self.alloc, &self.facts, batch)
     }
 
-    fn record_line(&mut self, batch: &Name, place: u32) -> Result<Option<RecordLine>, StoreFault> {
-        accounts::record_line_at(self.alloc, &self.facts, batch, place)
+    fn record_lines(&mut self, batch: &Name) -> Result<Vec<RecordLine>, StoreFault> {
+        accounts::record_lines(self.alloc, &self.facts, batch)
     }
 
     fn blank_totals(&mut self, product: &Name) -> Result<BlankTotals, StoreFault> {
@@ -125,6 +138,10 @@ impl JobStore for ListStore {
 
     fn kept(&mut self, client: &Name, number: u64) -> Result<Option<KeptReply>, StoreFault> {
         kept::reply_of(self.alloc, &self.kept, client, number)
+    }
+
+    fn mark(&mut self, client: &Name) -> Result<u64, StoreFault> {
+        Ok(marks::mark_of(&self.marks, client))
     }
 
     fn commit(
@@ -140,6 +157,23 @@ impl JobStore for ListStore {
         self.kept.reserve(1)?;
         changes::change_facts(self.alloc, &mut self.facts, change)?;
         self.kept.push(row).unwrap();
+        Ok(())
+    }
+
+    fn release(
+        &mut self,
+        client: &Name,
+        number: u64,
+        ask: &[u8],
+        status: u16,
+        body: &[u8],
+        mark: u64,
+    ) -> Result<(), StoreFault> {
+        let reply = kept::row(self.alloc, client, number, ask, status, body)?;
+        self.kept.reserve(1)?;
+        marks::set_mark(&mut self.marks, client, mark)?;
+        self.kept.push(reply).unwrap();
+        marks::drop_released(&mut self.kept, &self.marks);
         Ok(())
     }
 }

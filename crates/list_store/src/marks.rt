@@ -1,0 +1,48 @@
+//! How far clients have released their numbers.
+ghost use Rattle.std.specs.Prelude.{◌≡◌, IfErr, OnErr, OnOk, bytes_eq, nat_lt, not};
+ghost use Rattle.job_core.specs.declared.store.StoreFault.TheVariants.{Memory};
+ghost use Rattle.job_core.specs.Contents.{above, has_mark, is_above, mark_of, with_mark};
+
+use crate::lists::{KeptMark, KeptRow};
+use job_core::StoreFault;
+use store_data::Name;
+
+/// The mark of a client; 0 where it has none.
+pub(crate) fn mark_of(marks: &[KeptMark], client: &Name) -> u64
+    ensures { result ≡ mark_of marks.now client.now }
+{
+    for mark in marks {
+        if mark.client == *client {
+            return mark.upto;
+        }
+    }
+    0
+}
+
+/// Sets the mark of a client, or leaves the marks.
+pub(crate) fn set_mark(
+    marks: &mut Vec<KeptMark>,
+    client: &Name,
+    upto: u64,
+) -> Result<(), StoreFault>
+    ensures ok { OnOk result (marks.new.items ≡ with_mark marks.old.items client.now upto) }
+    ensures err { OnErr result (marks.new.items ≡ marks.old.items) }
+    ensures cause { IfErr result (λ fault. fault ≡ Memory) }
+{
+    marks.reserve(1)?;
+    marks.retain(|mark| mark.client != *client);
+    marks
+        .push(KeptMark {
+            client: *client,
+            upto,
+        })
+        .unwrap();
+    Ok(())
+}
+
+/// Drops what is kept under released numbers.
+pub(crate) fn drop_released(kept: &mut Vec<KeptRow>, marks: &[KeptMark])
+    ensures { kept.new.items ≡ above marks.now kept.old.items }
+{
+    kept.retain(|row| mark_of(marks, &row.client) < row.number);
+}
