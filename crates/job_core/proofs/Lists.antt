@@ -1,11 +1,11 @@
 -- Lists and options: lists around one place, look-ups, lists that grow at their end, and what is mapped.
-use Rattle.std.proofs.Common.{◌≡◌, ℕ, zero, suc, ◌+◌, ◌<◌, ◌≤◌, Bool, true, false, cond, ◌||◌, ◌&&◌, List, [], ◌∷◌, ◌++◌, length, map, All, Option, Some, None, inl, inr, refl, sym, ap, ◌∙◌, subst, arith}
+use Rattle.std.proofs.Common.{◌≡◌, ℕ, zero, suc, ◌+◌, ◌<◌, ◌≤◌, Bool, true, false, cond, ◌||◌, ◌&&◌, List, [], ◌∷◌, ◌++◌, length, map, All, Option, Some, None, ◌⊎◌, inl, inr, ⊎_elim, refl, sym, ap, take, ◌∙◌, subst, arith}
 use Rattle.std.specs.Prelude.{AllPairs, bytes_eq, count_by, filter, find, option_map, slice_get}
 use Rattle.std.specs.List.{list_all, list_any}
 use Rattle.std.specs.Option.{option_or}
 use Rattle.std.proofs.lemmas.Bool.{and_parts, cases_Bool, cond-true, cond-false, false≢true, or_cases, or_left, or_parts, or_right}
 use Rattle.std.proofs.lemmas.Bool.Decides.{nat_tests}
-use Rattle.std.proofs.lemmas.List.{map-append}
+use Rattle.std.proofs.lemmas.List.{map-append, take-append-le, take_at}
 use Rattle.std.proofs.lemmas.List.Elements.{All-nil, All-append, All-cons, All-head, All-tail, All-map, filter-append}
 use Rattle.std.proofs.lemmas.List.Folds.{find-append}
 use Rattle.std.proofs.lemmas.List.Kept.{AllPairs-cons}
@@ -184,3 +184,22 @@ mapped h (Some x) y e = (x, refl, same_Some (h x) y e)
 pub unmapped : {X Y : Type 0} (h : X → Y) (o : Option X) → option_map h o ≡ None → o ≡ None
 unmapped h None e = refl
 unmapped h (Some x) e = absurd (none-some (h x) (sym e))
+
+-- ---- places of a list that grows at its end
+
+slice_get_push : {X : Type 0} (xs : List X) (x y : X) (i : ℕ) → slice_get (xs ++ x ∷ []) i ≡ Some y → ((i < length xs) × (slice_get xs i ≡ Some y)) ⊎ ((i ≡ length xs) × (x ≡ y))
+slice_get_push [] x y zero is = inr (refl, same_Some x y is)
+slice_get_push [] x y (suc i) is = absurd (none-some y is)
+slice_get_push (z ∷ xs) x y zero is = inl (omega arith, is)
+slice_get_push {X = X} (z ∷ xs) x y (suc i) is =
+    ⊎_elim (λ (p : (i < length xs) × (slice_get xs i ≡ Some y)). inl (omega (arith, p.0), p.1)) (λ (p : (i ≡ length xs) × (x ≡ y)). inr (ap suc p.0, p.1)) (slice_get_push xs x y i is)
+
+-- what holds of each by those before it, after one more
+pub each_more : {X : Type 0} (P : List X → X → Type 0) (xs : List X) (x : X)
+    → ((i : ℕ) (y : X) → slice_get xs i ≡ Some y → P (take i xs) y) → P xs x
+    → (i : ℕ) (y : X) → slice_get (xs ++ x ∷ []) i ≡ Some y → P (take i (xs ++ x ∷ [])) y
+each_more {X = X} P xs x each last i y is =
+    ⊎_elim
+    (λ (p : (i < length xs) × (slice_get xs i ≡ Some y)). subst (λ (l : List X). P l y) (sym (take-append-le i xs (x ∷ []) (omega (arith, p.0)))) (each i y p.1))
+    (λ (p : (i ≡ length xs) × (x ≡ y)). subst (λ (l : List X). P l y) (sym (take_at xs (x ∷ []) i (sym p.0))) (subst (P xs) p.1 last))
+    (slice_get_push xs x y i is)

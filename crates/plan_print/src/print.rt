@@ -9,8 +9,6 @@ use std::io::Write;
 use store_data::{Cursor, Name, RecordPlan, count};
 use text_io::{WriteFailed, write_text};
 
-const UPPER_DIGITS: [u8; 16] = *b"0123456789ABCDEF";
-
 /// A record's name, and its plan.
 #[derive(Drop)]
 pub struct Planned<'a> {
@@ -69,9 +67,14 @@ fn put_line(bytes: &[u8], text: &mut [u8; 521]) -> usize
     at + 1
 }
 
+// The arithmetic form, so that the loop over a command's bytes takes many at once.
 fn upper_digit(value: u8) -> u8
     requires { value < 16 }
     ensures { result ≡ slice_index upper_digits value }
 {
-    UPPER_DIGITS[usize::from(value)]
+    if value < 10 {
+        b'0' + value
+    } else {
+        b'A' + (value - 10)
+    }
 }

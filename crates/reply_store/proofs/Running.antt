@@ -10,6 +10,7 @@ use Rattle.job_core.specs.declared.request.Arrival.{Arrival}
 use Rattle.job_core.specs.declared.store.StoreFault.{StoreFault}
 use Rattle.job_core.specs.Contents.{AreSame, AreSound, Contents, Entry, entry_of}
 use Rattle.job_core.specs.Store.{CountsFaults, IsHonest, State, Stays, failed_after, full_after}
+use Rattle.job_core.proofs.Lists.{each_more}
 use Rattle.arrivals.specs.declared.kept.Kept.{Kept}
 use Rattle.arrivals.specs.Told.{told}
 use Rattle.arrivals.specs.Meaning.{Arrived, contents_after, is_released, reply_to, told_on}
@@ -114,22 +115,6 @@ leaves_stays s0 s1 s2 tries run stays = record {
 }
 
 -- ---- what is told
-
-slice_get_push : (xs : List Served) (x s : Served) (i : ℕ) → slice_get (xs ++ x ∷ []) i ≡ Some s → ((i < length xs) × (slice_get xs i ≡ Some s)) ⊎ ((i ≡ length xs) × (x ≡ s))
-slice_get_push [] x s zero is = inr (refl, same_Some x s is)
-slice_get_push [] x s (suc i) is = absurd (none-some s is)
-slice_get_push (y ∷ xs) x s zero is = inl (omega arith, is)
-slice_get_push (y ∷ xs) x s (suc i) is = ⊎_elim (λ (p : (i < length xs) × (slice_get xs i ≡ Some s)). inl (omega (arith, p.0), p.1)) (λ (p : (i ≡ length xs) × (x ≡ s)). inr (ap suc p.0, p.1)) (slice_get_push xs x s i is)
-
--- what holds of each by those before it, after one more
-each_more : (P : List Served → Served → Type 0) (served : List Served) (x : Served)
-    → ((i : ℕ) (s : Served) → slice_get served i ≡ Some s → P (take i served) s) → P served x
-    → (i : ℕ) (s : Served) → slice_get (served ++ x ∷ []) i ≡ Some s → P (take i (served ++ x ∷ [])) s
-each_more P served x each last i s is =
-    ⊎_elim
-    (λ (p : (i < length served) × (slice_get served i ≡ Some s)). subst (λ (l : List Served). P l s) (sym (take-append-le i served (x ∷ []) (omega (arith, p.0)))) (each i s p.1))
-    (λ (p : (i ≡ length served) × (x ≡ s)). subst (λ (l : List Served). P l s) (sym (take_at served (x ∷ []) i (sym p.0))) (subst (P served) p.1 last))
-    (slice_get_push served x s i is)
 
 abbrev ToldAt : Contents → List Served → Served → Type 0
 ToldAt c before s = IfOk s.1 (λ k. told_on (contents_after c (decided (tried before))) s.0 ≡ told k)

@@ -7,6 +7,7 @@ use Rattle.std.proofs.lemmas.List.Elements.{All-push, All-nil}
 use Rattle.std.proofs.lemmas.Option.{none-some, same_Some}
 use Rattle.job_core.specs.Contents.{Contents}
 use Rattle.job_core.specs.Store.{State, IsHonest}
+use Rattle.job_core.proofs.Lists.{each_more}
 use Rattle.arrivals.specs.Meaning.{contents_after}
 use Rattle.reply_store.specs.Runs.{Tried, arrived, decided, AreLeftInTurn, Leaves}
 use Rattle.asks.specs.declared.ask.Asked.TheVariants as asked
@@ -43,22 +44,6 @@ doubts_at Broken old new b does = does.0.doubts
 doubts_at (Refused why) old new b does = does.0.doubts
 doubts_at (Asks (asked.Account w)) old new b does = does.0.doubts
 doubts_at (Asks (asked.Arrival a)) old new b does = does.1.doubts
-
-slice_get_push : (es : List Exchange) (e f : Exchange) (i : ℕ) → slice_get (es ++ e ∷ []) i ≡ Some f → ((i < length es) × (slice_get es i ≡ Some f)) ⊎ ((i ≡ length es) × (e ≡ f))
-slice_get_push [] e f zero is = inr (refl, same_Some e f is)
-slice_get_push [] e f (suc i) is = absurd (none-some f is)
-slice_get_push (x ∷ es) e f zero is = inl (omega arith, is)
-slice_get_push (x ∷ es) e f (suc i) is = ⊎_elim (λ (p : (i < length es) × (slice_get es i ≡ Some f)). inl (omega (arith, p.0), p.1)) (λ (p : (i ≡ length es) × (e ≡ f)). inr (ap suc p.0, p.1)) (slice_get_push es e f i is)
-
--- what holds of each by those before it, after one more
-each_more : (P : List Exchange → Exchange → Type 0) (es : List Exchange) (e : Exchange)
-    → ((i : ℕ) (f : Exchange) → slice_get es i ≡ Some f → P (take i es) f) → P es e
-    → (i : ℕ) (f : Exchange) → slice_get (es ++ e ∷ []) i ≡ Some f → P (take i (es ++ e ∷ [])) f
-each_more P es e each last i f is =
-    ⊎_elim
-    (λ (p : (i < length es) × (slice_get es i ≡ Some f)). subst (λ (l : List Exchange). P l f) (sym (take-append-le i es (e ∷ []) (omega (arith, p.0)))) (each i f p.1))
-    (λ (p : (i ≡ length es) × (e ≡ f)). subst (λ (l : List Exchange). P l f) (sym (take_at es (e ∷ []) i (sym p.0))) (subst (P es) p.1 last))
-    (slice_get_push es e f i is)
 
 abbrev NextAt : Contents → List Exchange → Exchange → Type 0
 NextAt c before e = IsNext (contents_after c (decided (tries before))) e.meant e.served.decided
