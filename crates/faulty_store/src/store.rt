@@ -1,0 +1,253 @@
+//! The store.
+use crate::device::{Device, Fault, Plan};
+use job_core::{
+    BatchRow, BatchSize, BatchTotals, BlankTotals, Change, JobStore, KeptReply, Lot, RecordLine,
+    RecordState, SegmentRow, SessionRow, StoreFault,
+};
+use list_store::ListStore;
+use std::alloc::Global;
+use store_data::{Name, Product};
+
+/// Lists behind a device. Each call takes a turn of the device first.
+#[derive(Drop)]
+pub struct FaultyStore {
+    alloc: Global,
+    lists: ListStore,
+    device: Device,
+}
+
+impl FaultyStore {
+    ghost use Rattle.std.specs.Prelude.{◌≡◌, false, None, OnOk};
+    ghost use Rattle.job_core.specs.Contents.{AreSound, Contents, no_contents};
+    ghost use Rattle.job_core.specs.Store.{CountsFaults, IsHonest, Stays};
+    ghost use Rattle.list_store.specs.Lists.{contents};
+    ghost use Rattle.faulty_store.specs.Faulty.{state};
+
+    /// An empty store, and what is planned for its device. It takes no memory.
+    pub fn new(alloc: Global, plan: Option<Plan>) -> FaultyStore
+        ensures holds { (state result).holds no_contents }
+        ensures device { result.device ≡ record {
+          plan = plan;
+          failed = 0;
+          full = 0;
+          lies = 0;
+          is_shut = false;
+        } }
+    {
+        FaultyStore {
+            alloc,
+            lists: ListStore::new(alloc),
+            device: Device {
+                plan,
+                failed: 0,
+                full: 0,
+                lies: 0,
+                is_shut: false,
+            },
+        }
+    }
+
+    /// The store that is opened on what a crash at this moment leaves. Its device keeps its counts,
+    /// and nothing is planned for it.
+    pub fn reopen(self) -> FaultyStore
+        ensures holds { (c : Contents) → AreSound c → (state self).may_leave c
+            → (state result).holds c }
+        ensures device { result.device ≡ record self.device { plan = None; is_shut = false } }
+    {
+        let device = Device {
+            plan: None,
+            is_shut: false,
+            ..self.device
+        };
+        FaultyStore { device, ..self }
+    }
+
+    /// What became of its device.
+    pub fn device(&self) -> Device
+        ensures { result ≡ self.now.device }
+    {
+        self.device
+    }
+
+    // A turn of the device.
+    fn turn(&mut self) -> Result<(), StoreFault>
+        ensures stays { Stays (state self.old) (state self.new) }
+        ensures faults { CountsFaults (state self.old) (state self.new) result }
+        ensures open { OnOk result (self.old.device.is_shut ≡ false) }
+        ensures same { IsHonest (state self.new)
+            → contents self.new.lists ≡ contents self.old.lists }
+    {
+        match self.device.strike() {
+            None => Ok(()),
+            Some(Fault::Failed | Fault::FailedAfterWrite) => Err(self.device.fail()),
+            Some(Fault::Full) => Err(self.device.refuse()),
+            Some(Fault::Lies) => {
+                self.device.lies = self.device.lies.saturating_add(1);
+                self.lists = ListStore::new(self.alloc);
+                Ok(())
+            }
+        }
+    }
+}
+
+impl JobStore for FaultyStore {
+    ghost use Rattle.faulty_store.specs.Faulty.{state};
+
+    ghost state = { state };
+
+    ghost sound = { λ store c held. held.0 };
+
+    fn product(&mut self, code: &Name) -> Result<Option<Product>, StoreFault> {
+        self.turn()?;
+        self.lists.product(code)
+    }
+
+    fn lot(&mut self, name: &Name) -> Result<Option<Lot>, StoreFault> {
+        self.turn()?;
+        self.lists.lot(name)
+    }
+
+    fn lot_of(&mut self, blank: u64) -> Result<Option<Lot>, StoreFault> {
+        self.turn()?;
+        self.lists.lot_of(blank)
+    }
+
+    fn overlaps(&mut self, first: u64, count: u32) -> Result<bool, StoreFault> {
+        self.turn()?;
+        self.lists.overlaps(first, count)
+    }
+
+    fn batch(&mut self, name: &Name) -> Result<Option<BatchRow>, StoreFault> {
+        self.turn()?;
+        self.lists.batch(name)
+    }
+
+    fn batch_size(&mut self, name: &Name) -> Result<Option<BatchSize>, StoreFault> {
+        self.turn()?;
+        self.lists.batch_size(name)
+    }
+
+    fn batch_has(&mut self, name: &Name, raw: &[u8]) -> Result<bool, StoreFault> {
+        self.turn()?;
+        self.lists.batch_has(name, raw)
+    }
+
+    fn record_state(
+        &mut self,
+        batch: &Name,
+        rec: &Name,
+    ) -> Result<Option<RecordState>, StoreFault> {
+        self.turn()?;
+        self.lists.record_state(batch, rec)
+    }
+
+    fn first_waiting(&mut self, batch: &Name) -> Result<Option<Name>, StoreFault> {
+        self.turn()?;
+        self.lists.first_waiting(batch)
+    }
+
+    fn is_finished(&mut self, batch: &Name) -> Result<bool, StoreFault> {
+        self.turn()?;
+        self.lists.is_finished(batch)
+    }
+
+    fn session(&mut self, session: u64) -> Result<Option<SessionRow>, StoreFault> {
+        self.turn()?;
+        self.lists.session(session)
+    }
+
+    fn running_session(&mut self, machine: &Name) -> Result<Option<u64>, StoreFault> {
+        self.turn()?;
+        self.lists.running_session(machine)
+    }
+
+    fn is_charged(&mut self, blank: u64) -> Result<bool, StoreFault> {
+        self.turn()?;
+        self.lists.is_charged(blank)
+    }
+
+    fn segment(
+        &mut self,
+        batch: &Name,
+        rec: &Name,
+        app: u16,
+        segment: u16,
+    ) -> Result<Option<SegmentRow>, StoreFault> {
+        self.turn()?;
+        self.lists.segment(batch, rec, app, segment)
+    }
+
+    fn product_count(&mut self) -> Result<u64, StoreFault> {
+        self.turn()?;
+        self.lists.product_count()
+    }
+
+    fn lot_count(&mut self) -> Result<u64, StoreFault> {
+        self.turn()?;
+        self.lists.lot_count()
+    }
+
+    fn batch_count(&mut self) -> Result<u64, StoreFault> {
+        self.turn()?;
+        self.lists.batch_count()
+    }
+
+    fn session_count(&mut self) -> Result<u64, StoreFault> {
+        self.turn()?;
+        self.lists.session_count()
+    }
+
+    fn batch_totals(&mut self, batch: &Name) -> Result<BatchTotals, StoreFault> {
+        self.turn()?;
+        self.lists.batch_totals(batch)
+    }
+
+    fn record_lines(&mut self, batch: &Name) -> Result<Vec<RecordLine>, StoreFault> {
+        self.turn()?;
+        self.lists.record_lines(batch)
+    }
+
+    fn blank_totals(&mut self, product: &Name) -> Result<BlankTotals, StoreFault> {
+        self.turn()?;
+        self.lists.blank_totals(product)
+    }
+
+    fn kept(&mut self, client: &Name, number: u64) -> Result<Option<KeptReply>, StoreFault> {
+        self.turn()?;
+        self.lists.kept(client, number)
+    }
+
+    fn mark(&mut self, client: &Name) -> Result<u64, StoreFault> {
+        self.turn()?;
+        self.lists.mark(client)
+    }
+
+    fn commit(
+        &mut self,
+        client: &Name,
+        number: u64,
+        ask: &[u8],
+        status: u16,
+        body: &[u8],
+        change: &Change<'_>,
+    ) -> Result<(), StoreFault> {
+        self.turn()?;
+        self.lists
+            .commit(client, number, ask, status, body, change)?;
+        self.device.end_write()
+    }
+
+    fn release(
+        &mut self,
+        client: &Name,
+        number: u64,
+        ask: &[u8],
+        status: u16,
+        body: &[u8],
+        mark: u64,
+    ) -> Result<(), StoreFault> {
+        self.turn()?;
+        self.lists.release(client, number, ask, status, body, mark)?;
+        self.device.end_write()
+    }
+}
