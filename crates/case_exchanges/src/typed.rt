@@ -5,8 +5,8 @@ ghost use Rattle.wire.specs.Asks.{IsInRange};
 ghost use Rattle.wire.specs.Sending.{IsSendable};
 
 use crate::ways::{Exchange, Fresh};
-use case_files::{CaseFault, JSON, TEXT, check_bytes, reply_bytes};
 use arrivals::{Kept, body_of, status_of};
+use case_files::{CaseFault, JSON, TEXT, check_bytes, reply_bytes};
 use job_core::{Arrival, Call, JobStore, Refusal, Reply, Request};
 use reply_store::{handle, run};
 use reports::{AccountFault, batch_counts, blank_counts, close_report};

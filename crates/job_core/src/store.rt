@@ -245,14 +245,13 @@ pub trait JobStore {
         body: &[u8],
         change: &Change<'_>,
     ) -> Result<(), StoreFault>
-        ensures all_or_nothing {
-            let entry : Entry = record {
-              client = client.now;
-              number = number;
-              ask = ask.now;
-              status = status;
-              body = body.now;
-            } in
+        ensures all_or_nothing { let entry : Entry = record {
+          client = client.now;
+          number = number;
+          ask = ask.now;
+          status = status;
+          body = body.now;
+        } in
             Commits (state self.old) (state self.new) result (IsOwed change.now entry)
             (λ c. committed c change.now entry) }
         ensures faults { CountsFaults (state self.old) (state self.new) result };
@@ -268,14 +267,13 @@ pub trait JobStore {
         body: &[u8],
         mark: u64,
     ) -> Result<(), StoreFault>
-        ensures all_or_nothing {
-            let entry : Entry = record {
-              client = client.now;
-              number = number;
-              ask = ask.now;
-              status = status;
-              body = body.now;
-            } in
+        ensures all_or_nothing { let entry : Entry = record {
+          client = client.now;
+          number = number;
+          ask = ask.now;
+          status = status;
+          body = body.now;
+        } in
             Commits (state self.old) (state self.new) result (IsOwedRelease mark entry)
             (λ c. released c mark entry) }
         ensures faults { CountsFaults (state self.old) (state self.new) result };

@@ -68,8 +68,7 @@ handles_stays old new a fault stays = record {
 pub told_released : (c : Contents) (a : Arrived) (k : Kept) → AreSound c → is_released c.marks a ≡ true
     → told k ≡ told_of (NumberReleased (mark_of c.marks a.client)) → IsTold c a (Ok k)
 told_released c a k sound gone same =
-    let other : Told = by_option (entry_of c.kept a.client a.number) (told_of (reply_to c.facts c.marks a)) (told_by a.ask) in
-    (
+    let other : Told = by_option (entry_of c.kept a.client a.number) (told_of (reply_to c.facts c.marks a)) (told_by a.ask) in (
       contents_released c a sound.above gone,
       λ first. false≢true (sym first.0 ∙ gone),
       cond-true (is_released c.marks a) (told_of (NumberReleased (mark_of c.marks a.client))) other gone ∙ sym same,
@@ -86,7 +85,7 @@ told_kept c a k kept sound live found same = at (entry_of c.kept a.client a.numb
       contents_old c a e sound.above live some,
       λ (f : IsFirst c a). none-some e (sym f.1 ∙ some),
       cond-false (is_released c.marks a) (told_of (NumberReleased (mark_of c.marks a.client))) (by_option (entry_of c.kept a.client a.number) (told_of (reply_to c.facts c.marks a)) (told_by a.ask)) live
-      ∙ ap (λ o. by_option o (told_of (reply_to c.facts c.marks a)) (told_by a.ask)) some ∙ sym (same e (same_Some kept (reply_of_entry e) is)),
+          ∙ ap (λ o. by_option o (told_of (reply_to c.facts c.marks a)) (told_by a.ask)) some ∙ sym (same e (same_Some kept (reply_of_entry e) is)),
     )
 
 pub no_entry : (o : Option Entry) → None ≡ option_map reply_of_entry o → o ≡ None

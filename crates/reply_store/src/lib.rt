@@ -16,9 +16,9 @@ ghost use Rattle.reply_store.specs.Runs.{AreLeftInTurn, AreNext, Runs, arrived};
 mod deciding;
 mod settling;
 
-pub use arrivals::{Kept, body_of, name_text, status_of};
 use crate::deciding::decide_call;
 use crate::settling::{settle, told_of};
+pub use arrivals::{Kept, body_of, name_text, status_of};
 use job_core::{Arrival, Call, JobStore, KeptReply, Refusal, Reply, StoreFault};
 use std::alloc::{AllocError, Global};
 use store_data::Name;

@@ -33,14 +33,13 @@ pub(crate) fn settle<S: JobStore>(
     reply: &Reply,
     effect: &Effect<'_>,
 ) -> Result<Kept, StoreFault>
-    ensures commits {
-        let entry : Entry = record {
-          client = client.now;
-          number = number;
-          ask = ask.now;
-          status = status_of reply.now;
-          body = body_of reply.now;
-        } in
+    ensures commits { let entry : Entry = record {
+      client = client.now;
+      number = number;
+      ask = ask.now;
+      status = status_of reply.now;
+      body = body_of reply.now;
+    } in
         Commits (S.state store.old) (S.state store.new) (done result) (IsOwedBy effect.now entry)
         (after_effect effect.now entry) }
     ensures value { IfOk result (λ k. told k ≡ told_of reply.now) }
@@ -68,14 +67,13 @@ fn put<S: JobStore>(
     body: &[u8],
     effect: &Effect<'_>,
 ) -> Result<(), StoreFault>
-    ensures commits {
-        let entry : Entry = record {
-          client = client.now;
-          number = number;
-          ask = ask.now;
-          status = status;
-          body = body.now;
-        } in
+    ensures commits { let entry : Entry = record {
+      client = client.now;
+      number = number;
+      ask = ask.now;
+      status = status;
+      body = body.now;
+    } in
         Commits (S.state store.old) (S.state store.new) result (IsOwedBy effect.now entry)
         (after_effect effect.now entry) }
     ensures faults { CountsFaults (S.state store.old) (S.state store.new) result }

@@ -5,8 +5,8 @@ ghost use Rattle.serde_json.specs.View.{view};
 ghost use Rattle.reports.specs.Accounts.{batch_text, blank_text, charged};
 ghost use Rattle.reports.specs.Values.{batch_value, blank_value};
 
-use job_core::{BatchRow, BatchTotals, BlankTotals};
 use arrivals::name_text;
+use job_core::{BatchRow, BatchTotals, BlankTotals};
 use serde_json::{Value, json};
 use std::alloc::{AllocError, Global};
 use store_data::{Bytes, Name};

@@ -3,8 +3,8 @@ ghost use Rattle.std.specs.Prelude.{◌≡◌, ◌++◌, IfOk, OnOk, string_byte
 ghost use Rattle.reports.specs.Report.{head_text, labelled, record_text, text_with, totals_text};
 
 use crate::names::{closed_name, state_name};
-use job_core::{BatchRow, BatchTotals, RecordLine};
 use arrivals::name_text;
+use job_core::{BatchRow, BatchTotals, RecordLine};
 use std::alloc::{AllocError, Global};
 use store_data::Name;
 

@@ -10,10 +10,10 @@ ghost use Rattle.server.specs.Replies.{account_kind, account_of, account_text, t
 ghost use Rattle.server.specs.Replies.{unknown_of};
 ghost use Rattle.server.specs.Answers.{answer_text};
 
+use arrivals::{body_of, status_of};
 use asks::Wanted;
 use heads::Content;
 use job_core::{JobStore, Refusal, Reply, StoreFault};
-use arrivals::{body_of, status_of};
 use reports::{AccountFault, batch_counts, blank_counts, close_report};
 use std::alloc::{AllocError, Global};
 use store_data::{Bytes, Name};

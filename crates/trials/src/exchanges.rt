@@ -5,9 +5,9 @@ ghost use Rattle.wire.specs.Asks.{IsInRange};
 
 use crate::again::{MayWantMemory, at_last};
 use crate::failing_writers::Limited;
+use arrivals::Kept;
 use job_core::{Arrival, BlankTotals, JobStore, StoreFault};
 use list_store::ListStore;
-use arrivals::Kept;
 use reply_store::handle;
 use reports::blank_counts;
 use server::{Served, serve_one};

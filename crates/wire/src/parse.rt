@@ -17,7 +17,6 @@ use batch_import::{Kind as FaultKind, RowFault};
 use heads::{Content, reply_head};
 use hex::FromHexError;
 use job_core::{Made, Refusal, Reply};
-
 use serde_json::Value;
 use std::alloc::{AllocError, Global};
 use store_data::{Bytes, Name};

@@ -180,9 +180,7 @@ fn opening<S: JobStore>(
 {
     let (rec, lot) = opens;
     let command = command(alloc, store, batch, &rec, &Cursor::start())?;
-    Ok(opened(
-        alloc, client, batch, blank, rec, lot, session, command,
-    ))
+    Ok(opened(alloc, client, batch, blank, rec, lot, session, command))
 }
 
 // A record is opened, and its first command handed out.

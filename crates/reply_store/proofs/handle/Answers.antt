@@ -45,9 +45,12 @@ returns-clause-handled g c =
     let then : IsHonest (state c.kept.new.self) = omega (arith, c.decide_call.ensures.stays.doubts, h) in
     let early : IsHonest (state c.mark.new.self) = omega (arith, c.kept.ensures.stays.doubts, then) in
     let mark : c.in_ok-mark.mark ≡ mark_of k.marks c.args.client.now = c.in_ok-mark.ensures.value early k held in
-    let live : is_released k.marks a ≡ false = grind (arith, nat_tests, mark, c.if-number-mark.false) in
-    (g.met.S.JobStore.sound c.args.store.now k held,
-    (live,
-    no_entry (entry_of k.kept c.args.client.now c.args.number) (sym none ∙ c.in_ok-kept.ensures.value then k (c.mark.ensures.stays.contents early k held)),
-    c.in_ok-reply.ensures.value h k (read.contents then k held) mark)))
+    let live : is_released k.marks a ≡ false = grind (arith, nat_tests, mark, c.if-number-mark.false) in (
+      g.met.S.JobStore.sound c.args.store.now k held,
+      (
+        live,
+        no_entry (entry_of k.kept c.args.client.now c.args.number) (sym none ∙ c.in_ok-kept.ensures.value then k (c.mark.ensures.stays.contents early k held)),
+        c.in_ok-reply.ensures.value h k (read.contents then k held) mark,
+      ),
+    ))
     c.settle.result c.settle.ensures.value c.settle.ensures.commits
