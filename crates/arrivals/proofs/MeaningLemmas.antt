@@ -1,24 +1,20 @@
 -- One arrival: its number is released, or kept, or new.
-use Rattle.std.proofs.Common.{◌≡◌, ◌≤◌, ◌<◌, ◌^◌, ◌+◌, ◌==◌, ◌&&◌, ◌||◌, ℕ, max, Bool, true, false, not, cond, List, [], ◌∷◌, ◌++◌, map, All, Option, Some, None, refl, sym, ap, ◌∙◌, subst, inl, inr, eq-eqb, append-nil, arith}
-use Rattle.std.specs.Prelude.{bytes_eq, find, filter, is_some, nat_le, nat_lt, option_map, unwrap_or, if◌then◌else◌}
+use Rattle.std.proofs.Common.{◌≡◌, ◌≤◌, ◌<◌, ◌==◌, ◌&&◌, ◌||◌, ℕ, Bool, true, false, not, cond, List, [], ◌∷◌, ◌++◌, map, All, Option, Some, None, refl, sym, ap, ◌∙◌, subst, inl, inr, append-nil, arith}
+use Rattle.std.specs.Prelude.{bytes_eq, find, filter, is_some, nat_le, option_map, unwrap_or}
 use Rattle.std.specs.Option.{option_or}
-use Rattle.std.proofs.lemmas.Bool.{and_parts, cases_Bool, cond_both, cond-true, cond-false, eqb-true, false≢true, leb-true, leb-false, ltb-false, true≢false}
-use borrow.Author.Tests.{ltb-true}
-use Rattle.std.proofs.lemmas.Bool.Decides.{nat_tests}
-use Rattle.std.proofs.lemmas.List.Elements.{All-cons, All-filter, All-head, All-nil, All-push, All-tail, All-weaker}
+use Rattle.std.proofs.lemmas.Bool.{and_parts, cases_Bool, cond_both, cond-true, cond-false, eqb-true, false≢true}
+use Rattle.std.proofs.lemmas.List.Elements.{All-cons, All-filter, All-head, All-nil, All-push, All-tail}
 use Rattle.std.proofs.lemmas.List.Folds.{find-append}
 use Rattle.std.proofs.lemmas.Option.{none-some, same_Some}
 use Rattle.std.proofs.lemmas.Slice.Eq.{bytes_eq-Decides}
 use Rattle.job_core.specs.declared.request.Call.{Call}
 use Rattle.job_core.specs.declared.request.Call.TheVariants.{Job, Release}
-use Rattle.job_core.specs.declared.reply.Reply.{Reply}
 use Rattle.job_core.specs.declared.reply.Reply.TheVariants.{NumberReleased}
-use Rattle.job_core.specs.Facts.{Facts}
 use Rattle.job_core.specs.Steps.{by_option}
 use Rattle.job_core.specs.Contents.{Contents, Entry, Mark, above, entry_of, has_mark, is_above, mark_of, with_mark}
 use Rattle.arrivals.specs.Laws.{AreAbove}
 use Rattle.arrivals.specs.Told.{Told, told_of}
-use Rattle.arrivals.specs.Meaning.{Arrived, contents_after, contents_with, entry_with, facts_with, is_among, is_released, mark_by, marks_by, marks_with, number_of, reply_to, told_by, told_on}
+use Rattle.arrivals.specs.Meaning.{Arrived, contents_after, contents_with, entry_with, is_among, is_released, mark_by, marks_by, marks_with, number_of, reply_to, told_by, told_on}
 
 pub filter_all : {X : Type 0} (p : X → Bool) (xs : List X) → All (λ x. p x ≡ true) xs → filter p xs ≡ xs
 filter_all p [] all = refl

@@ -1,22 +1,16 @@
 -- Arrivals after arrivals, and repeats.
-use Rattle.std.proofs.Common.{◌≡◌, ◌≤◌, ◌<◌, ◌+◌, ◌==◌, ◌&&◌, ◌||◌, ℕ, Bool, true, false, not, cond, List, [], ◌∷◌, ◌++◌, map, All, Option, Some, None, refl, sym, ap, ◌∙◌, subst, inl, inr, eq-eqb, append_assoc, append-nil, arith}
-use Rattle.std.specs.Prelude.{bytes_eq, find, filter, is_some, nat_le, nat_lt, option_map, if◌then◌else◌}
-use Rattle.std.specs.List.{list_any}
-use Rattle.std.proofs.lemmas.Bool.{and_parts, cases_Bool, cond-true, cond-false, eqb-true, false≢true, leb-true, leb-false, ltb-false, or_parts}
+use Rattle.std.proofs.Common.{◌≡◌, ◌≤◌, ◌==◌, ◌&&◌, ◌||◌, ℕ, Bool, false, cond, List, [], ◌∷◌, ◌++◌, map, Option, Some, None, refl, sym, ap, ◌∙◌, inl, inr, append_assoc, arith}
+use Rattle.std.specs.Prelude.{bytes_eq, is_some, nat_le, nat_lt}
+use Rattle.std.proofs.lemmas.Bool.{and_parts, cases_Bool, eqb-true, leb-false, ltb-false}
 use Rattle.std.proofs.lemmas.Bool.Decides.{nat_tests}
-use borrow.Author.Tests.{ltb-true}
 use Rattle.std.proofs.lemmas.List.{map-append}
-use Rattle.std.proofs.lemmas.List.Elements.{All-nil, All-push, All-weaker, filter-append}
-use Rattle.std.proofs.lemmas.Option.{none-some, same_Some}
+use Rattle.std.proofs.lemmas.List.Elements.{filter-append}
 use Rattle.std.proofs.lemmas.Slice.Eq.{bytes_eq-Decides}
-use Rattle.job_core.specs.declared.reply.Reply.TheVariants.{NumberReleased}
 use Rattle.job_core.specs.Facts.{Facts}
-use Rattle.job_core.specs.Steps.{by_option}
-use Rattle.job_core.specs.Contents.{Contents, Entry, Mark, above, entry_of, is_above, mark_of, no_contents}
+use Rattle.job_core.specs.Contents.{Contents, Entry, Mark, above, entry_of, is_above, mark_of}
 use Rattle.arrivals.specs.Laws.{AreAbove}
-use Rattle.arrivals.specs.Told.{Told, reused, told_of}
-use Rattle.arrivals.specs.Meaning.{Arrived, Number, contents_after, contents_with, entries_of, entry_with, facts_after, facts_with, firsts, is_among, is_released, marks_after, marks_with, number_of, reply_to, told_by, told_on}
-use Rattle.arrivals.proofs.MeaningLemmas.{above_after, among_kept, contents_new, contents_old, contents_released, decided_by, marks_grow, same_contents, with_above}
+use Rattle.arrivals.specs.Meaning.{Arrived, Number, contents_after, contents_with, entries_of, entry_with, facts_after, facts_with, firsts, is_among, is_released, marks_after, marks_with, number_of, reply_to}
+use Rattle.arrivals.proofs.MeaningLemmas.{above_after, among_kept, contents_new, contents_old, contents_released, marks_grow, same_contents}
 
 abbrev key : Arrived → Number
 key a = (a.client, a.number)

@@ -1,17 +1,17 @@
 -- What an arrival was told it is told again, until its number is released.
-use Rattle.std.proofs.Common.{◌≡◌, ◌≤◌, ◌<◌, ◌==◌, ◌&&◌, Bool, true, false, cond, List, [], ◌∷◌, ◌++◌, Option, Some, None, refl, sym, ap, ◌∙◌, subst, inl, inr, eq-eqb, arith}
-use Rattle.std.specs.Prelude.{bytes_eq, find, filter, nat_le, nat_lt}
+use Rattle.std.proofs.Common.{◌≡◌, ◌==◌, ◌&&◌, Bool, true, false, cond, List, [], ◌∷◌, ◌++◌, Some, None, refl, sym, ap, ◌∙◌, subst, inl, inr, eq-eqb, arith}
+use Rattle.std.specs.Prelude.{bytes_eq}
 use Rattle.std.proofs.lemmas.Bool.{and_parts, cases_Bool, cond-true, cond-false, eqb-true, false≢true}
 use Rattle.std.proofs.lemmas.Bool.Decides.{nat_tests}
-use Rattle.std.proofs.lemmas.Option.{none-some, same_Some}
+use Rattle.std.proofs.lemmas.Option.{none-some}
 use Rattle.std.proofs.lemmas.Slice.Eq.{bytes_eq-Decides}
 use Rattle.job_core.specs.declared.reply.Reply.TheVariants.{NumberReleased}
 use Rattle.job_core.specs.Steps.{by_option}
 use Rattle.job_core.specs.Contents.{Contents, Entry, Mark, above, entry_of, is_above, mark_of}
 use Rattle.arrivals.specs.Laws.{AreAbove, RepeatsAreTold}
 use Rattle.arrivals.specs.Told.{Told, reused, told_of}
-use Rattle.arrivals.specs.Meaning.{Arrived, contents_after, contents_with, entry_with, is_released, marks_with, reply_to, told_by, told_on}
-use Rattle.arrivals.proofs.MeaningLemmas.{above_after, decided_by, entry_is, marks_grow, same_contents}
+use Rattle.arrivals.specs.Meaning.{Arrived, contents_after, entry_with, is_released, marks_with, reply_to, told_by, told_on}
+use Rattle.arrivals.proofs.MeaningLemmas.{above_after, decided_by, marks_grow, same_contents}
 use Rattle.arrivals.proofs.MeaningLists.{one_then, released_before}
 
 -- the arrival's number is released, or its entry tells it this

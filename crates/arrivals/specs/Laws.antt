@@ -1,5 +1,5 @@
 -- Laws of what arrivals mean.
-use Rattle.std.specs.Prelude.{◌≡◌, false, List, [], ◌∷◌, ◌++◌, All, true}
+use Rattle.std.specs.Prelude.{◌≡◌, false, List, ◌∷◌, ◌++◌, All, true}
 use Rattle.job_core.specs.Contents.{Contents, Entry, is_above}
 use Rattle.arrivals.specs.Meaning.{Arrived, contents_after, is_released, told_on}
 

@@ -1,5 +1,5 @@
 -- Bytes that are heard as one thing mean one thing.
-use Rattle.std.proofs.Common.{◌≡◌, ℕ, Bool, true, false, List, length, take, drop, Option, Some, None, Result, Ok, Err, refl, sym, ap, ◌∙◌, subst}
+use Rattle.std.proofs.Common.{◌≡◌, ℕ, Bool, true, false, List, length, take, drop, Option, Some, None, Result, Ok, Err, refl, ap, ◌∙◌, subst}
 use Rattle.std.specs.Prelude.{nat_lt, if◌then◌else◌, ⊤}
 use Rattle.heads.specs.declared.fixed.FixedReply.{FixedReply}
 use Rattle.heads.specs.declared.fixed.FixedReply.TheVariants.{HeadTooLarge}
@@ -8,7 +8,7 @@ use Rattle.heads.specs.Messages.{Brings, Broken, HasHead, Heard, IsHeard, IsHear
 use Rattle.asks.specs.declared.meaning.Meaning.{Meaning}
 use Rattle.asks.specs.declared.meaning.Meaning.TheVariants as meaning
 use Rattle.asks.specs.Asks.{asked_of}
-use Rattle.asks.specs.Meant.{IsMeant, IsMeantBy, Meant, Means, meant_by, meant_of}
+use Rattle.asks.specs.Meant.{IsMeant, IsMeantBy, Means, meant_by, meant_of}
 
 pub meant_as : (bytes : List ℕ) (h : Heard) → IsHeardAs bytes h → Means bytes (meant_of h)
 meant_as bytes h known = record { is = (h, known.is, refl); alone = λ other is. is.2 ∙ ap meant_of (known.alone is.0 is.1) }

@@ -1,6 +1,6 @@
 -- What a message that is posted means.
 use Rattle.std.proofs.Common.{◌≡◌, ◌<◌, ◌≤◌, ◌^◌, ◌==◌, ℕ, Bool, true, false, cond, List, [], ◌∷◌, ◌++◌, length, Some, None, refl, sym, ap, subst, ◌∙◌, codes, decimal, arith, append_assoc, append-nil, length-append}
-use Rattle.std.specs.Prelude.{◌&&◌, not, nat_lt, nat_le, slice_index, IfOk, IsTrue, OnOk, Option, Result, Ok, Err}
+use Rattle.std.specs.Prelude.{◌&&◌, not, nat_lt, nat_le, slice_index, IfOk, IsTrue, OnOk, Result, Ok, Err}
 use Rattle.std.specs.List.{list_all}
 use Rattle.std.specs.Char.{digit_value, is_ascii, is_ascii_digit}
 use Rattle.std.specs.Str.Parse.{AllDigits, digits_value}
@@ -10,13 +10,12 @@ use Rattle.std.proofs.lemmas.Fmt.{decimal_is_IsNumeral, decimal_nonempty, first_
 use Rattle.std.proofs.lemmas.List.Folds.{list_all-append}
 use Rattle.matchit.specs.Seek.{has_slash}
 use Rattle.store_data.specs.Name.{is_name, is_name_char}
-use Rattle.job_core.specs.declared.request.Call.{Call}
 use Rattle.job_core.specs.declared.request.Call.TheVariants as call
 use Rattle.job_core.specs.declared.request.Request.TheVariants as request
 use Rattle.text_io.specs.Inputs.{most_input}
 use Rattle.heads.specs.Messages.{Brings, IsHeardAs, MessageParts}
 use Rattle.heads.specs.RequestHeads.{IsHeardBefore, IsTarget, is_visible, posted, request_head}
-use Rattle.asks.specs.Asks.{arrival_of, ask_with, asked_at, asked_of, import_of, import_tail, is_number, name_in, number_in, or_malformed}
+use Rattle.asks.specs.Asks.{arrival_of, ask_with, asked_at, import_of, import_tail, is_number, name_in, number_in, or_malformed}
 use Rattle.asks.specs.Meant.{Means, meant_by}
 use Rattle.asks.specs.Posts.{post_with, posted_with, target_with}
 use Rattle.asks.specs.Requests.{call_in}

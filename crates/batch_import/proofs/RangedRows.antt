@@ -1,5 +1,5 @@
 -- The rows of a batch file without a fault are in their ranges, and so is the row of a fault.
-use Rattle.std.proofs.Common.{◌≡◌, ◌≤◌, ◌<◌, ◌+◌, ◌&&◌, ℕ, Bool, true, false, cond, List, [], ◌∷◌, ◌++◌, length, length-append, All, Option, Some, None, Result, Ok, Err, refl, sym, ap, ◌∙◌, subst, inl, inr, arith}
+use Rattle.std.proofs.Common.{◌≡◌, ◌≤◌, ◌<◌, ◌+◌, ◌&&◌, ℕ, Bool, true, false, List, [], ◌∷◌, ◌++◌, length, length-append, All, Option, Some, None, Result, Ok, Err, refl, sym, ap, ◌∙◌, subst, inl, inr, arith}
 use Rattle.std.specs.Prelude.{nat_le, is_some, IsTrue}
 use Rattle.std.specs.List.{cons_option, enumerate_from, filter_map, find, list_all, position_or_len}
 use Rattle.std.specs.Char.{is_ascii_digit}
@@ -21,7 +21,7 @@ use Rattle.batch_import.specs.declared.fault.Kind.{Kind}
 use Rattle.batch_import.specs.declared.fault.Kind.TheVariants as kind
 use Rattle.batch_import.specs.declared.fault.RowFault.{RowFault}
 use Rattle.batch_import.specs.Batch.{batch_of, coming_of, coming_of_records, coming_of_rows, first_number, first_record_fault, group_fault, ok_unless, planned_rows, records_of_rows, unless_faulty}
-use Rattle.batch_import.specs.Fields.{Marks, aid_of_bytes, aid_of_text, coded_of, decimal, field, grouping_of_text, name_of_text, rank_of_text, row_of_values, row_with, values_of}
+use Rattle.batch_import.specs.Fields.{Marks, aid_of_bytes, aid_of_text, coded_of, decimal, field, name_of_text, rank_of_text, row_of_values, row_with, values_of}
 use Rattle.batch_import.specs.Outlines.{AreBatchRows}
 use Rattle.batch_import.specs.RowFaults.{PlacedRow, first_fault, header_fault, or_else, placed, row_fault, row_has, told_at}
 use Rattle.batch_import.specs.Kinds.{row_kinds}

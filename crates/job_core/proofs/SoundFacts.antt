@@ -1,13 +1,13 @@
 -- The facts stay sound where a fact is added that is no session's.
-use Rattle.std.proofs.Common.{◌≡◌, ◌≢◌, ℕ, ◌+◌, ◌^◌, ◌<◌, ◌≤◌, ltb, eqb, Bool, true, false, cond, ◌||◌, ◌&&◌, List, [], ◌∷◌, ◌++◌, length, map, All, Option, Some, None, Ok, ◌⊎◌, refl, sym, ap, ◌∙◌, subst, arith, inl, inr, append_assoc}
+use Rattle.std.proofs.Common.{◌≡◌, ◌≢◌, ℕ, ◌+◌, ◌^◌, ◌<◌, ◌≤◌, ltb, eqb, Bool, true, false, cond, ◌||◌, ◌&&◌, List, [], ◌∷◌, ◌++◌, length, map, All, Option, Some, None, Ok, refl, sym, ap, ◌∙◌, subst, arith, inl, inr, append_assoc}
 use Rattle.std.specs.Prelude.{AllPairs, IsSome, IsTrue, bytes_eq, count_by, filter, is_some, option_and_then, option_map}
 use Rattle.std.specs.List.{list_all, list_any}
 use Rattle.std.proofs.Math.Bool.{or-false}
-use Rattle.std.proofs.lemmas.Bool.{and_cases, and_left, both_ways, cases_Bool, false≢true, ltb-false, ltb-true, or_from, or_parts, and_parts, eqb-false}
+use Rattle.std.proofs.lemmas.Bool.{and_cases, and_left, both_ways, cases_Bool, false≢true, ltb-false, ltb-true, or_parts, and_parts, eqb-false}
 use Rattle.std.proofs.lemmas.List.{length_push}
 use Rattle.std.proofs.lemmas.List.Quantifiers.{all_pairs_push}
 use Rattle.std.proofs.lemmas.List.Elements.{All-nil, All-filter, All-weaker, All-same, All-push, All-append, All-map}
-use Rattle.std.proofs.lemmas.List.Folds.{list_any_none, list_any-append}
+use Rattle.std.proofs.lemmas.List.Folds.{list_any-append}
 use Rattle.std.proofs.lemmas.List.Sums.{sum_by_push}
 use Rattle.std.proofs.lemmas.Option.{cond_some}
 use Rattle.store_data.proofs.GroupLemmas.{same-bytes_eq}
@@ -21,8 +21,8 @@ use Rattle.job_core.specs.declared.facts.Lot.{Lot}
 use Rattle.job_core.specs.declared.facts.SessionState.{SessionState}
 use Rattle.job_core.specs.declared.facts.RecordState.TheVariants.{Failed, Waiting}
 use Rattle.job_core.specs.Facts.{Batch, Facts, RecordName, Session, no_facts, with_batch, with_close, with_discard, with_lot, with_product, with_remake, with_withdrawal}
-use Rattle.job_core.specs.States.{any_overlaps, batch_named, commands_for, commands_under, is_batch_finished, is_charged, is_closed, is_finished, is_good, is_in, is_record, is_running, is_spoiled, is_withdrawn, lot_named, lot_of, overlaps, plan_for, product_named, record_state, record_state_of, records_named, records_of, records_under, remakes_of, rows_of, rows_of_record, rows_under, session_state, state_by, state_with, states_of}
-use Rattle.job_core.specs.Sound.{AreApart, AreBatches, AreLots, AreNamed, AreProducts, AreSessions, AreTold, AreWords, IsBatch, IsLot, IsName, IsRecord, IsSession, IsSound, IsSoundRecord, charges, has_card, runs_on}
+use Rattle.job_core.specs.States.{any_overlaps, batch_named, commands_for, commands_under, is_batch_finished, is_charged, is_closed, is_finished, is_in, is_record, is_running, is_spoiled, is_withdrawn, lot_named, lot_of, overlaps, plan_for, product_named, record_state, record_state_of, records_named, records_of, records_under, remakes_of, rows_of, rows_of_record, rows_under, session_state, state_by, state_with, states_of}
+use Rattle.job_core.specs.Sound.{AreApart, AreBatches, AreLots, AreProducts, AreSessions, AreTold, AreWords, IsBatch, IsLot, IsName, IsRecord, IsSession, IsSound, IsSoundRecord, charges, has_card, runs_on}
 use Rattle.job_core.proofs.Lists.{count_by_same, find-All, find_kept, list_all_same, list_any-false, map_same, named_once_push}
 use Rattle.job_core.proofs.RecordLemmas.{open_parts}
 

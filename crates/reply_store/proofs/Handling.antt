@@ -1,8 +1,7 @@
 -- The exits of the handling of an arrival.
-use Rattle.std.proofs.Common.{◌≡◌, ◌≤◌, ◌⊎◌, [], ◌∷◌, Bool, true, false, Option, Some, None, Result, Ok, Err, IfOk, OnOk, OnErr, refl, sym, ap, ◌∙◌, subst, inl, inr, ⊎_elim, arith}
-use Rattle.std.specs.Prelude.{option_map, if◌then◌else◌}
+use Rattle.std.proofs.Common.{◌≡◌, ◌⊎◌, [], ◌∷◌, true, false, Option, Some, None, Result, Ok, Err, IfOk, OnOk, OnErr, refl, sym, ap, ◌∙◌, subst, inl, inr, ⊎_elim, arith}
+use Rattle.std.specs.Prelude.{option_map}
 use Rattle.std.proofs.lemmas.Bool.{cond-true, cond-false, false≢true}
-use Rattle.std.proofs.lemmas.Result.{IfOk-weaker}
 use Rattle.std.proofs.lemmas.Option.{none-some, same_Some}
 use Rattle.job_core.specs.declared.reply.Reply.{Reply}
 use Rattle.job_core.specs.declared.reply.Reply.TheVariants.{NumberReleased}
@@ -16,7 +15,7 @@ use Rattle.arrivals.specs.Told.{Told, told, told_of}
 use Rattle.arrivals.specs.Meaning.{Arrived, contents_after, entry_with, is_released, reply_to, told_by, told_on}
 use Rattle.arrivals.proofs.MeaningLemmas.{contents_old, contents_released}
 use Rattle.reply_store.specs.declared.deciding.Effect.{Effect}
-use Rattle.reply_store.specs.Effects.{Decided, IsOwedBy, after_effect, done}
+use Rattle.reply_store.specs.Effects.{IsOwedBy, after_effect, done}
 use Rattle.reply_store.specs.Handled.{Handles, IsFirst}
 use Rattle.reply_store.proofs.Decisions.{IsDecided, IsNumbered, decided_reply, is_owed, leaves_contents}
 

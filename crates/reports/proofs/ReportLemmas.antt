@@ -1,18 +1,11 @@
 -- The lines of a report.
-use Rattle.std.proofs.Common.{◌≡◌, ℕ, ◌+◌, ◌<◌, ◌^◌, List, [], ◌∷◌, ◌++◌, length, map, take, Option, Some, None, refl, sym, ap, subst, ◌∙◌, inl, inr, arith}
-use Rattle.std.specs.Prelude.{option_map, slice_get}
-use Rattle.std.specs.List.{enumerate_from}
-use Rattle.std.proofs.lemmas.List.{length-map, map-append, take_all, take_more}
-use Rattle.std.proofs.lemmas.Option.{get_or_from_slice_get, none-some, same_Some, slice_get_cases, slice_get_within}
-use Rattle.store_data.specs.declared.row.Row.{Row}
-use Rattle.store_data.specs.Groups.{first_appearances, grouped, with_the_key}
+use Rattle.std.proofs.Common.{◌≡◌, ℕ, ◌<◌, ◌^◌, List, Some, sym, ap, subst, ◌∙◌}
 use Rattle.job_core.specs.declared.rows.BatchRow.{BatchRow}
 use Rattle.job_core.specs.declared.rows.BatchTotals.{BatchTotals}
 use Rattle.job_core.specs.declared.rows.RecordLine.{RecordLine}
 use Rattle.job_core.specs.Accounts.{batch_totals, record_lines}
-use Rattle.job_core.specs.Facts.{Batch, Facts}
-use Rattle.job_core.specs.Rows.{batch_row, batch_row_of}
-use Rattle.job_core.specs.States.{batch_named, records_named, records_of, records_under, rows_of}
+use Rattle.job_core.specs.Facts.{Facts}
+use Rattle.job_core.specs.Rows.{batch_row_of}
 use Rattle.store_data.specs.declared.row.Product.{Product}
 use Rattle.job_core.specs.declared.rows.BlankTotals.{BlankTotals}
 use Rattle.job_core.specs.Accounts.{blank_totals}

@@ -1,5 +1,5 @@
 -- What connections are answered (this project's profile).
-use Rattle.std.specs.Prelude.{◌≡◌, ℕ, true, false, List, [], ◌∷◌, ◌++◌, Option, Some, None}
+use Rattle.std.specs.Prelude.{◌≡◌, ℕ, true, false, List, [], ◌++◌, Option, Some, None}
 use Rattle.job_core.specs.declared.refusal.Refusal.{Refusal as Rule}
 use Rattle.job_core.specs.declared.refusal.Refusal.TheVariants as rule
 use Rattle.job_core.specs.declared.reply.Reply.TheVariants as reply

@@ -1,18 +1,18 @@
 -- The commands of rows of bytes are of bytes.
-use Rattle.std.proofs.Common.{◌≡◌, ◌≤◌, ◌<◌, ◌+◌, ◌*◌, ◌/◌, ◌%◌, ◌-◌, ℕ, zero, suc, Bool, true, false, cond, List, [], ◌∷◌, ◌++◌, length, length-append, map, take, drop, get_or, All, Option, Some, refl, sym, ap, ◌∙◌, subst, arith}
-use Rattle.std.specs.Prelude.{◌==◌, ◌&&◌, nat_le, filter, slice_index, if◌then◌else◌}
+use Rattle.std.proofs.Common.{◌≡◌, ◌≤◌, ◌<◌, ◌+◌, ◌*◌, ◌/◌, ◌%◌, ℕ, zero, suc, Bool, cond, List, [], ◌∷◌, ◌++◌, length, map, drop, get_or, All, refl, sym, subst, arith}
+use Rattle.std.specs.Prelude.{◌==◌, ◌&&◌, nat_le}
 use Rattle.std.specs.Int.{w16, to_be_bytes}
 use Rattle.std.specs.List.{flat_map, range_with_len, enumerate_from}
 use Rattle.std.proofs.lemmas.Bool.{cond_both, leb-true}
 use Rattle.std.proofs.lemmas.List.Elements.{All-append, All-cons, All-drop, All-filter, All-head, All-map, All-nil, All-tail, All-take, All-weaker}
 use Rattle.std.proofs.lemmas.List.{length-take}
-use Rattle.dgi.specs.Coding.{Content, Fits, IsSent, coded, short_length, max_body}
+use Rattle.dgi.specs.Coding.{IsSent, coded, short_length}
 use Rattle.store_data.specs.declared.row.Enc.{Enc}
 use Rattle.store_data.specs.declared.row.Enc.TheVariants.{Plain}
 use Rattle.store_data.specs.declared.row.Product.{Product}
 use Rattle.store_data.specs.declared.row.Row.{Row}
 use Rattle.store_data.specs.Groups.{grouped}
-use Rattle.store_data.specs.Sequence.{Application, Command, IsApplication, IsPlan, Piece, Plan, Segment, aid_of, application_commands, application_of, applications_of, commands_of, enc_bits, piece_count, piece_of, pieces_of, plan_of, rows_of_rank, segment_of, segments_of, select_command, store_data_command, store_data_commands}
+use Rattle.store_data.specs.Sequence.{Application, Command, IsApplication, IsPlan, Piece, Segment, aid_of, application_commands, application_of, applications_of, commands_of, enc_bits, piece_count, piece_of, pieces_of, plan_of, rows_of_rank, segment_of, segments_of, select_command, store_data_command, store_data_commands}
 use Rattle.store_data.specs.Ranks.{ranks}
 use Rattle.store_data.proofs.IsPlanLemmas.{All-grouped}
 use Rattle.store_data.proofs.RankLemmas.{All-flat_map}

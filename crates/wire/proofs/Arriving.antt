@@ -10,7 +10,7 @@ use Rattle.asks.specs.Asks.{ask_with, import_tail}
 use Rattle.asks.specs.Meant.{Asks, Means}
 use Rattle.asks.specs.Posts.{post_with, posted_with}
 use Rattle.asks.specs.Requests.{call_in}
-use Rattle.wire.specs.Sending.{AreNames, Arrives, IsMessageOf, IsNoImport, IsSendable, body_of, tail_of}
+use Rattle.wire.specs.Sending.{AreNames, Arrives, IsMessageOf, IsNoImport, IsSendable, body_of}
 use Rattle.wire.proofs.SendLemmas.{file_is_sent, json_is_sent, no_tail}
 use Rattle.wire.proofs.SentRequests.{call_is_read}
 

@@ -1,7 +1,6 @@
 -- The body of a request that is sent is read as that request.
-use Rattle.std.proofs.Common.{◌≡◌, ◌<◌, ◌≤◌, ◌+◌, ◌-◌, ◌*◌, ◌^◌, ◌/◌, ◌%◌, ◌==◌, ℕ, zero, suc, Bool, true, false, cond, List, [], ◌∷◌, length, Some, None, inl, inr, refl, sym, ap, ◌∙◌, decimal, arith, length-append}
+use Rattle.std.proofs.Common.{◌≡◌, ◌<◌, ◌≤◌, ◌+◌, ◌-◌, ◌*◌, ◌^◌, ◌/◌, ◌%◌, ◌==◌, ℕ, zero, suc, Bool, true, false, cond, List, length, Some, None, inl, inr, refl, sym, ap, ◌∙◌, decimal, arith, length-append}
 use Rattle.std.specs.Prelude.{◌&&◌, nat_le, slice_index, option_map, option_and_then, IsUtf8, IsTrue}
-use Rattle.std.specs.List.{list_all}
 use Rattle.std.specs.Char.{digit_value, is_ascii_hexdigit}
 use Rattle.std.specs.Str.Parse.{digits_value}
 use Rattle.std.proofs.lemmas.Bool.{and_parts, cases_lt}
@@ -12,7 +11,7 @@ use Rattle.json.proofs.Printed.Decimals.{IsNumber-decimal}
 use Rattle.serde_json.specs.Read.{read}
 use Rattle.serde_json.specs.Written.{compact_text}
 use Rattle.serde_json.proofs.Numbers.{number_of-decimal}
-use Rattle.store_data.specs.Name.{is_name, is_name_char}
+use Rattle.store_data.specs.Name.{is_name}
 use Rattle.job_core.specs.declared.request.Call.{Call}
 use Rattle.job_core.specs.declared.request.Call.TheVariants.{Job, Release}
 use Rattle.job_core.specs.declared.request.Request.TheVariants as request
@@ -22,7 +21,7 @@ use Rattle.asks.specs.Members.{passing, name_at, text_at}
 use Rattle.asks.specs.Requests.{abort_in, answer_in, call_by_word, call_in, call_of_value, close_in, discard_in, flag_at, is_lot, is_within, is_word, lot_in, number_within, open_in, product_in, release_in, remake_in, request_by_word, withdraw_in, word_in, with_two, with_three, with_four}
 use Rattle.wire.specs.Sending.{AreNames, IsNoImport, IsSendable, body_of, value_of, word_text}
 use Rattle.wire.proofs.ParseLemmas.{read_whole, value_in-read}
-use Rattle.wire.proofs.SendLemmas.{text_is_body, word_is_plain}
+use Rattle.wire.proofs.SendLemmas.{text_is_body}
 
 -- ---- words
 

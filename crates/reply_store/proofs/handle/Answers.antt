@@ -1,10 +1,9 @@
-use Rattle.std.proofs.Common.{rules, ◌≡◌, ◌∙◌, Ok, None, true, false, refl, sym, ap, subst, arith}
-use Rattle.std.specs.Prelude.{nat_le}
+use Rattle.std.proofs.Common.{rules, ◌≡◌, ◌∙◌, Ok, None, true, false, sym, ap, arith}
 use Rattle.std.proofs.lemmas.Bool.Decides.{nat_tests}
-use Rattle.job_core.specs.Contents.{Contents, entry_of, mark_of}
+use Rattle.job_core.specs.Contents.{entry_of, mark_of}
 use Rattle.job_core.specs.Store.{IsHonest}
 use Rattle.job_core.specs.declared.reply.Reply.TheVariants.{NumberReleased}
-use Rattle.arrivals.specs.Meaning.{Arrived, entry_with, is_released, told_again}
+use Rattle.arrivals.specs.Meaning.{Arrived, is_released, told_again}
 use Rattle.arrivals.specs.Told.{told_of}
 use Rattle.reply_store.proofs.Handling.{Stays-then, handles_decided, handles_told, no_entry, told_kept, told_released}
 use Rattle.reply_store.proofs.handle.Goals as goal

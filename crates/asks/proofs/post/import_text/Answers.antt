@@ -5,7 +5,7 @@ use Rattle.asks.specs.Asks.{import_tail}
 use Rattle.heads.specs.Messages.{Brings, IsHeardAs}
 use Rattle.heads.specs.RequestHeads.{posted}
 use Rattle.asks.specs.Posts.{target_with}
-use Rattle.asks.proofs.PostLemmas.{import_means, on_made, tail_is_short, tail_is_visible}
+use Rattle.asks.proofs.PostLemmas.{import_means, on_made, tail_is_visible}
 use Rattle.asks.proofs.post.import_text.Goals as goal
 
 pub text_with-requires-clause-seen : goal.text_with-requires-clause-seen

@@ -1,4 +1,4 @@
-use Rattle.std.proofs.Common.{◌+◌, ◌<◌, ◌≤◌, length, refl, arith}
+use Rattle.std.proofs.Common.{◌+◌, ◌≤◌, length, refl, arith}
 use Rattle.text_io.proofs.Limits.{tells_whole}
 use Rattle.text_io.proofs.reading.read_within.Goals as goal
 

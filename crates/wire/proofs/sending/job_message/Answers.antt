@@ -1,5 +1,4 @@
-use Rattle.std.proofs.Common.{◌≡◌, ◌≤◌, List, ℕ, length, refl, subst, sym}
-use Rattle.job_core.specs.declared.request.Call.{Call}
+use Rattle.std.proofs.Common.{◌≡◌, ◌≤◌, List, ℕ, length, subst, sym}
 use Rattle.job_core.specs.declared.request.Call.TheVariants.{Job}
 use Rattle.job_core.specs.declared.request.Request.{Request}
 use Rattle.text_io.specs.Inputs.{most_input}
