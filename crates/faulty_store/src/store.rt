@@ -17,7 +17,7 @@ pub struct FaultyStore {
 }
 
 impl FaultyStore {
-    ghost use Rattle.std.specs.Prelude.{◌≡◌, false, None, OnOk};
+    ghost use Rattle.std.specs.Prelude.{◌≡◌, false, OnOk};
     ghost use Rattle.job_core.specs.Contents.{AreSound, Contents, no_contents};
     ghost use Rattle.job_core.specs.Store.{CountsFaults, IsHonest, Stays};
     ghost use Rattle.list_store.specs.Lists.{contents};
@@ -47,15 +47,15 @@ impl FaultyStore {
         }
     }
 
-    /// The store that is opened on what a crash at this moment leaves. Its device keeps its counts,
-    /// and nothing is planned for it.
-    pub fn reopen(self) -> FaultyStore
+    /// The store that is opened on what a crash at this moment leaves, and what is planned next for
+    /// its device, which keeps its counts.
+    pub fn reopen(self, plan: Option<Plan>) -> FaultyStore
         ensures holds { (c : Contents) → AreSound c → (state self).may_leave c
             → (state result).holds c }
-        ensures device { result.device ≡ record self.device { plan = None; is_shut = false } }
+        ensures device { result.device ≡ record self.device { plan = plan; is_shut = false } }
     {
         let device = Device {
-            plan: None,
+            plan,
             is_shut: false,
             ..self.device
         };
