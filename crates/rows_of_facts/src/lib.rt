@@ -1,0 +1,2 @@
+//! The image of contents in the rows of tables.
+#![tactic(auto)]
