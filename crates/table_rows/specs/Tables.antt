@@ -1,5 +1,5 @@
 -- The rows of the store's tables as plain lists, one for each table. Rows of a table stand in any order.
-use Rattle.std.specs.Prelude.{ℕ, Bool, List, [], IsPermutation}
+use Rattle.std.specs.Prelude.{ℕ, Bool, List, [], ◌∷◌, IsPermutation}
 use Rattle.store_data.specs.declared.cursor.Cursor.{Cursor}
 use Rattle.store_data.specs.declared.row.Enc.{Enc}
 use Rattle.store_data.specs.declared.row.Product.{Product}
@@ -120,3 +120,14 @@ pub record HaveSameRows (t u : Tables) : Type 0 where
   pub remakes : IsPermutation t.remakes u.remakes
   pub replies : IsPermutation t.replies u.replies
   pub marks : IsPermutation t.marks u.marks
+
+-- ---- one more row
+
+abbrev pub with_product : Product → Tables → Tables
+with_product p t = record t { products = p ∷ t.products }
+
+abbrev pub with_reply : Entry → Tables → Tables
+with_reply e t = record t { replies = e ∷ t.replies }
+
+abbrev pub with_word : StoredWord → Tables → Tables
+with_word w t = record t { words = w ∷ t.words }
