@@ -27,7 +27,7 @@ use Rattle.job_core.specs.States.{command_bytes, commands_for, first_waiting, go
 use Rattle.job_core.specs.Steps.{opened, step, take_word}
 use Rattle.job_core.proofs.Lists.{found_among, list_any-there}
 use Rattle.job_core.proofs.RecordLemmas.{open_parts, record_opened}
-use Rattle.job_core.proofs.RunningLemmas.{waiting_there}
+use Rattle.job_core.proofs.RunningLemmas.{waiting_there, last_stops_push}
 use Rattle.job_core.proofs.SessionLemmas.{session_changed, session_split}
 use Rattle.job_core.proofs.SoundFacts.{is_for, states_are}
 use Rattle.job_core.proofs.SoundSessions.{running_numbered, running_parts}
@@ -200,13 +200,6 @@ module _ (f : Facts) (client : List ℕ) (s : ℕ) (x : Session) (sound : IsSoun
           ])
 
 -- ---- a word
-
-last_stops_push : (commands : List Command) (k : ℕ) (words : List ℕ) (sw : ℕ) → last_stops_from commands k (words ++ sw ∷ []) ≡ not (goes_at commands (k + length words) sw)
-last_stops_push commands k [] sw = let e : k ≡ k + 0 = omega arith in ap (λ n. not (goes_at commands n sw)) e
-last_stops_push commands k (w ∷ []) sw = refl
-last_stops_push commands k (w ∷ v ∷ words) sw =
-    let e : k + 1 + length (v ∷ words) ≡ k + length (w ∷ v ∷ words) = omega arith in
-    last_stops_push commands (k + 1) (v ∷ words) sw ∙ ap (λ n. not (goes_at commands n sw)) e
 
 -- how a running session stands after a word, by its tests
 word_state : (f : Facts) (x : Session) (k sw : ℕ) (goes full : Bool) → session_state f x ≡ session.Running → k ≡ length x.words

@@ -48,13 +48,10 @@ use Rattle.heads.specs.declared.reply.Content.TheVariants.{Json}
 use Rattle.wire.specs.ReplyReading.{HasNoBrace, reply_in}
 use Rattle.wire.specs.ReplyText.{AreToldApart, IsReply, reply_bytes}
 use Rattle.asks.specs.Members.{name_at, text_at, value_in}
+use Rattle.asks.proofs.RequestLemmas.{value_in-read}
 use Rattle.heads.specs.Texts.{head_text, status_text}
 
 -- ---- JSON
-
-pub value_in-read : (body : List ℕ) (d : Data) → IsUtf8 body → read body ≡ Some d → value_in body ≡ Some d
-unfolding value_in
-value_in-read body d text is = ap (λ b. cond b (read body) None) (is_utf8-from_IsUtf8 body text) ∙ is
 
 -- ---- where a body begins
 
