@@ -36,8 +36,9 @@ SEED = "shapes"
 CASES = 20_000
 # With so many cases come the long ones.
 LONG = 10_000
-# How many records of the longest report are made, and how many withdrawn. Over lists each further card costs more than the one before.
-REPORT = (376, 648)
+# How many records of the longest report are made, and how many withdrawn: enough for more than 65,536 bytes, and no more, since over lists each
+# further card costs more than the one before.
+REPORT = (840, 184)
 # The most that a program may run.
 SECONDS = 7200
 

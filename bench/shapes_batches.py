@@ -378,7 +378,9 @@ def measured(plan: Plan) -> None:
         applications = segments_of(its)
         largest(rows_of_a_record=len(its), applications_of_a_record=len(applications))
         for ranks in applications.values():
-            largest(ranks_of_an_application=len(ranks), blocks_of_an_application=blocks_of(sent_of(ranks), plan.product.max))
+            sent = sent_of(ranks)
+            largest(ranks_of_an_application=len(ranks), bytes_of_a_segment=max(sent.values()),
+                    blocks_of_an_application=blocks_of(sent, plan.product.max))
 
 
 def options(product: Product) -> list[str]:

@@ -12,7 +12,8 @@ from shapes_machine import Books, refused
 JUNK = ("null", "[]", '{"a":{}}', "-1.5e3", '"\\u0041\\n"', "[" * 126 + "]" * 126)
 WRONG = ("null", "[]", "{}", "-1", "-0", "1.0", "1e1", '""', '"a.b"', '"' + "x" * 33 + '"', '"' + "x" * 9000 + '"', "1" + "0" * 18, "2" + "0" * 400, "01")
 PAST = {"max": ("15", "256"), "low": ("32",), "first": (str(10**18),), "count": ("0", "1000001"), "session": ("0", str(10**18)),
-        "index": (str(2**32),), "sw": ('"900"', '"90000"', '"90G0"', "9000"), "check": ("0", "1", '"true"'), "do": ('"import"', '"Reset"')}
+        "index": (str(2**32),), "upto": ("0", str(10**18)), "sw": ('"900"', '"90000"', '"90G0"', "9000"), "check": ("0", "1", '"true"'),
+        "do": ('"import"', '"Reset"')}
 PAST_LOT = f'{{"do":"lot","lot":"L1","product":"P1","first":{MOST_SERIAL},"count":2}}'
 
 
@@ -54,7 +55,8 @@ def malformed(draw: Draw, members: dict) -> str:
 
 # Exchanges.
 
-TURNS = {"product": 2, "lot": 3, "import": 5, "open": 8, "answer": 4, "abort": 2, "reset": 2, "discard": 3, "remake": 6, "withdraw": 3, "close": 3}
+TURNS = {"product": 2, "lot": 3, "import": 5, "open": 8, "answer": 4, "abort": 2, "reset": 2, "discard": 3, "remake": 6, "withdraw": 3, "close": 3,
+         "release": 2}
 
 
 class Sent(NamedTuple):
@@ -74,6 +76,8 @@ class Talk:
         self.labels: list[str] = []
         self.sent: list[Sent] = []
         self.stops = draw.choice((0.0, 0.02, 0.2))
+        # The last number but for that of `release_all`.
+        self.last = MOST_SERIAL - draw.randrange(2)
 
     def put(self, ask: str, reply: dict, label: str) -> None:
         self.lines.append((ask, f"{409 if 'code' in reply else 200} {dumped(dict(sorted(reply.items())))}"))
@@ -89,13 +93,16 @@ class Talk:
         self.put(ask, reply, f"ask {do}" if "result" not in reply else f"ask {do}, {reply['result']}")
         return reply
 
-    def number(self, client: str) -> int:
-        """One that the client has not used."""
-        number = self.draw.size(1, MOST_SERIAL)
-        return self.number(client) if (client, number) in self.books.kept else number
+    def number(self, client: str, upto: int = MOST_SERIAL) -> int:
+        """One that the client has not used, mostly above its mark. That of a release up to a number is often this one, or the next."""
+        mark = self.books.marks[client] if self.draw.chance(0.97) else 0
+        number = mark + self.draw.size(1, self.last - mark)
+        if upto < self.last and self.draw.chance(0.3):
+            number = upto + self.draw.randrange(2)
+        return self.number(client, upto) if (client, number) in self.books.kept else number
 
     def ask(self, client: str, do: str, text: str | None = None, **members: object) -> dict:
-        number = self.number(client)
+        number = self.number(client, members.get("upto", MOST_SERIAL))
         largest(digits_of_a_number=len(str(number)), client=len(client), name=max([len(it) for it in members.values() if isinstance(it, str)] + [0]))
         if do == "import":
             text = "{batch}/{product}/".format(**members) + members["plan"].raw.decode("latin-1")
@@ -144,6 +151,9 @@ class Talk:
             records = books.batches[name].records if name in books.batches else {}
             failed = {its: record for its, record in records.items() if record.state() == "failed"}
             return {"batch": name, "record": self.one_of(failed if failed and draw.chance(0.7) else records)}
+        if do == "release":
+            used = [number for its, number in books.kept if its == client]
+            return {"upto": draw.choice((max(books.marks[client], 1), draw.choice(used or [1]), draw.size(1, MOST_SERIAL)))}
         return {"batch": self.one_of(books.batches)} if do == "close" else {}
 
     def lot(self) -> dict:
@@ -205,6 +215,15 @@ class Talk:
             do = "answer" if pick < 0.75 and self.books.running(client) else draw.choices(list(TURNS), list(TURNS.values()))[0]
             self.ask(client, do, **self.members(client, do))
 
+    def release_all(self, client: str) -> None:
+        """The largest number releases all others of the client; it comes again, an earlier request comes late, and one more is asked."""
+        members = {"upto": MOST_SERIAL - 1}
+        last = Sent(client, MOST_SERIAL, "release", members, spelt_json(self.draw, {"do": "release", **members}))
+        earlier = [sent for sent in self.sent if sent.client == client]
+        for sent in (last, last, self.draw.choice(earlier or [last])):
+            self.send(sent)
+        self.ask(client, "reset")
+
     def case(self, title: str) -> Case:
         COUNTS.update(self.labels)
         text = "".join(f"{ask}\n{answer_of(wanted)}" for ask, wanted in self.lines)
@@ -247,6 +266,8 @@ def talk_of(draw: Draw, clients: list[str], steps: int) -> Talk:
             talk.ask(draw.choice(clients), do, **talk.members("", do))
     for _ in range(steps):
         talk.step()
+    if talk.last < MOST_SERIAL and draw.chance(0.3):
+        talk.release_all(draw.choice(clients))
     return talk
 
 
@@ -314,11 +335,12 @@ def long_session(draw: Draw, product: Product, rows: list[Row]) -> Talk:
 
 
 def long_sessions(draw: Draw) -> list[Talk]:
-    """Applications of the most blocks, many applications, and many ranks."""
+    """Applications of the most blocks, in one segment and in several, many applications, and many ranks."""
     talks = []
     for most in (16, 17, 255, draw.randint(18, 254)):
         product = some_product(draw)._replace(max=most)
-        talks.append(long_session(draw, product, application(draw, product, "R1", b"A0000", draw.randint(1, 9), 400, True)))
+        for rows in (1, draw.randint(2, 9)):
+            talks.append(long_session(draw, product, application(draw, product, "R1", b"A0000", rows, 400, True)))
         for shape in (Shape(1, (1, 2), (10, 40), (1, 3), 60), Shape(1, (1, 1), (1, 1), (200, 999), 9)):
             talks.append(long_session(draw, product, some_rows(draw, product, shape)))
     return talks
@@ -348,6 +370,21 @@ def long_bodies(draw: Draw) -> Talk:
     return talk
 
 
+def long_releases(draw: Draw) -> Talk:
+    """Many numbers of three clients, of which each releases more and more."""
+    clients = draw.names(3)
+    talk = talk_of(draw, clients, 20)
+    for _ in range(600):
+        client, do = draw.choice(clients), draw.choice(("reset", "discard"))
+        talk.ask(client, do, **talk.members(client, do))
+    for client in clients:
+        for upto in sorted(number for its, number in talk.books.kept if its == client)[::40]:
+            talk.ask(client, "release", upto=upto)
+            talk.send(draw.choice(talk.sent))
+        talk.release_all(client)
+    return talk
+
+
 def many_things(draw: Draw, products: int, lots: int, batches: int) -> Talk:
     talk = Talk(draw, ["office"])
     for k in range(products):
@@ -374,4 +411,5 @@ def long_talks(draw: Draw) -> list[Talk]:
         *long_sessions(draw),
         *(long_bodies(draw) for _ in range(3)),
         long_faults(draw),
+        long_releases(draw),
     ]

@@ -9,7 +9,7 @@ REFUSED = {
     **NAMES, 51: "product-differs", 52: "product-unknown", 53: "lot-differs", 54: "serials-overlap", 55: "batch-differs", 56: "batch-unknown",
     57: "batch-closed", 58: "blank-unknown", 59: "blank-of-other-product", 60: "blank-used", 61: "machine-busy", 62: "nothing-waiting",
     63: "session-unknown", 64: "not-yours", 65: "session-ended", 66: "out-of-turn", 67: "record-unknown", 68: "not-failed",
-    69: "not-withdrawable", 70: "not-finished", 71: "limit", 72: "number-reused",
+    69: "not-withdrawable", 70: "not-finished", 71: "limit", 72: "number-reused", 73: "number-released", 74: "release-too-far",
 }
 STATES = ("waiting", "running", "failed", "withdrawn", "good")
 
@@ -68,14 +68,24 @@ class Books:
         self.all_sessions: list[Session] = []
         self.charged: dict[int, Session | None] = {}
         self.kept: dict[tuple[str, int], tuple[object, dict]] = {}
+        self.marks: Counter = Counter()
 
     def arrive(self, client: str, number: int, ask: object, do: str, members: dict) -> dict:
+        if number <= self.marks[client]:
+            return refused(73, mark=self.marks[client])
         if (client, number) in self.kept:
             kept, reply = self.kept[client, number]
             return reply if kept == ask else refused(72)
-        reply = getattr(self, "ask_" + do)(client, **members)
+        reply = self.release(client, number, **members) if do == "release" else getattr(self, "ask_" + do)(client, **members)
         self.kept[client, number] = ask, reply
         return reply
+
+    def release(self, client: str, number: int, upto: int) -> dict:
+        if upto >= number:
+            return refused(74)
+        self.marks[client] = max(self.marks[client], upto)
+        largest(mark=self.marks[client])
+        return {"mark": self.marks[client], "result": "released"}
 
     def running(self, client: str) -> Session | None:
         return next((it for it in self.all_sessions if it.machine == client and it.state == "running"), None)

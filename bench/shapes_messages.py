@@ -35,7 +35,8 @@ def decided(talk: Talk, client: str, number: int, do: str, members: dict, text: 
 
 def asking_request(draw: Draw, talk: Talk, do: str) -> Asking:
     client = draw.choice(talk.clients)
-    number = talk.number(client)
+    members = talk.members(client, do) if do != "import" else {}
+    number = talk.number(client, members.get("upto", MOST_SERIAL))
     target = f"/c/{client}/{number}"
     if do == "import":
         product = talk.one_of(talk.books.products)
@@ -47,7 +48,6 @@ def asking_request(draw: Draw, talk: Talk, do: str) -> Asking:
         text = f"{batch}/{product}/" + plan.raw.decode("latin-1")
         members = {"batch": batch, "product": product, "plan": plan}
         return Asking("POST", f"{target}/batch/{batch}/{product}", plan.raw, lambda: decided(talk, client, number, do, members, text))
-    members = talk.members(client, do)
     if draw.chance(0.2):
         text = draw.choice((malformed(draw, {"do": do, **members}), "", "\xEF\xBB\xBF" + dumped({"do": do, **members}), '{"do":"re\xFFset"}'))
         return Asking("POST", target, text.encode("latin-1"), lambda: NAMED["400"])

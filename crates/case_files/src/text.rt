@@ -103,6 +103,7 @@ fn made(
 ) -> Result<Case, AllocError> {
     let mut lines = Vec::new(alloc);
     let mut are_told = false;
+    let raws = raws.get(..filled(raws)).unwrap_or(raws);
     for (i, raw) in raws.iter().enumerate() {
         if raw.is_answer && are_told {
             continue;
@@ -122,6 +123,17 @@ fn made(
         }
     }
     Ok(Case { number, lines })
+}
+
+// How many lines there are without the empty ones at the end.
+fn filled(raws: &[Raw<'_>]) -> usize {
+    let mut count = 0usize;
+    for (i, raw) in raws.iter().enumerate() {
+        if raw.is_answer || !raw.text.is_empty() {
+            count = i.saturating_add(1);
+        }
+    }
+    count
 }
 
 // Puts the answers at the front of these lines.

@@ -112,7 +112,7 @@ bytes_eq_either m n = elim (cases_Bool (bytes_eq n m)) [
 ]
 
 -- one of these at most has the name
-named_once : {X : Type 0} (key : X → List ℕ) (xs : List X) (n : List ℕ) → AreNamedOnce (map key xs)
+pub named_once : {X : Type 0} (key : X → List ℕ) (xs : List X) (n : List ℕ) → AreNamedOnce (map key xs)
     → AllPairs (λ (x y : X). bytes_eq (key x) n ≡ true → bytes_eq (key y) n ≡ false) xs
 named_once {X = X} key xs n once i j d before within hit =
     let there : j < length (map key xs) = omega (arith, length-map xs key) in
@@ -124,7 +124,7 @@ named_once {X = X} key xs n once i j d before within hit =
     ∙ ap (bytes_eq (get_or (map key xs) i (key d))) (sym (get_or-map key xs j d (key d) within)) ∙ apart in
     bytes_eq_either (key y) n ∙ ap (λ m. bytes_eq m (key y)) (sym (same-bytes_eq (key x) n hit)) ∙ differ
 
-apart_once : (blank : ℕ) (l m : Lot) → AreApart l m → is_in blank l ≡ true → is_in blank m ≡ false
+pub apart_once : (blank : ℕ) (l m : Lot) → AreApart l m → is_in blank l ≡ true → is_in blank m ≡ false
 apart_once blank l m apart inside = false_from_ne_true (is_in blank m) (λ also.
     let here = and_parts (nat_le l.first blank) (nat_lt blank (l.first + l.count)) inside in
     let there = and_parts (nat_le m.first blank) (nat_lt blank (m.first + m.count)) also in

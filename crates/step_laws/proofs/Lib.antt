@@ -10,3 +10,6 @@ pub mod ReplyFacts
 pub mod ReplyRanges
 pub mod ChangeStands
 pub mod BlankSums
+pub mod Permuted
+pub mod AlikeReads
+pub mod AlikeSteps

@@ -3,3 +3,4 @@ pub mod Later
 pub mod Records
 pub mod Replies
 pub mod Sums
+pub mod Alike

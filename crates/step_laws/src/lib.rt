@@ -15,5 +15,5 @@ pub use cards::{
 pub use records::{one_record_alone_by_change, one_record_alone_changes};
 pub use replies::{replies_are_in_range, replies_are_to_requests, replies_tell_the_facts};
 pub use sessions::{only_its_machine_changes_a_session, sessions_only_grow};
-pub use soundness::{sessions_are_few, sound_facts_stay_sound};
+pub use soundness::{same_facts_answer_alike, sessions_are_few, sound_facts_stay_sound};
 pub use sums::blanks_by_batches;
