@@ -1,7 +1,7 @@
 -- The plain machine hands out commands in the order of their sequence.
-use Rattle.std.proofs.Common.{◌≡◌, ◌∙◌, ◌+◌, ◌==◌, ℕ, Bool, true, false, List, length, Option, Some, None, Result, Ok, Err, refl, sym, ap}
+use Rattle.std.proofs.Common.{◌≡◌, ◌∙◌, ◌+◌, ◌==◌, ℕ, true, List, length, Option, Some, None, Result, Ok, Err, refl, sym, ap}
 use Rattle.std.specs.Prelude.{bytes_eq, not, nat_le, slice_get}
-use Rattle.std.proofs.lemmas.Bool.{cond_both, false≢true, not-false}
+use Rattle.std.proofs.lemmas.Bool.{cond_both, not-false}
 use borrow.Author.Tests.{eqb-true}
 use Rattle.store_data.specs.declared.row.Product.{Product}
 use Rattle.store_data.specs.declared.row.Row.{Row}

@@ -1,9 +1,6 @@
 -- A head and then a body.
-use Rattle.std.proofs.Common.{ℕ, List, ◌++◌, Option, Ok, Err, Result, sym, ap, ◌∙◌, append_assoc}
-use Rattle.std.proofs.KnownBytes.{Appends-trans}
-use Rattle.std.specs.Io.KnownBytes.{Appends}
-use Rattle.text_io.specs.declared.writing.WriteFailed.{WriteFailed}
-use Rattle.text_io.specs.Written.{AppendsBeginning, Writes}
+use Rattle.std.proofs.Common.{ℕ, List, ◌++◌, Option, sym, ap, ◌∙◌, append_assoc}
+use Rattle.text_io.specs.Written.{AppendsBeginning}
 
 -- a beginning of the head is one of both
 pub begins_both : (before after : Option (List ℕ)) (head body : List ℕ) → AppendsBeginning before after head → AppendsBeginning before after (head ++ body)

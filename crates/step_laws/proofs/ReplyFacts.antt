@@ -8,7 +8,6 @@ use Rattle.std.proofs.lemmas.List.{length_push}
 use Rattle.std.proofs.lemmas.List.Folds.{find-append}
 use Rattle.std.proofs.lemmas.List.Sums.{sum_by_push}
 use Rattle.std.proofs.lemmas.Option.{cond_some, none-some}
-use Rattle.store_data.specs.Sequence.{Command}
 use Rattle.store_data.specs.declared.row.Product.{Product}
 use Rattle.store_data.specs.declared.row.Row.{Row}
 use Rattle.store_data.proofs.GroupLemmas.{bytes_eq-same}
@@ -23,7 +22,7 @@ use Rattle.job_core.specs.declared.request.Request.{Request}
 use Rattle.job_core.specs.declared.request.Request.TheVariants as request
 use Rattle.job_core.specs.Facts.{Batch, Facts, Session, at_session, ended, new_session, with_end, with_remake, with_session, with_withdrawal, with_word, worded}
 use Rattle.job_core.specs.Sound.{IsRecord, IsSound, IsSoundRecord, has_card, runs_on}
-use Rattle.job_core.specs.States.{command_bytes, commands_for, first_waiting, goes_at, is_charged, is_record, is_running, is_spoiled, is_waiting, is_withdrawn, last_stops, last_stops_from, product_named, record_state, record_state_of, records_named, remakes_of, rows_of, rows_or_none, rows_under, running_session, session_state, state_by, states_of}
+use Rattle.job_core.specs.States.{command_bytes, commands_for, first_waiting, goes_at, is_charged, is_record, is_running, is_spoiled, is_waiting, is_withdrawn, last_stops, product_named, record_state, record_state_of, records_named, remakes_of, rows_of, rows_or_none, rows_under, running_session, session_state, state_by, states_of}
 use Rattle.job_core.specs.Steps.{opened, step, take_word}
 use Rattle.job_core.proofs.Lists.{found_among, list_any-there}
 use Rattle.job_core.proofs.RecordLemmas.{open_parts, record_opened}

@@ -1,15 +1,13 @@
 -- Sound facts stay sound, whatever is asked in its ranges; and they have few sessions.
-use Rattle.std.proofs.Common.{◌≡◌, ◌≢◌, ◌≤◌, ◌<◌, ◌+◌, ◌==◌, ℕ, zero, suc, Bool, true, cond, List, [], ◌∷◌, length, length-append, map, All, Some, refl, sym, ap, ◌∙◌, subst, inl, inr, arith}
+use Rattle.std.proofs.Common.{◌≡◌, ◌≢◌, ◌≤◌, ◌==◌, ℕ, true, cond, List, [], ◌∷◌, length, length-append, map, All, Some, sym, ap, ◌∙◌, subst, inl, inr, arith}
 use Rattle.std.specs.Prelude.{AllPairs, IsSome, is_some, sum_by}
-use Rattle.std.specs.List.{flat_map, list_any}
+use Rattle.std.specs.List.{flat_map}
 use Rattle.std.specs.Cmp.{nat_eq_equiv}
-use Rattle.std.proofs.lemmas.Bool.{cases_Bool, eqb-true, false≢true, or_cases, or_left, or_right}
-use Rattle.std.proofs.lemmas.Bool.Decides.{Decides-eqb, nat_tests}
+use Rattle.std.proofs.lemmas.Bool.{cases_Bool, eqb-true, false≢true, or_cases}
+use Rattle.std.proofs.lemmas.Bool.Decides.{Decides-eqb}
 use Rattle.std.proofs.lemmas.List.{length-map}
-use Rattle.std.proofs.lemmas.List.Concat.{flat_map-cons}
 use Rattle.std.proofs.lemmas.List.Elements.{All-head, All-tail, All-weaker}
-use Rattle.std.proofs.lemmas.List.Folds.{list_any-append}
-use Rattle.std.proofs.lemmas.List.Sums.{sum_by-cons, sum_by-le}
+use Rattle.std.proofs.lemmas.List.Sums.{sum_by-le}
 use Rattle.std.proofs.lemmas.Map.Made.{IsDistinct-from_AllPairs, length-le_from_is_member}
 use Rattle.batch_import.proofs.RangedRows.{batch_typed}
 use Rattle.job_core.specs.declared.facts.Lot.{Lot}
