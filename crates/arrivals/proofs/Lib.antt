@@ -5,3 +5,4 @@ pub mod Commands
 pub mod MeaningLemmas
 pub mod MeaningLists
 pub mod Repeats
+pub mod AlikeContents

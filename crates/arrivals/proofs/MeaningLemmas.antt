@@ -94,7 +94,7 @@ find_other p q apart (x ∷ xs) = elim (cases_Bool (p x)) [
       ∙ ap (λ o. cond (q x) (Some x) o) (find_other p q apart xs)
 ]
 
-abbrev upto_of : Option Mark → ℕ
+abbrev pub upto_of : Option Mark → ℕ
 upto_of o = unwrap_or (option_map (λ (m : Mark). m.upto) o) 0
 
 pub mark_set : (marks : List Mark) (client : List ℕ) (upto : ℕ) → mark_of (with_mark marks client upto) client ≡ upto

@@ -1,6 +1,6 @@
 -- Laws of what arrivals mean.
-use Rattle.std.specs.Prelude.{◌≡◌, false, List, ◌∷◌, ◌++◌, All, true}
-use Rattle.job_core.specs.Contents.{Contents, Entry, is_above}
+use Rattle.std.specs.Prelude.{◌≡◌, false, List, [], ◌∷◌, ◌++◌, All, true}
+use Rattle.job_core.specs.Contents.{AreSame, AreSound, Contents, Entry, is_above}
 use Rattle.arrivals.specs.Meaning.{Arrived, contents_after, is_released, told_on}
 
 -- what is kept stands under numbers that are not released, as in sound contents
@@ -16,3 +16,7 @@ abbrev pub RepeatsAreTold : Type 0
 RepeatsAreTold = (c : Contents) (a : Arrived) (between : List Arrived) → AreAbove c →
     let after = contents_after c (a ∷ between) in
     is_released after.marks a ≡ false → told_on after a ≡ told_on c a
+
+-- on the same contents, in whatever order sets and maps stand, an arrival is told the same, and leaves the same again
+abbrev pub AreToldAlike : Type 0
+AreToldAlike = (c d : Contents) (a : Arrived) → AreSound c → AreSame c d → (told_on c a ≡ told_on d a) × AreSame (contents_after c (a ∷ [])) (contents_after d (a ∷ []))

@@ -2,13 +2,14 @@
 //! arrivals leaves.
 #![tactic(auto)]
 
-ghost use Rattle.arrivals.specs.Laws.{AreInTurn, RepeatsAreTold};
+ghost use Rattle.arrivals.specs.Laws.{AreInTurn, AreToldAlike, RepeatsAreTold};
 
 mod body;
 mod kept;
 
 pub use body::{body_of, name_text, status_of};
 pub use kept::Kept;
+use step_laws::same_facts_answer_alike;
 
 /// Arrivals after arrivals: a law, for the proof of one who takes them in turn. It does nothing.
 pub fn in_turn()
@@ -19,3 +20,10 @@ pub fn in_turn()
 pub fn repeats_are_told()
     ensures { RepeatsAreTold }
 {}
+
+/// The same contents, in whatever order sets and maps stand, answer alike: a law. It does nothing.
+pub fn same_contents_answer_alike()
+    ensures { AreToldAlike }
+{
+    same_facts_answer_alike();
+}
