@@ -55,16 +55,7 @@ pub(crate) fn last_stops(plan: &RecordPlan<'_>, words: &[u16]) -> bool
         return false;
     }
     let place = words.len() - 1;
-    !goes_on(words[place], is_tolerant(plan, place))
-}
-
-fn goes_on(sw: u16, is_tolerant: bool) -> bool
-    ensures { result ≡ goes_on sw is_tolerant }
-{
-    match class(sw, is_tolerant) {
-        Class::Go => true,
-        Class::Stop => false,
-    }
+    class(words[place], is_tolerant(plan, place)) == Class::Stop
 }
 
 /// How many of the words go.
