@@ -1,5 +1,5 @@
 //! The accounts of batches, records and blanks.
-ghost use Rattle.std.specs.Prelude.{◌≡◌, ◌∷◌, ◌&&◌, IfErr, IfOk, bytes_eq, count_by, filter, find};
+ghost use Rattle.std.specs.Prelude.{◌≡◌, ◌&&◌, IfErr, IfOk, bytes_eq, count_by, filter, find};
 ghost use Rattle.std.specs.Prelude.{length, map, option_map, sum_by};
 ghost use Rattle.job_core.specs.declared.store.StoreFault.TheVariants.{Memory};
 ghost use Rattle.job_core.specs.declared.facts.Lot.{Lot as LotValue};

@@ -2,7 +2,7 @@
 ghost use Rattle.std.specs.Prelude.{◌≡◌, ◌+◌, ◌==◌, nat_lt, option_copied};
 ghost use Rattle.std.specs.List.{list_any};
 ghost use Rattle.job_core.specs.Facts.{Session};
-ghost use Rattle.job_core.specs.States.{any_overlaps, is_charged, is_in, lot_of, overlaps};
+ghost use Rattle.job_core.specs.States.{any_overlaps, is_charged, lot_of};
 
 use crate::lists::{FactLists, KeptSession};
 use job_core::Lot;

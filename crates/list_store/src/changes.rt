@@ -1,8 +1,7 @@
 //! Facts with one change more.
-ghost use Rattle.std.specs.Prelude.{◌≡◌, IfErr, IfOk, Ok, OnErr, OnOk};
+ghost use Rattle.std.specs.Prelude.{◌≡◌, IfErr, Ok, OnErr, OnOk};
 ghost use Rattle.job_core.specs.declared.store.StoreFault.TheVariants.{Memory};
-ghost use Rattle.store_data.specs.Sequence.{IsProduct};
-ghost use Rattle.job_core.specs.Facts.{at_session, ended, new_session, worded};
+ghost use Rattle.job_core.specs.Facts.{at_session, ended, worded};
 ghost use Rattle.job_core.specs.Sound.{changed};
 
 use crate::kept::copied;

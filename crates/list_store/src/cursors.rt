@@ -1,7 +1,7 @@
 //! Where a card stands in a plan, and how its words leave its session.
 ghost use Rattle.std.specs.Prelude.{◌≡◌, ◌==◌, IfSome, length, slice_get};
 ghost use Rattle.store_data.specs.Cursor.{IsCursor, cursor_at};
-ghost use Rattle.store_data.specs.Sequence.{IsPlan, commands_of, goes_on};
+ghost use Rattle.store_data.specs.Sequence.{IsPlan, commands_of};
 ghost use Rattle.job_core.specs.States.{going, is_tolerant, last_stops};
 
 use store_data::{Class, Cursor, RecordPlan, class};

@@ -1,10 +1,10 @@
 //! The rows of a batch, its records, and their plans.
-ghost use Rattle.std.specs.Prelude.{◌≡◌, ◌≤◌, ◌∷◌, All, IfErr, IfOk, bytes_eq, length, map};
+ghost use Rattle.std.specs.Prelude.{◌≡◌, ◌≤◌, All, IfErr, IfOk, bytes_eq, length, map};
 ghost use Rattle.std.specs.List.{list_any};
 ghost use Rattle.store_data.specs.Groups.{first_appearances};
 ghost use Rattle.store_data.specs.Sequence.{IsProduct, IsRow};
 ghost use Rattle.store_data.specs.declared.row.Row.{Row as RowValue};
-ghost use Rattle.batch_import.specs.Batch.{batch_of, records_of_rows};
+ghost use Rattle.batch_import.specs.Batch.{batch_of};
 ghost use Rattle.batch_import.specs.SoundRecords.{AreSoundRecords};
 ghost use Rattle.job_core.specs.declared.store.StoreFault.TheVariants.{Memory};
 ghost use Rattle.job_core.specs.Rows.{batch_has, batch_row_of, batch_size_of};

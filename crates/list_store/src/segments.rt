@@ -1,9 +1,8 @@
 //! The segments of a record's plan.
-ghost use Rattle.std.specs.Prelude.{◌≡◌, ◌≤◌, IfErr, IfOk, IfSome, length};
+ghost use Rattle.std.specs.Prelude.{◌≡◌, ◌≤◌, IfErr, IfOk, IfSome};
 ghost use Rattle.job_core.specs.declared.rows.SegmentRow.{SegmentRow as SegmentRowValue};
 ghost use Rattle.job_core.specs.declared.store.StoreFault.TheVariants.{Memory};
-ghost use Rattle.job_core.specs.Rows.{segment_row, segment_row_of};
-ghost use Rattle.store_data.specs.Cursor.{shown};
+ghost use Rattle.job_core.specs.Rows.{segment_row_of};
 
 use crate::kept::copied;
 use crate::lists::FactLists;

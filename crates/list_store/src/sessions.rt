@@ -1,14 +1,14 @@
 //! Sessions, and how they stand by their words.
-ghost use Rattle.std.specs.Prelude.{◌≡◌, ◌∷◌, IfErr, IfOk, IfSome, length, option_copied};
+ghost use Rattle.std.specs.Prelude.{◌≡◌, IfErr, IfOk, IfSome, option_copied};
 ghost use Rattle.std.specs.Prelude.{unwrap_or};
 ghost use Rattle.store_data.specs.Cursor.{IsCursor};
 ghost use Rattle.store_data.specs.Sequence.{commands_of, no_plan};
 ghost use Rattle.job_core.specs.declared.rows.SessionRow.{SessionRow as SessionRowValue};
 ghost use Rattle.job_core.specs.declared.store.StoreFault.TheVariants.{Memory};
-ghost use Rattle.job_core.specs.Rows.{session_row, session_row_of};
+ghost use Rattle.job_core.specs.Rows.{session_row_of};
 ghost use Rattle.job_core.specs.States.{running_session, session_numbered, session_state};
 ghost use Rattle.job_core.specs.States.{state_with};
-ghost use Rattle.list_store.specs.Sessions.{cursor_after, running_from};
+ghost use Rattle.list_store.specs.Sessions.{cursor_after};
 
 use crate::cursors::{cursor_at, ends_at, going, last_stops};
 use crate::lists::{FactLists, KeptSession};

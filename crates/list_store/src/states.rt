@@ -1,13 +1,13 @@
 //! How records stand.
-ghost use Rattle.std.specs.Prelude.{◌≡◌, ◌∷◌, ◌&&◌, IfErr, IfOk, bytes_eq, count_by, filter, find};
+ghost use Rattle.std.specs.Prelude.{◌≡◌, ◌&&◌, IfErr, IfOk, count_by, filter};
 ghost use Rattle.std.specs.Prelude.{map};
-ghost use Rattle.std.specs.List.{list_all, list_any};
+ghost use Rattle.std.specs.List.{list_any};
 ghost use Rattle.job_core.specs.declared.store.StoreFault.TheVariants.{Memory};
 ghost use Rattle.job_core.specs.Accounts.{count_sessions};
 ghost use Rattle.list_store.specs.Sessions.{sessions_of_record};
-ghost use Rattle.job_core.specs.States.{first_waiting, is_batch_finished, is_finished, is_record};
-ghost use Rattle.job_core.specs.States.{is_waiting, record_state, record_state_of};
-ghost use Rattle.job_core.specs.States.{same_session_state, session_state, state_by, states_of};
+ghost use Rattle.job_core.specs.States.{first_waiting, is_batch_finished, is_record};
+ghost use Rattle.job_core.specs.States.{record_state, record_state_of};
+ghost use Rattle.job_core.specs.States.{session_state, state_by, states_of};
 
 use crate::lists::{FactLists, KeptRecord, KeptSession};
 use crate::records::{has_name, record_names};
