@@ -1,7 +1,8 @@
 //! Asks and their replies.
 use crate::typed::{check_handled, check_parsed, check_run, written_anew};
 use crate::ways::{
-    Exchange, Fresh, ONE_BY_ONE, WHOLE, check_same, check_wanted, check_way, connected, served,
+    Exchange, Fresh, ONE_BY_ONE, WHOLE, check_same, check_wanted, check_way, connected, over,
+    served,
 };
 use case_files::{Case, CaseFault, Line, Repeats, cases, get, post, wanted_of};
 use server::Replied;
@@ -28,16 +29,21 @@ pub struct Scripted {
     pub printed: Vec<u8>,
 }
 
-/// Runs a case on every way, each over a store of its own. Gives what a drill is to print, if all asks are the office's.
-pub fn check_exchanges<S: Fresh + Drop>(
+/// Runs a case on every way over a store of each kind, each way over one of its own. The same comes on all. Gives what a drill is to
+/// print, if all asks are the office's.
+pub fn check_exchanges<S: Fresh + Drop, T: Fresh + Drop>(
     alloc: Global,
     case: Case,
 ) -> Result<Option<Scripted>, CaseFault> {
     let number = case.number;
     let lines = with_set_up(alloc, case)?;
     let asks = asks_of(alloc, lines.as_slice())?;
-    let first = served::<S>(alloc, asks.exchanges.as_slice(), WHOLE)?;
-    check_ways::<S>(alloc, &asks, first.replies())?;
+    let exchanges = asks.exchanges.as_slice();
+    let first = served::<S>(alloc, exchanges, WHOLE)?;
+    over::<S>(check_wanted(alloc, exchanges, WHOLE.name, first.replies(), false))?;
+    check_parsed(alloc, exchanges, first.replies())?;
+    over::<S>(check_ways::<S>(alloc, &asks, first.replies()))?;
+    over::<T>(check_ways::<T>(alloc, &asks, first.replies()))?;
     match script_of(alloc, lines.as_slice())? {
         Some(script) => Ok(Some(Scripted {
             line: number,
@@ -54,11 +60,10 @@ fn check_ways<S: Fresh + Drop>(
     first: &[Replied],
 ) -> Result<(), CaseFault> {
     let exchanges = asks.exchanges.as_slice();
-    check_wanted(alloc, exchanges, WHOLE.name, first, false)?;
+    check_way::<S>(alloc, exchanges, WHOLE, first)?;
     check_way::<S>(alloc, exchanges, ONE_BY_ONE, first)?;
     check_handled::<S>(alloc, exchanges, first)?;
     check_run::<S>(alloc, exchanges, first)?;
-    check_parsed(alloc, exchanges, first)?;
     if asks.is_spelling {
         return Ok(());
     }

@@ -1,6 +1,6 @@
 //! A machine that makes every card of a batch.
 use crate::typed::reply_to;
-use crate::ways::Fresh;
+use crate::ways::{Fresh, over};
 use case_files::{CaseFault, check_bytes, post};
 use case_plans::{Printed, put_command, put_name};
 use job_core::{JobStore, Reply};
@@ -11,7 +11,7 @@ use store_data::Product;
 pub fn check_machine<S: Fresh + Drop>(alloc: Global, printed: &Printed) -> Result<(), CaseFault> {
     let handed = handed_out::<S>(alloc, printed)?;
     let (wanted, came) = (printed.text.as_bytes(), handed.as_bytes());
-    check_bytes(alloc, printed.line, "a machine", wanted, came)
+    over::<S>(check_bytes(alloc, printed.line, "a machine", wanted, came))
 }
 
 // The commands that a machine is handed for each record of a batch, each answered 9000, as they are printed.

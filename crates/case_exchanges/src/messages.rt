@@ -1,7 +1,8 @@
 //! Messages as bytes, and the bytes that answer them.
 use crate::exchanges::exchange;
 use crate::ways::{
-    Exchange, Fresh, ONE_BY_ONE, WHOLE, Way, check_wanted, check_way, connected, inputs, served,
+    Exchange, Fresh, ONE_BY_ONE, WHOLE, Way, check_wanted, check_way, connected, inputs, over,
+    served,
 };
 use case_files::{Case, CaseFault, Line, Wanted, check_bytes, put_bytes};
 use job_core::JobStore;
@@ -20,31 +21,37 @@ const BEHIND: Way = Way {
     behind: b"GET / HTTP/1.1\r\n\r\n",
 };
 
-/// Runs a case on every way, each over a store of its own.
-pub fn check_messages<S: Fresh + Drop>(alloc: Global, case: &Case) -> Result<(), CaseFault> {
+/// Runs a case on every way over a store of each kind, each way over one of its own. The same comes on all.
+pub fn check_messages<S: Fresh + Drop, T: Fresh + Drop>(
+    alloc: Global,
+    case: &Case,
+) -> Result<(), CaseFault> {
     let (is_cut, lines) = match case.lines.split_first() {
         Some((first, others)) if first.text.as_str() == "cut" => (true, others),
         _ => (false, case.lines.as_slice()),
     };
     let exchanges = messages_of(alloc, lines)?;
-    let first = served::<S>(alloc, exchanges.as_slice(), WHOLE)?;
-    check_ways::<S>(alloc, exchanges.as_slice(), first.replies())?;
-    if is_cut {
-        check_cut::<S>(alloc, exchanges.as_slice())?;
-    }
-    Ok(())
+    let exchanges = exchanges.as_slice();
+    let first = served::<S>(alloc, exchanges, WHOLE)?;
+    over::<S>(check_wanted(alloc, exchanges, WHOLE.name, first.replies(), true))?;
+    over::<S>(check_ways::<S>(alloc, exchanges, first.replies(), is_cut))?;
+    over::<T>(check_ways::<T>(alloc, exchanges, first.replies(), is_cut))
 }
 
 fn check_ways<S: Fresh + Drop>(
     alloc: Global,
     exchanges: &[Exchange],
     first: &[Replied],
+    is_cut: bool,
 ) -> Result<(), CaseFault> {
-    check_wanted(alloc, exchanges, WHOLE.name, first, true)?;
+    check_way::<S>(alloc, exchanges, WHOLE, first)?;
     check_way::<S>(alloc, exchanges, PIECES, first)?;
     check_way::<S>(alloc, exchanges, ONE_BY_ONE, first)?;
     if are_answered(exchanges) {
         check_way::<S>(alloc, exchanges, BEHIND, first)?;
+    }
+    if is_cut {
+        check_cut::<S>(alloc, exchanges)?;
     }
     Ok(())
 }

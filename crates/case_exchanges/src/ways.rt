@@ -1,5 +1,6 @@
 //! Connections in memory, and what comes out of them.
-use case_files::{CaseFault, Wanted, check_bytes};
+use case_files::{CaseFault, NO_STORE, Wanted, check_bytes};
+use faulty_store::FaultyStore;
 use job_core::JobStore;
 use list_store::ListStore;
 use server::{End, MemoryConnections, Replied, serve_all};
@@ -9,11 +10,51 @@ use std::alloc::{AllocError, Global};
 pub trait Fresh: JobStore {
     /// An empty store.
     fn fresh(alloc: Global) -> Result<Self, AllocError>;
+
+    /// What it is called where an answer differs.
+    fn called() -> &'static str;
 }
 
 impl Fresh for ListStore {
     fn fresh(alloc: Global) -> Result<ListStore, AllocError> {
         Ok(ListStore::new(alloc))
+    }
+
+    fn called() -> &'static str {
+        "lists"
+    }
+}
+
+impl Fresh for FaultyStore {
+    // Nothing is planned for its device.
+    fn fresh(alloc: Global) -> Result<FaultyStore, AllocError> {
+        Ok(FaultyStore::new(alloc, None))
+    }
+
+    fn called() -> &'static str {
+        "lists behind a device"
+    }
+}
+
+/// Says that a way was gone over this store, where an answer differs.
+pub fn over<S: Fresh>(ended: Result<(), CaseFault>) -> Result<(), CaseFault> {
+    match ended {
+        Err(
+            CaseFault::Differs {
+                line,
+                way,
+                store: _,
+                wanted,
+                came,
+            },
+        ) => Err(CaseFault::Differs {
+            line,
+            way,
+            store: S::called(),
+            wanted,
+            came,
+        }),
+        other => other,
     }
 }
 
@@ -116,6 +157,7 @@ pub fn check_wanted(
             return Err(CaseFault::Differs {
                 line,
                 way,
+                store: NO_STORE,
                 wanted,
                 came,
             });

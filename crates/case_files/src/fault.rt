@@ -10,6 +10,8 @@ pub enum CaseFault {
         line: u64,
         /// The way that was gone.
         way: &'static str,
+        /// What it was gone over.
+        store: &'static str,
         wanted: String,
         came: String,
     },
@@ -33,6 +35,9 @@ impl<T: Drop> From<AllocFailed<T>> for CaseFault {
     }
 }
 
+/// What a way is gone over that has no store.
+pub const NO_STORE: &str = "no store";
+
 /// Two byte strings are one.
 pub fn check_bytes(
     alloc: Global,
@@ -47,6 +52,7 @@ pub fn check_bytes(
     Err(CaseFault::Differs {
         line,
         way,
+        store: NO_STORE,
         wanted: String::from_utf8_lossy(alloc, wanted)?,
         came: String::from_utf8_lossy(alloc, came)?,
     })

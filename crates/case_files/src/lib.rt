@@ -6,7 +6,7 @@ mod message;
 mod reply;
 mod text;
 
-pub use fault::{CaseFault, check_bytes};
+pub use fault::{CaseFault, NO_STORE, check_bytes};
 pub use message::{get, post};
 pub use reply::{JSON, TEXT, Wanted, reply_bytes, wanted_of};
 pub use text::{Case, Line, Repeats, cases, put_bytes};

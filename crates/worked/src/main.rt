@@ -7,6 +7,7 @@ use case_exchanges::{check_exchanges, check_machine, check_messages};
 use case_files::{Case, CaseFault, Repeats, cases};
 use case_plans::{Table, check_plan, check_table};
 use drills::{check_script, check_scripted};
+use faulty_store::FaultyStore;
 use list_store::ListStore;
 use std::alloc::Global;
 use std::process::ExitCode;
@@ -101,14 +102,17 @@ fn run_cases(rt: &HostRuntime, name: &str, kind: Kind, cases: Vec<Case>) -> io::
 fn run_case(alloc: Global, kind: Kind, case: Case) -> Result<(), CaseFault> {
     match kind {
         Kind::Plan => match check_plan(alloc, &case)? {
-            Some(printed) => check_machine::<ListStore>(alloc, &printed),
+            Some(printed) => {
+                check_machine::<ListStore>(alloc, &printed)?;
+                check_machine::<FaultyStore>(alloc, &printed)
+            }
             None => Ok(()),
         },
-        Kind::Exchange => match check_exchanges::<ListStore>(alloc, case)? {
+        Kind::Exchange => match check_exchanges::<ListStore, FaultyStore>(alloc, case)? {
             Some(scripted) => check_scripted(alloc, &scripted),
             None => Ok(()),
         },
-        Kind::Message => check_messages::<ListStore>(alloc, &case),
+        Kind::Message => check_messages::<ListStore, FaultyStore>(alloc, &case),
         Kind::Drill => check_script(alloc, &case),
         Kind::Table(table) => check_table(alloc, table, &case),
     }
@@ -119,9 +123,10 @@ fn tell(rt: &HostRuntime, name: &str, fault: CaseFault) -> io::Result<()> {
         CaseFault::Differs {
             line,
             way,
+            store,
             wanted,
             came,
-        } => println!(rt; "{name}:{line}: {way}\n  wanted {wanted}\n  came   {came}"),
+        } => println!(rt; "{name}:{line}: {way}, over {store}\n  wanted {wanted}\n  came   {came}"),
         CaseFault::Form { line } => println!(rt; "{name}:{line}: a line of no form"),
         CaseFault::Memory => println!(rt; "{name}: a case gave up"),
     }

@@ -1,0 +1,11 @@
+pub mod Inserting
+pub mod Updating
+pub mod Selecting
+pub mod Replacing
+pub mod Tests
+pub mod Values
+pub mod Ending
+pub mod Creating
+pub mod Rowids
+pub mod Ordering
+pub mod Querying

@@ -1,0 +1,6 @@
+pub mod Columns
+pub mod Queries
+pub mod Effects
+pub mod Ends
+pub mod Making
+pub mod Rowids

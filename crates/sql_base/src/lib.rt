@@ -1,0 +1,8 @@
+//! What a statement on one table does to a database, at any schema, and what a transaction leaves.
+#![tactic(auto)]
+
+mod making;
+mod reading;
+
+pub use making::{is_empty, make};
+pub use reading::{int, rows_of};

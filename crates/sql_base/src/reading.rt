@@ -1,0 +1,41 @@
+//! Rows are read, in a transaction that is dropped.
+ghost use Rattle.std.specs.Prelude.{◌≡◌, ◌<◌, ◌^◌, false, true, pos, IfOk};
+ghost use Rattle.sqlite.specs.Held.{state};
+ghost use Rattle.sqlite.specs.State.{HasCleanDisk, Shown, Survives};
+ghost use Rattle.sqlite.specs.Value.{owned};
+ghost use Rattle.sqlite.specs.Values.{bound};
+ghost use Rattle.sqlite.specs.declared.types.Value.TheVariants.{Int};
+ghost use Rattle.sql_base.specs.Ends.{IsKept};
+
+use sqlite::types::ValueRef;
+use sqlite::{Alter, Connection, Error, Row};
+
+/// A number as a parameter of a statement. SQL's numbers end below 2^63.
+pub fn int(n: u64) -> ValueRef<'static>
+    requires { n < 2 ^ 63 }
+    ensures { owned result ≡ Int (pos n) }
+{
+    ValueRef::Int(n as i64)
+}
+
+/// The rows of a query's answer. The query runs in a transaction that is dropped, so that nothing
+/// is committed, whatever its text is.
+pub fn rows_of<S: Alter>(
+    conn: &mut Connection<S>,
+    sql: &str,
+    params: &[ValueRef<'_>],
+) -> Result<Vec<Row>, Error>
+    requires { conn.old.in_transaction ≡ false }
+    ensures shown { HasCleanDisk (state S.Store conn.new) → IfOk result
+        (λ rows. (mid : _) × Shown sql.now (bound params.now)
+        (state S.Store (record conn.old { in_transaction = true })) (state S.Store mid)
+        rows.items) }
+    ensures kept { HasCleanDisk (state S.Store conn.new)
+        → IsKept (state S.Store conn.old) (state S.Store conn.new) }
+    ensures idle { conn.new.in_transaction ≡ false }
+    ensures survives { Survives (state S.Store conn.old) (state S.Store conn.new) (λ _. ⊥) }
+{
+    let _settled = conn.is_autocommit();
+    let mut tx = conn.transaction();
+    tx.query_all(sql, params)
+}
