@@ -27,7 +27,7 @@ from typing import NamedTuple
 
 from shapes_batches import SHAPES, Plan, by_record, commands_of, long_plans, options, plan_case, plan_cases, some_plan
 from shapes_draw import COUNTS, MOST, MOST_FILE, Case, Draw, changed, unpacked
-from shapes_exchanges import exchange_cases, long_report, long_talks, talk_of
+from shapes_exchanges import exchange_cases, long_report, long_talks, longest_session, talk_of
 from shapes_messages import message_cases
 
 TOP = pathlib.Path(__file__).resolve().parent.parent
@@ -212,6 +212,7 @@ def hunted(hunt: Hunt, seed: str, cases: int) -> None:
     """Writes the files: six in twenty cases are batches, nine are asks and five are messages. The long ones come on top."""
     if cases >= LONG:
         hunt.put("long", [long_report(Draw(seed + " long report"), "office", *REPORT).drill("a long report")], 1)
+        hunt.put("long", [longest_session(Draw(seed + " longest session"), "office").drill("the longest session")], 1)
         hunt.put("long", [talk.case(f"a long exchange {k}") for k, talk in enumerate(long_talks(Draw(seed + " long exchanges")))], 1)
         hunt.put("long", [plan_case(plan, f"a long batch {k}") for k, plan in enumerate(long_plans(Draw(seed + " long batches")))], 1)
     hunt.put("batches", plan_cases(Draw(seed + " batches"), cases * 6 // 20), 50)

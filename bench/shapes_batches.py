@@ -176,6 +176,12 @@ def some_rows(draw: Draw, product: Product, shape: Shape) -> list[Row]:
     return rows[:max(kept, 1)]
 
 
+def most_applications(draw: Draw) -> list[Row]:
+    """A record that has as many applications as a file has rows."""
+    aids = [f"{k:05}".encode() for k in range(MOST_ROWS)]
+    return [Row("R1", aid, draw.randint(1, 999), draw.randrange(3), draw.randrange(2), 0x8000, draw.filled(draw.size(0, 9))) for aid in aids]
+
+
 def by_record(rows: list[Row]) -> dict[str, list[Row]]:
     made: dict[str, list[Row]] = {}
     for row in rows:
@@ -415,10 +421,11 @@ def plan_cases(draw: Draw, count: int) -> list[Case]:
 
 
 def long_plans(draw: Draw) -> list[Plan]:
-    """A file of the most bytes, and files of more."""
-    plans = []
+    """A record of the most applications, files of the most bytes, and files of more."""
+    product, rows = Product(16, 31, False), most_applications(draw)
+    plans = [Plan(product, text_of(lines_of(draw, rows)), None, rows)]
     for size in (MOST_FILE, MOST_FILE - 1, MOST_FILE, draw.randint(1_000_000, MOST_FILE)):
         product = some_product(draw)
         lines, rows = whole_file(draw, product, size)
         plans.append(Plan(product, text_of(lines), None, rows))
-    return plans + [Plan(plan.product, plan.raw + b"\n" * draw.size(2, 100_000), None, None) for plan in plans[:2]]
+    return plans + [Plan(plan.product, plan.raw + b"\n" * draw.size(2, 100_000), None, None) for plan in plans[1:3]]

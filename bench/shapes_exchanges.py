@@ -2,8 +2,8 @@
 import json
 from typing import NamedTuple
 
-from shapes_batches import (FAULTS, SELDOM, SMALL, Plan, Product, Row, Shape, application, by_record, lines_of, measured, some_product,
-                            some_rows, text_of, whole_file, with_fault)
+from shapes_batches import (FAULTS, SELDOM, SMALL, Plan, Product, Row, Shape, application, by_record, lines_of, measured, most_applications,
+                            some_product, some_rows, text_of, whole_file, with_fault)
 from shapes_draw import COUNTS, MOST_FILE, MOST_RECORDS, MOST_SERIAL, Case, Draw, largest, packed
 from shapes_machine import Books, refused
 
@@ -324,12 +324,12 @@ def long_file(draw: Draw, size: int) -> Talk:
     return talk
 
 
-def long_session(draw: Draw, product: Product, rows: list[Row]) -> Talk:
+def long_session(draw: Draw, product: Product, rows: list[Row], client: str = "m1") -> Talk:
     """The first two records of a batch, made to their ends."""
     plan = Plan(product, text_of(lines_of(draw, rows)), None, rows)
     talk = stocked(draw, product, plan, 10)
     for k in range(min(2, len(by_record(rows)))):
-        drive(talk, "m1", "B1", 10 + k)
+        drive(talk, client, "B1", 10 + k)
     talk.accounts("B1", "P1")
     return talk
 
@@ -344,6 +344,11 @@ def long_sessions(draw: Draw) -> list[Talk]:
         for shape in (Shape(1, (1, 2), (10, 40), (1, 3), 60), Shape(1, (1, 1), (1, 1), (200, 999), 9)):
             talks.append(long_session(draw, product, some_rows(draw, product, shape)))
     return talks
+
+
+def longest_session(draw: Draw, client: str) -> Talk:
+    """A card of the most applications."""
+    return long_session(draw, Product(255, 0, False), most_applications(draw), client)
 
 
 def long_faults(draw: Draw) -> Talk:

@@ -1,7 +1,7 @@
 -- The plain machine hands out commands in the order of their sequence.
-use Rattle.std.proofs.Common.{◌≡◌, ◌∙◌, ◌+◌, ◌==◌, ℕ, Bool, true, false, List, length, Option, Some, None, Result, Ok, Err, refl, sym, ap}
+use Rattle.std.proofs.Common.{◌≡◌, ◌∙◌, ◌+◌, ◌==◌, ℕ, true, List, length, Option, Some, None, Result, Ok, Err, refl, sym, ap}
 use Rattle.std.specs.Prelude.{bytes_eq, not, nat_le, slice_get}
-use Rattle.std.proofs.lemmas.Bool.{cond_both, false≢true}
+use Rattle.std.proofs.lemmas.Bool.{cond_both, not-false}
 use borrow.Author.Tests.{eqb-true}
 use Rattle.store_data.specs.declared.row.Product.{Product}
 use Rattle.store_data.specs.declared.row.Row.{Row}
@@ -69,10 +69,6 @@ open_fits f machine b blank = batch_fits f b _ (λ kept.
     option_both (first_waiting f b) _ _ (Fits f) tt (λ r first. let c = first_command f b r first in (c.0, c.1, ap command_bytes c.1))))))
     (λ s runs. tt))
 
-is_true : (b : Bool) → not b ≡ false → b ≡ true
-is_true true h = refl
-is_true false h = absurd (false≢true (sym h))
-
 -- a session that is the client's and runs
 session_fits : (f : Facts) (client : List ℕ) (s : ℕ) (act : Session → Outcome)
     → ((x : Session) → session_numbered f.sessions s ≡ Some x → is_running (session_state f x) ≡ true → Fits f (act x))
@@ -80,7 +76,7 @@ session_fits : (f : Facts) (client : List ℕ) (s : ℕ) (act : Session → Outc
 session_fits f client s act acts =
     option_both (session_numbered f.sessions s) _ _ (Fits f) tt (λ x is.
     cond_both {A = Outcome} (not (bytes_eq x.machine client)) _ _ (Fits f) (λ yes. tt) (λ no.
-    cond_both {A = Outcome} (not (is_running (session_state f x))) _ _ (Fits f) (λ yes. tt) (λ no. acts x is (is_true (is_running (session_state f x)) no))))
+    cond_both {A = Outcome} (not (is_running (session_state f x))) _ _ (Fits f) (λ yes. tt) (λ no. acts x is (not-false (is_running (session_state f x)) no))))
 
 answer_fits : (f : Facts) → IsSound f → (client : List ℕ) (s k sw : ℕ) → Fits f (step_answer f client s k sw)
 answer_fits f sound client s k sw = session_fits f client s _ (λ x is runs.

@@ -3,7 +3,7 @@ use Rattle.std.proofs.Common.{◌≡◌, ◌≤◌, ◌<◌, ◌==◌, ◌&&◌,
 use Rattle.std.specs.Prelude.{bytes_eq, find, filter, is_some, nat_le, option_map, unwrap_or}
 use Rattle.std.specs.Option.{option_or}
 use Rattle.std.proofs.lemmas.Bool.{and_parts, cases_Bool, cond_both, cond-true, cond-false, eqb-true, false≢true}
-use Rattle.std.proofs.lemmas.List.Elements.{All-cons, All-filter, All-head, All-nil, All-push, All-tail}
+use Rattle.std.proofs.lemmas.List.Elements.{All-filter, All-head, All-push, All-tail, filter_passes}
 use Rattle.std.proofs.lemmas.List.Folds.{find-append}
 use Rattle.std.proofs.lemmas.Option.{none-some, same_Some}
 use Rattle.std.proofs.lemmas.Slice.Eq.{bytes_eq-Decides}
@@ -20,13 +20,6 @@ pub filter_all : {X : Type 0} (p : X → Bool) (xs : List X) → All (λ x. p x 
 filter_all p [] all = refl
 filter_all p (x ∷ xs) all =
     ap (λ b. cond b (x ∷ filter p xs) (filter p xs)) (All-head (λ x. p x ≡ true) x xs all) ∙ ap (λ ys. x ∷ ys) (filter_all p xs (All-tail (λ x. p x ≡ true) x xs all))
-
-all_filter : {X : Type 0} (p : X → Bool) (xs : List X) → All (λ x. p x ≡ true) (filter p xs)
-all_filter p [] = All-nil (λ x. p x ≡ true)
-all_filter p (x ∷ xs) = elim (cases_Bool (p x)) [
-  | inl hit ↦ subst (All (λ x. p x ≡ true)) (sym (ap (λ b. cond b (x ∷ filter p xs) (filter p xs)) hit)) (All-cons (λ x. p x ≡ true) x (filter p xs) hit (all_filter p xs))
-  | inr miss ↦ subst (All (λ x. p x ≡ true)) (sym (ap (λ b. cond b (x ∷ filter p xs) (filter p xs)) miss)) (all_filter p xs)
-]
 
 -- a number is among those that are kept where it has an entry
 pub among_kept : (kept : List Entry) (a : Arrived) → is_among (map number_of kept) a ≡ is_some (entry_of kept a.client a.number)
@@ -73,7 +66,7 @@ decided_by c a P are released again new =
 
 pub above_after : (c : Contents) (a : Arrived) → AreAbove c → AreAbove (contents_after c (a ∷ []))
 above_after c a are = decided_by c a (λ d told. AreAbove d) are (λ released. are) (λ e no some. are)
-    (λ no none. all_filter (is_above (marks_with c.marks a)) (c.kept ++ entry_with a (reply_to c.facts c.marks a) ∷ []))
+    (λ no none. filter_passes (is_above (marks_with c.marks a)) (c.kept ++ entry_with a (reply_to c.facts c.marks a) ∷ []))
 
 -- what holds of each entry, and of a new one
 pub kept_with : (c : Contents) (a : Arrived) (P : Entry → Type 0) → All P c.kept → P (entry_with a (reply_to c.facts c.marks a)) → All P (contents_with c a).kept
@@ -162,7 +155,7 @@ mark_below marks client number upto n most near low =
     ])
 
 pub with_above : (c : Contents) (a : Arrived) → AreAbove (contents_with c a)
-with_above c a = all_filter (is_above (marks_with c.marks a)) (c.kept ++ entry_with a (reply_to c.facts c.marks a) ∷ [])
+with_above c a = filter_passes (is_above (marks_with c.marks a)) (c.kept ++ entry_with a (reply_to c.facts c.marks a) ∷ [])
 
 -- what is found is of the client and has the number
 pub entry_is : (kept : List Entry) (client : List ℕ) (number : ℕ) (e : Entry) → entry_of kept client number ≡ Some e → (e.client ≡ client) × (e.number ≡ number)

@@ -2,7 +2,7 @@
 use Rattle.std.proofs.Common.{◌≡◌, ◌<◌, ◌≤◌, ◌^◌, ◌==◌, ℕ, Bool, true, false, cond, List, [], ◌∷◌, ◌++◌, length, Some, None, refl, sym, ap, subst, ◌∙◌, codes, decimal, arith, append_assoc, append-nil, length-append}
 use Rattle.std.specs.Prelude.{◌&&◌, not, nat_lt, nat_le, slice_index, IfOk, IsTrue, OnOk, Result, Ok, Err}
 use Rattle.std.specs.List.{list_all}
-use Rattle.std.specs.Char.{digit_value, is_ascii, is_ascii_digit}
+use Rattle.std.specs.Char.{digit_value, is_ascii}
 use Rattle.std.specs.Str.Parse.{AllDigits, digits_value}
 use Rattle.std.proofs.lemmas.Bool.{and_parts}
 use Rattle.std.proofs.lemmas.Bool.Decides.{nat_tests}
@@ -15,6 +15,7 @@ use Rattle.job_core.specs.declared.request.Request.TheVariants as request
 use Rattle.text_io.specs.Inputs.{most_input}
 use Rattle.heads.specs.Messages.{Brings, IsHeardAs, MessageParts}
 use Rattle.heads.specs.RequestHeads.{IsHeardBefore, IsTarget, is_visible, posted, request_head}
+use Rattle.heads.proofs.SentHeads.{digits_are_digits}
 use Rattle.asks.specs.Asks.{arrival_of, ask_with, asked_at, import_of, import_tail, is_number, name_in, number_in, or_malformed}
 use Rattle.asks.specs.Meant.{Means, meant_by}
 use Rattle.asks.specs.Posts.{post_with, posted_with, target_with}
@@ -102,13 +103,6 @@ import_route client batch product number name b p few =
 name_is_read : (n : List ℕ) → IsTrue (is_name n) → name_in n ≡ Some n
 name_is_read n h = ap (λ (t : Bool). cond t (Some n) None) h
 
-digit_is_digit : (d : ℕ) → digit_value d < 10 → is_ascii_digit d ≡ true
-digit_is_digit d h = grind (arith, nat_tests)
-
-digits_are_digits : (ds : List ℕ) → AllDigits 10 ds → list_all is_ascii_digit ds ≡ true
-digits_are_digits [] h = refl
-digits_are_digits (d ∷ ds) h = ap (λ (t : Bool). t && list_all is_ascii_digit ds) (digit_is_digit d h.0) ∙ digits_are_digits ds h.1
-
 decimal_is_number : (n : ℕ) → 1 ≤ n → n < 10 ^ 18 → is_number (decimal n) ≡ true
 decimal_is_number n some few =
     let small : n < 2 ^ 64 = omega (arith, few) in
@@ -137,11 +131,11 @@ plain_is_visible (b ∷ xs) h =
 name_is_visible : (n : List ℕ) → IsTrue (is_name n) → list_all is_visible n ≡ true
 name_is_visible n h = plain_is_visible n (name_plain n h)
 
-name_is_short : (n : List ℕ) → IsTrue (is_name n) → length n ≤ 32
+pub name_is_short : (n : List ℕ) → IsTrue (is_name n) → length n ≤ 32
 name_is_short n h = grind (arith, nat_tests)
 
-few : (n : ℕ) → n < 2 ^ 64 → length (decimal n) ≤ 20
-few n h = length-decimal-le 20 n (omega arith) (omega (arith, h)) h
+pub decimal_is_short : (n : ℕ) → n < 2 ^ 64 → length (decimal n) ≤ 20
+decimal_is_short n h = length-decimal-le 20 n (omega arith) (omega (arith, h)) h
 
 target_is_one : (client : List ℕ) (number : ℕ) (tail : List ℕ) → IsTrue (is_name client) → number < 2 ^ 64 → list_all is_visible tail ≡ true → IsTarget (target_with client number tail)
 target_is_one client number tail name small t =
@@ -152,7 +146,7 @@ head_is_short : (client : List ℕ) (number : ℕ) (tail : List ℕ) (size : ℕ
 unfolding request_head
 head_is_short client number tail size name small t b =
     let fits : size < 2 ^ 64 = omega (arith, b) in
-    simp length-append (omega (arith, name_is_short client name, few number small, few size fits, t))
+    simp length-append (omega (arith, name_is_short client name, decimal_is_short number small, decimal_is_short size fits, t))
 
 pub post_is_heard : (client : List ℕ) (number : ℕ) (tail body text : List ℕ) → IsTrue (is_name client) → number < 2 ^ 64 → list_all is_visible tail ≡ true → length tail ≤ 72
     → (IsTarget (target_with client number tail) → length body ≤ most_input → length (request_head (target_with client number tail) (length body)) ≤ 8192 → IsHeardBefore (target_with client number tail) (length body))

@@ -5,6 +5,7 @@ use Rattle.std.specs.List.{before_first, cons_option, filter_map, find}
 use Rattle.std.proofs.lemmas.List.{length-append}
 use Rattle.std.proofs.lemmas.List.Elements.{filter_map-append}
 use Rattle.std.proofs.lemmas.List.Sums.{fold_push, take_while-cons}
+use Rattle.dgi.specs.Coding.{◌>>=◌}
 use Rattle.store_data.specs.Groups.{first_appearances, with_key}
 use Rattle.store_data.specs.declared.row.Row.{Row}
 use Rattle.batch_import.specs.declared.fault.Kind.{Kind}
@@ -15,7 +16,7 @@ use Rattle.batch_import.specs.Fields.{Values, field, name_of_text, row_of_values
 use Rattle.batch_import.specs.Kinds.{row_kinds}
 use Rattle.batch_import.specs.Records.{records_of}
 use Rattle.batch_import.specs.Rows.{row_then}
-use Rattle.batch_import.specs.RowByRow.{◌>>=◌, Before, after_header, as_record, data_rows, file_rows, first_then, header_of, or_fault, row_of, typed_of, with_row, within_limits}
+use Rattle.batch_import.specs.RowByRow.{Before, after_header, as_record, data_rows, file_rows, first_then, header_of, or_fault, row_of, typed_of, with_row, within_limits}
 use Rattle.batch_import.specs.RowFaults.{PlacedRow, breaks_check, first_fault, header_fault, is_header, or_else, placed, record_names, row_fault, row_has, told_at}
 
 -- ---- one row

@@ -22,7 +22,7 @@ or_else-none : {A : Type 0} (o more : Option A) → or_else o more ≡ None → 
 or_else-none None more e = (refl, e)
 or_else-none (Some x) more e = absurd (none-some x (sym e))
 
-told-none : (n : ℕ) (o : Option Kind) → told_at n o ≡ None → o ≡ None
+pub told-none : (n : ℕ) (o : Option Kind) → told_at n o ≡ None → o ≡ None
 told-none n None e = refl
 told-none n (Some k) e = absurd (cc)
 
@@ -40,7 +40,7 @@ there None e = absurd (cc)
 there (Some x) e = (x, refl)
 
 -- none of these kinds is told, so none of them holds
-none_holds : (has : Kind → Bool) (before after : List Kind) (k : Kind) → find has (before ++ k ∷ after) ≡ None → has k ≡ false
+pub none_holds : (has : Kind → Bool) (before after : List Kind) (k : Kind) → find has (before ++ k ∷ after) ≡ None → has k ≡ false
 none_holds has [] after k e = (passed (has k) k (find has after) e).0
 none_holds has (x ∷ before) after k e = none_holds has before after k (passed (has x) x (find has (before ++ k ∷ after)) e).1
 

@@ -1,5 +1,5 @@
 -- The rows of a batch file without a fault are in their ranges, and so is the row of a fault.
-use Rattle.std.proofs.Common.{◌≡◌, ◌≤◌, ◌<◌, ◌+◌, ◌&&◌, ℕ, Bool, true, false, List, [], ◌∷◌, ◌++◌, length, length-append, All, Option, Some, None, Result, Ok, Err, refl, sym, ap, ◌∙◌, subst, inl, inr, arith}
+use Rattle.std.proofs.Common.{◌≡◌, ◌≤◌, ◌<◌, ◌+◌, ◌&&◌, ℕ, Bool, true, List, [], ◌∷◌, ◌++◌, length, length-append, All, Option, Some, None, Result, Ok, Err, refl, sym, ap, ◌∙◌, subst, inl, inr, arith}
 use Rattle.std.specs.Prelude.{nat_le, is_some, IsTrue}
 use Rattle.std.specs.List.{cons_option, enumerate_from, filter_map, find, list_all, position_or_len}
 use Rattle.std.specs.Char.{is_ascii_digit}
@@ -27,6 +27,7 @@ use Rattle.batch_import.specs.RowFaults.{PlacedRow, first_fault, header_fault, o
 use Rattle.batch_import.specs.Kinds.{row_kinds}
 use Rattle.batch_import.specs.Records.{records_of}
 use Rattle.batch_import.proofs.WalkLemmas.{coming_of-few, planned_some}
+use Rattle.batch_import.proofs.MarkLemmas.{none_holds, told-none}
 
 -- a row as it is read: with a name, and with bytes
 pub record IsTyped (row : Row) : Type 0 where
@@ -191,31 +192,16 @@ batch_typed p raw rows is = at (coming_of p.check raw).fault is
 
 -- ---- the row of a fault
 
--- no kind before it is told, so neither is this one
-none_of : (has : Kind → Bool) (before after : List Kind) (k : Kind) → find has (before ++ k ∷ after) ≡ None → has k ≡ false
-none_of has [] after k none = elim (cases_Bool (has k)) [
-  | inl hit ↦ absurd (none-some k (sym none ∙ cond-true (has k) (Some k) (find has after) hit))
-  | inr miss ↦ miss
-]
-none_of has (x ∷ before) after k none = elim (cases_Bool (has x)) [
-  | inl hit ↦ absurd (none-some x (sym none ∙ cond-true (has x) (Some x) (find has (before ++ k ∷ after)) hit))
-  | inr miss ↦ none_of has before after k (sym (cond-false (has x) (Some x) (find has (before ++ k ∷ after)) miss) ∙ none)
-]
-
 told_row : (n : ℕ) (o : Option Kind) (fault : RowFault) → told_at n o ≡ Some fault → fault.row ≡ n
 told_row n None fault is = absurd (none-some fault is)
 told_row n (Some k) fault is = sym (ap (λ (f : RowFault). f.row) (same_Some _ fault is))
-
-told_none : (n : ℕ) (o : Option Kind) → told_at n o ≡ None → o ≡ None
-told_none n None is = refl
-told_none n (Some k) is = absurd (none-some _ (sym is))
 
 -- behind a row without a fault there is room for another
 room : (check : Bool) (row : PlacedRow) → row_fault check row ≡ None → length row.before < 4096
 room check row none =
     let before = kind.NotSixFields ∷ kind.Header ∷ kind.RecordName ∷ kind.Aid ∷ kind.Rank ∷ kind.Mark ∷ kind.Grouping ∷ kind.NotARecord ∷ [] in
     leb-false 4096 (length row.before)
-    (none_of (row_has check row) before (kind.TooManyRecords ∷ []) kind.TooManyRows (told_none (length row.before + 2) (find (row_has check row) row_kinds) none))
+    (none_holds (row_has check row) before (kind.TooManyRecords ∷ []) kind.TooManyRows (told-none (length row.before + 2) (find (row_has check row) row_kinds) none))
 
 placed_fault : (marks : Marks) (check : Bool) (before rest : List (List (List ℕ))) (fault : RowFault) → length before ≤ 4096
     → first_fault (row_fault check) (placed marks before rest) ≡ Some fault → fault.row ≤ 4098

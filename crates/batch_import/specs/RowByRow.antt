@@ -1,5 +1,6 @@
 -- A step on the way: what comes of a file's rows, in the order in which they are read and tested.
 use Rattle.std.specs.Prelude.{◌==◌, ◌+◌, ◌&&◌, ℕ, Bool, not, List, [], ◌∷◌, length, nat_le, nat_lt, Option, Some, None, Result, Ok, Err, if◌then◌else◌}
+use Rattle.dgi.specs.Coding.{◌>>=◌}
 use Rattle.store_data.specs.Groups.{with_key}
 use Rattle.store_data.specs.declared.row.Row.{Row}
 use Rattle.batch_import.specs.declared.fault.Kind.{Kind}
@@ -7,12 +8,6 @@ use Rattle.batch_import.specs.declared.fault.Kind.TheVariants as kind
 use Rattle.batch_import.specs.Batch.{Coming, fault_at, no_more}
 use Rattle.batch_import.specs.Fields.{Values, three_marks, values_of}
 use Rattle.batch_import.specs.RowFaults.{breaks_check, is_header}
-
--- the ? of the logic: the second step, if the first gave a value
-infixl 10 ◌>>=◌
-abbrev pub ◌>>=◌ : {A B : Type 0} → Result A Kind → (A → Result B Kind) → Result B Kind
-(Ok x) >>= f = f x
-(Err k) >>= f = Err k
 
 -- the value, or the fault where there is none
 abbrev pub or_fault : {A : Type 0} → Option A → Kind → Result A Kind

@@ -87,7 +87,7 @@ digits_are_seen : (ds : List ℕ) → AllDigits 10 ds → are_seen ds ≡ true
 digits_are_seen [] h = refl
 digits_are_seen (d ∷ ds) h = ap (λ (t : Bool). t && are_seen ds) (digit_is_seen d h.0) ∙ digits_are_seen ds h.1
 
-digits_are_digits : (ds : List ℕ) → AllDigits 10 ds → list_all is_ascii_digit ds ≡ true
+pub digits_are_digits : (ds : List ℕ) → AllDigits 10 ds → list_all is_ascii_digit ds ≡ true
 digits_are_digits [] h = refl
 digits_are_digits (d ∷ ds) h = ap (λ (t : Bool). t && list_all is_ascii_digit ds) (digit_is_digit d h.0) ∙ digits_are_digits ds h.1
 

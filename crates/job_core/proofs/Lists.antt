@@ -73,12 +73,6 @@ module _ {X : Type 0} (p : X → Bool) where
   pub find_kept : (xs ys : List X) (x : X) → find p xs ≡ Some x → find p (xs ++ ys) ≡ Some x
   find_kept xs ys x e = find-append p xs ys ∙ ap (λ o. option_or o (find p ys)) e
 
-  pub list_any-false : (xs : List X) → list_any p xs ≡ false → All (λ x. p x ≡ false) xs
-  list_any-false [] none = All-nil (λ x. p x ≡ false)
-  list_any-false (y ∷ xs) none =
-      let parts = or_parts (p y) (list_any p xs) none in
-      All-cons (λ x. p x ≡ false) y xs parts.0 (list_any-false xs parts.1)
-
   -- ---- counts and tests around one place
 
   pub count_by-at : (xs ys : List X) (x : X) → count_by p (xs ++ x ∷ ys) ≡ count_by p xs + (cond (p x) 1 0 + count_by p ys)
@@ -114,6 +108,11 @@ module _ {X : Type 0} (p : X → Bool) where
   map_filter-at g xs ys x =
       ap (map g) (filter-append p xs (x ∷ ys)) ∙ map-append g (filter p xs) (filter p (x ∷ ys))
       ∙ elim (cases_Bool (p x)) [ inl hit ↦ rw hit | inr miss ↦ rw miss ]
+
+pub item_there : {X : Type 0} (xs : List X) (i : ℕ) → i < length xs → (x : X) × (slice_get xs i ≡ Some x)
+item_there [] i within = absurd (omega arith)
+item_there (x ∷ xs) zero within = (x, refl)
+item_there (x ∷ xs) (suc i) within = item_there xs i (omega arith)
 
 pub slice_get-append_left : {X : Type 0} (xs ys : List X) (k : ℕ) → k < length xs → slice_get (xs ++ ys) k ≡ slice_get xs k
 slice_get-append_left [] ys k within = absurd (omega arith)

@@ -5,12 +5,13 @@ use Rattle.std.specs.List.{list_any}
 use Rattle.std.proofs.lemmas.Bool.{both_ways, false_from_ne_true, ltb-false, or_from}
 use Rattle.std.proofs.lemmas.List.Folds.{list_any_none}
 use Rattle.std.proofs.lemmas.List.Sums.{sum_by-le-sum_by}
+use Rattle.store_data.proofs.IsPlanLemmas.{All-from_list_any}
 use Rattle.job_core.specs.declared.facts.SessionState.{SessionState}
 use Rattle.job_core.specs.declared.facts.SessionState.TheVariants as session
 use Rattle.job_core.specs.declared.facts.RecordState.TheVariants as rec
 use Rattle.job_core.specs.Sound.{IsSoundRecord, has_card}
 use Rattle.job_core.specs.States.{is_finished, is_good, is_running, is_spoiled, state_by}
-use Rattle.job_core.proofs.Lists.{count_by-at, count_by_any, count_by_none, list_any-false, list_any-there}
+use Rattle.job_core.proofs.Lists.{count_by-at, count_by_any, count_by_none, list_any-there}
 
 -- a state has a card or is spoiled
 card_or_spoiled : (t : SessionState) → cond (has_card t) 1 0 + cond (is_spoiled t) 1 0 ≡ 1
@@ -45,7 +46,7 @@ pub open_parts : (states : List SessionState) (withdrawn : Bool) (remakes : ℕ)
     → (list_any has_card states ≡ false) × (withdrawn ≡ false) × (ltb remakes (count_by is_spoiled states) ≡ failed)
 open_parts states withdrawn remakes failed stands =
     let parts = open_tests (list_any is_good states) (list_any is_running states) withdrawn (ltb remakes (count_by is_spoiled states)) failed stands in
-    (list_any_none has_card states (λ k d within. or_from _ _ (list_any-false is_good states parts.0 k d within) (list_any-false is_running states parts.1 k d within)), parts.2, parts.3)
+    (list_any_none has_card states (λ k d within. or_from _ _ (All-from_list_any is_good states parts.0 k d within) (All-from_list_any is_running states parts.1 k d within)), parts.2, parts.3)
 
 -- the running one of a record may become any
 pub record_kept : (before after : List SessionState) (t : SessionState) (withdrawn : Bool) (remakes : ℕ)

@@ -1,14 +1,13 @@
 -- A running session, by its record's plan: its next command, and what a word makes of it.
-use Rattle.std.proofs.Common.{◌≡◌, ◌≤◌, ◌<◌, ◌^◌, ℕ, zero, suc, ◌+◌, ◌-◌, Bool, true, false, not, eqb, List, [], ◌∷◌, ◌++◌, length, Option, Some, None, refl, sym, ap, ◌∙◌, subst, inl, inr, arith, length-append, All}
+use Rattle.std.proofs.Common.{◌≡◌, ◌≤◌, ◌<◌, ◌^◌, ℕ, ◌+◌, ◌-◌, Bool, true, false, not, eqb, List, [], ◌∷◌, ◌++◌, length, Option, Some, None, refl, sym, ap, ◌∙◌, subst, inl, inr, arith, length-append, All}
 use Rattle.std.specs.Prelude.{IfSome, if◌then◌else◌, option_and_then, option_map, slice_get, unwrap_or}
 use Rattle.std.proofs.lemmas.Bool.{cases_lt, cond-true, cond-false, eqb-false, eq-eqb, ne_eqb}
-use Rattle.std.proofs.lemmas.List.{length-map}
 use Rattle.std.proofs.lemmas.Option.{none-some, same_Some, slice_get-map, slice_get_within}
 use Rattle.store_data.specs.declared.cursor.Cursor.{Cursor}
 use Rattle.store_data.specs.Cursor.{cursor_at, cursors_of, is_tolerant_last_at, select_cursor}
 use Rattle.store_data.specs.declared.status.Class.TheVariants as status
 use Rattle.store_data.specs.Sequence.{Command, Plan, commands_of, goes_on, sequence}
-use Rattle.store_data.proofs.CursorLemmas.{length-cursors_of}
+use Rattle.store_data.proofs.CursorLemmas.{length-cursors_of, length-sequence}
 use Rattle.job_core.specs.declared.change.Change.TheVariants as change
 use Rattle.job_core.specs.declared.facts.RecordState.TheVariants as rec
 use Rattle.job_core.specs.declared.facts.SessionState.{SessionState}
@@ -21,13 +20,9 @@ use Rattle.job_core.specs.Sound.{IsRecord, IsSession, IsSound, Makes}
 use Rattle.job_core.specs.States.{command_at, command_bytes, commands_for, commands_under, first_waiting, going, goes_at, is_tolerant, is_waiting, last_stops, last_stops_from, plan_for, record_state, record_state_of, records_named, session_cursor, session_numbered, session_state, state_with}
 use Rattle.job_core.specs.Steps.{take_word}
 use Rattle.job_core.proofs.PlanLemmas.{plan_there}
-use Rattle.job_core.proofs.Lists.{All-there, found_among}
+use Rattle.job_core.proofs.Lists.{All-there, found_among, item_there}
 use Rattle.job_core.proofs.SessionLemmas.{session_split}
 use Rattle.job_core.proofs.SoundSessions.{running_parts, sound_word, waiting_is, word_after}
-
-pub length_sequence : (plan : Plan) → length (sequence plan) ≡ length (commands_of plan)
-unfolding sequence
-length_sequence plan = length-map (commands_of plan) (λ (c : Command). c.bytes)
 
 -- a command of the sequence, as its bytes
 bytes_of : (o : Option Command) (p : Option (List ℕ)) → p ≡ option_map (λ (c : Command). c.bytes) o → unwrap_or p [] ≡ command_bytes o
@@ -42,11 +37,6 @@ command_of_sequence plan n p e = bytes_of (slice_get (commands_of plan) n) p (e 
 pub command_under : (f : Facts) (b r : List ℕ) (plan : Plan) (n : ℕ) (p : Option (List ℕ)) → plan_for f b r ≡ Some plan
     → p ≡ slice_get (sequence plan) n → command_at f b r n ≡ unwrap_or p []
 command_under f b r plan n p there e = ap (λ o. command_bytes (slice_get (commands_under o) n)) there ∙ sym (command_of_sequence plan n p e)
-
-item_there : {X : Type 0} (xs : List X) (i : ℕ) → i < length xs → (x : X) × (slice_get xs i ≡ Some x)
-item_there [] i within = absurd (omega arith)
-item_there (x ∷ xs) zero within = (x, refl)
-item_there (x ∷ xs) (suc i) within = item_there xs i (omega arith)
 
 -- the cursor of a session whose words all go
 cursor_going : (f : Facts) (x : Session) (plan : Plan) (n : ℕ) (c : Cursor) → plan_for f x.batch x.rec ≡ Some plan
@@ -70,7 +60,7 @@ runs_there f s x sound there runs =
     let before : length x.words < length (commands_of plan.0) = omega (arith, few, differ, ap length commands) in
     let goes : last_stops (commands_of plan.0) x.words ≡ false = ap (λ cs. last_stops cs x.words) (sym commands) ∙ parts.0 in
     let many : going (commands_of plan.0) x.words ≡ length x.words = cond-false (last_stops (commands_of plan.0) x.words) (length x.words - 1) (length x.words) goes in
-    let at = item_there (cursors_of plan.0) (length x.words) (omega (arith, before, length-cursors_of plan.0 plan.2, length_sequence plan.0)) in (
+    let at = item_there (cursors_of plan.0) (length x.words) (omega (arith, before, length-cursors_of plan.0 plan.2, length-sequence plan.0)) in (
       plan.0,
       record {
         there = there;
@@ -84,7 +74,7 @@ runs_there f s x sound there runs =
 
 -- ---- one word more
 
-last_stops_push : (commands : List Command) (k : ℕ) (words : List ℕ) (sw : ℕ)
+pub last_stops_push : (commands : List Command) (k : ℕ) (words : List ℕ) (sw : ℕ)
     → last_stops_from commands k (words ++ sw ∷ []) ≡ not (goes_at commands (k + length words) sw)
 last_stops_push commands k [] sw = let e : k ≡ k + 0 = omega arith in ap (λ n. not (goes_at commands n sw)) e
 last_stops_push commands k (w ∷ []) sw = refl
@@ -154,7 +144,7 @@ module _ (f : Facts) (s sw : ℕ) (x : Session) (plan : Plan) (sound : IsSound f
     pub good_word : None ≡ slice_get (sequence plan) (k + 1) → Makes f (take_word f s k sw x) (reply.Good s) (change.AddsWord s k sw session.Good next)
     good_word none =
         let all : k + 1 ≡ length (commands_of plan) = elim (cases_lt (k + 1) (length (commands_of plan))) [
-          | inl more ↦ let item = item_there (sequence plan) (k + 1) (omega (arith, length_sequence plan)) in absurd (none-some item.0 (none ∙ item.1))
+          | inl more ↦ let item = item_there (sequence plan) (k + 1) (omega (arith, length-sequence plan)) in absurd (none-some item.0 (none ∙ item.1))
           | inr past ↦ omega (arith, is.before)
         ] in
         let full : eqb (k + 1) (length (commands_of plan)) ≡ true = eq-eqb (k + 1) (length (commands_of plan)) all in
@@ -167,7 +157,7 @@ module _ (f : Facts) (s sw : ℕ) (x : Session) (plan : Plan) (sound : IsSound f
     pub next_word : (command : List ℕ) → Some command ≡ slice_get (sequence plan) (k + 1)
         → Makes f (take_word f s k sw x) (reply.Next command (k + 1) s) (change.AddsWord s k sw session.Running next)
     next_word command more =
-        let within : k + 1 < length (commands_of plan) = omega (arith, length_sequence plan, slice_get_within (sequence plan) (k + 1) command (sym more)) in
+        let within : k + 1 < length (commands_of plan) = omega (arith, length-sequence plan, slice_get_within (sequence plan) (k + 1) command (sym more)) in
         let differ : eqb (k + 1) (length (commands_of plan)) ≡ false = ne_eqb (k + 1) (length (commands_of plan)) (λ e. omega (arith, within, e)) in
         let bytes : command_bytes (slice_get (commands_of plan) (k + 1)) ≡ command = sym (command_of_sequence plan (k + 1) (Some command) more) in
         makes (reply.Next command (k + 1) s) session.Running next

@@ -15,6 +15,7 @@ use Rattle.store_data.specs.Groups.{first_appearances}
 use Rattle.store_data.specs.Sequence.{IsProduct, Plan, plan_of}
 use Rattle.store_data.specs.declared.row.Product.{Product}
 use Rattle.store_data.specs.declared.row.Row.{Row}
+use Rattle.store_data.proofs.IsPlanLemmas.{All-from_list_any}
 use Rattle.batch_import.specs.Batch.{batch_of}
 use Rattle.batch_import.specs.Outlines.{AreBatchRows}
 use Rattle.job_core.specs.declared.facts.Lot.{Lot}
@@ -23,7 +24,7 @@ use Rattle.job_core.specs.declared.facts.RecordState.TheVariants.{Failed, Waitin
 use Rattle.job_core.specs.Facts.{Batch, Facts, RecordName, Session, no_facts, with_batch, with_close, with_discard, with_lot, with_product, with_remake, with_withdrawal}
 use Rattle.job_core.specs.States.{any_overlaps, batch_named, commands_for, commands_under, is_batch_finished, is_charged, is_closed, is_finished, is_in, is_record, is_running, is_spoiled, is_withdrawn, lot_named, lot_of, overlaps, plan_for, product_named, record_state, record_state_of, records_named, records_of, records_under, remakes_of, rows_of, rows_of_record, rows_under, session_state, state_by, state_with, states_of}
 use Rattle.job_core.specs.Sound.{AreApart, AreBatches, AreLots, AreProducts, AreSessions, AreTold, AreWords, IsBatch, IsLot, IsName, IsRecord, IsSession, IsSound, IsSoundRecord, charges, has_card, runs_on}
-use Rattle.job_core.proofs.Lists.{count_by_same, find-All, find_kept, list_all_same, list_any-false, map_same, named_once_push}
+use Rattle.job_core.proofs.Lists.{count_by_same, find-All, find_kept, list_all_same, map_same, named_once_push}
 use Rattle.job_core.proofs.RecordLemmas.{open_parts}
 
 -- ---- options
@@ -277,7 +278,7 @@ apart_push lots l none =
       | inl before ↦ inl (ltb-false l.first (m.first + m.count) before)
       | inr after ↦ inr (ltb-false m.first (l.first + l.count) after)
     ])
-    lots (list_any-false (overlaps l.first l.count) lots none)
+    lots (All-from_list_any (overlaps l.first l.count) lots none)
 
 pub sound_lot : (f : Facts) (l : Lot) (p : Product) → IsSound f → lot_named f.lots l.name ≡ None
     → product_named f.products l.product ≡ Some p → any_overlaps f.lots l.first l.count ≡ false
@@ -355,9 +356,9 @@ uncharged f blank none =
     All-append (λ a. a ≢ blank) (map (λ (s : Session). s.blank) f.sessions) f.discarded
     (All-map (λ a. a ≢ blank) (λ (s : Session). s.blank) f.sessions
     (All-weaker (λ (s : Session). eqb s.blank blank ≡ false) (λ (s : Session). s.blank ≢ blank) (λ s differ. eqb-false s.blank blank differ)
-    f.sessions (list_any-false (λ (s : Session). eqb s.blank blank) f.sessions parts.0)))
+    f.sessions (All-from_list_any (λ (s : Session). eqb s.blank blank) f.sessions parts.0)))
     (All-weaker (λ b. eqb b blank ≡ false) (λ b. b ≢ blank) (λ b differ. eqb-false b blank differ)
-    f.discarded (list_any-false (λ b. eqb b blank) f.discarded parts.1))
+    f.discarded (All-from_list_any (λ b. eqb b blank) f.discarded parts.1))
 
 pub sound_discard : (f : Facts) (blank : ℕ) (l : Lot) → IsSound f → lot_of f.lots blank ≡ Some l → is_charged f blank ≡ false → IsSound (with_discard f blank)
 sound_discard f blank l sound there new =
@@ -379,7 +380,7 @@ sound_close f b batch sound new there finished =
     let same : (c r : List ℕ) → TellsSame f g c r = λ c r. (sym (states_are f c r), refl, refl) in
     sound_then f f.sessions f.discarded f.remakes f.withdrawn g.closed sound sound.sessions.each sound.sessions.machines sound.sessions.charged_once sound.sessions.charged_lots
     (λ b r. records_among f b r sound.told) sound.told.remade sound.told.withdrawn sound.told.withdrawn_once
-    (all_pairs_push (λ c d. bytes_eq d c ≡ false) f.closed b sound.told.closed_once (list_any-false (bytes_eq b) f.closed new))
+    (all_pairs_push (λ c d. bytes_eq d c ≡ false) f.closed b sound.told.closed_once (All-from_list_any (bytes_eq b) f.closed new))
     (All-push (StaysFinished f g) f.closed b (still_finished f g sound.told (λ k d within. same _))
     (record { there = IsSome-Some (batch_named f.batches b) batch there; finished = finished; same = same b }))
 
@@ -428,7 +429,7 @@ withdrawn-other f b r c q miss =
 module _ (f : Facts) (b r : List ℕ) (sound : IsSound f) (unclosed : is_closed f b ≡ false) where
   -- a closed batch is another one
   closed_other : All (λ c. bytes_eq b c ≡ false) f.closed
-  closed_other = list_any-false (bytes_eq b) f.closed unclosed
+  closed_other = All-from_list_any (bytes_eq b) f.closed unclosed
 
   remade_record : IsOpen f b r true → IsSoundRecord (states_of f b r) (is_withdrawn f b r) (remakes_of f b r + 1)
   remade_record is =
@@ -489,6 +490,6 @@ sound_withdraw f b r failed sound unclosed stands =
     sound_then f f.sessions f.discarded f.remakes g.withdrawn f.closed sound sound.sessions.each sound.sessions.machines sound.sessions.charged_once sound.sessions.charged_lots
     (withdrawal_records f b r sound unclosed is.no_card) sound.told.remade
     (All-push (λ (n : RecordName). IsRecord f n.batch n.rec) f.withdrawn (record { batch = b; rec = r }) sound.told.withdrawn is.there)
-    (all_pairs_push (λ (m n : RecordName). is_record n.batch n.rec m ≡ false) f.withdrawn (record { batch = b; rec = r }) sound.told.withdrawn_once (list_any-false (is_record b r) f.withdrawn is.stays))
+    (all_pairs_push (λ (m n : RecordName). is_record n.batch n.rec m ≡ false) f.withdrawn (record { batch = b; rec = r }) sound.told.withdrawn_once (All-from_list_any (is_record b r) f.withdrawn is.stays))
     sound.told.closed_once
     (still_finished f g sound.told (λ k d within q. (refl, withdrawn-other f b r _ q (is_record-other b r _ q (closed_other f b r sound unclosed k d within)), refl)))

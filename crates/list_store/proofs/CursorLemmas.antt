@@ -1,38 +1,30 @@
 -- The cursors of a plan end where no segment stands.
-use Rattle.std.proofs.Common.{◌≡◌, ℕ, zero, suc, Bool, true, false, eqb, not, is_some, Option, ◌+◌, ◌<◌, ◌≤◌, List, [], ◌∷◌, ◌++◌, length, Some, None, sym, ap, ◌∙◌, subst, arith, inl, inr}
+use Rattle.std.proofs.Common.{◌≡◌, ℕ, zero, suc, Bool, true, false, eqb, not, is_some, Option, ◌+◌, ◌<◌, ◌≤◌, List, [], ◌∷◌, length, Some, None, sym, ap, ◌∙◌, subst, arith, inl, inr}
 use Rattle.std.specs.Prelude.{option_map}
 use Rattle.std.specs.List.{enumerate_from, flat_map, slice_get}
 use Rattle.std.proofs.lemmas.Bool.{cases_lt, eq-eqb, ne_eqb}
-use Rattle.std.proofs.lemmas.List.{get_or_push, length-map, length_push}
+use Rattle.std.proofs.lemmas.List.{length_push}
 use Rattle.std.proofs.lemmas.Option.{none-some, same_Some, slice_get-get_or, slice_get_past, slice_get_within}
 use Rattle.store_data.specs.declared.cursor.Cursor.{Cursor}
 use Rattle.store_data.specs.declared.cursor.SegmentView.{SegmentView}
 use Rattle.store_data.specs.Cursor.{IsCursor, PlacedSegment, application_cursors, cursor_at, cursors_of, is_tolerant_last_at, segment_at, select_cursor, shown}
 use Rattle.store_data.specs.Sequence.{Command, IsPlan, Plan, commands_of, goes_on, sequence}
 use Rattle.job_core.specs.States.{goes_at, is_tolerant, last_stops_from}
-use Rattle.store_data.proofs.CursorLemmas.{fits_there, length-cursors_of, segment_before, tolerance_there}
-
-slice_get-push : {X : Type 0} (xs : List X) (y : X) (k : ℕ) → k ≡ length xs → slice_get (xs ++ y ∷ []) k ≡ Some y
-slice_get-push xs y k e =
-    slice_get-get_or (xs ++ y ∷ []) k y (omega (arith, length_push xs y)) ∙ ap Some (get_or_push xs y y k (sym e))
+use Rattle.store_data.proofs.CursorLemmas.{fits_there, length-cursors_of, segment_before, tolerance_there, length-sequence, slice_get-middle}
 
 module _ (plan : Plan) (is : IsPlan plan) where
-  length-sequence : length (sequence plan) ≡ length (commands_of plan)
-  unfolding sequence
-  length-sequence = length-map (commands_of plan) (λ (c : Command). c.bytes)
-
   -- a cursor stands at a command or at the end
   cursor_within : (k : ℕ) (c : Cursor) → cursor_at plan k ≡ Some c → k ≤ length (sequence plan)
   cursor_within k c at = omega (arith, slice_get_within (cursors_of plan) k c at, length-cursors_of plan is)
 
   pub cursor_past : (k : ℕ) → length (commands_of plan) < k → cursor_at plan k ≡ None
-  cursor_past k past = slice_get_past (cursors_of plan) k (omega (arith, length-cursors_of plan is, length-sequence))
+  cursor_past k past = slice_get_past (cursors_of plan) k (omega (arith, length-cursors_of plan is, length-sequence plan))
 
   -- where no segment stands, the commands have ended
   pub end_at : (k : ℕ) (c : Cursor) → cursor_at plan k ≡ Some c → segment_at plan c.app c.segment ≡ None → k ≡ length (commands_of plan)
   end_at k c at none = elim (cases_lt k (length (sequence plan))) [
     | inl before ↦ let there = segment_before plan is k c at before in absurd (none-some there.0 (sym none ∙ there.1))
-    | inr after ↦ omega (arith, cursor_within k c at, length-sequence)
+    | inr after ↦ omega (arith, cursor_within k c at, length-sequence plan)
   ]
 
   end_cursor : (k : ℕ) (c : Cursor) → k ≡ length (sequence plan) → cursor_at plan k ≡ Some c → c ≡ select_cursor (length plan.applications)
@@ -41,7 +33,7 @@ module _ (plan : Plan) (is : IsPlan plan) where
       let before : List Cursor = flat_map (application_cursors plan.max) (enumerate_from 0 plan.applications) in
       let last : Cursor = select_cursor (length plan.applications) in
       let place : k ≡ length before = omega (arith, length-cursors_of plan is, length_push before last) in
-      same_Some c last (sym at ∙ slice_get-push before last k place)
+      same_Some c last (sym at ∙ slice_get-middle before last [] k place)
 
   pub IsCursor-at : (k : ℕ) (c : Cursor) → cursor_at plan k ≡ Some c → IsCursor c
   IsCursor-at k c at = elim (cases_lt k (length (sequence plan))) [
@@ -57,7 +49,7 @@ module _ (plan : Plan) (is : IsPlan plan) where
   past_at k none = elim (cases_lt (length (commands_of plan)) k) [
     | inl past ↦ past
     | inr within ↦
-        absurd (none-some _ (sym none ∙ slice_get-get_or (cursors_of plan) k (select_cursor 0) (omega (arith, length-cursors_of plan is, length-sequence))))
+        absurd (none-some _ (sym none ∙ slice_get-get_or (cursors_of plan) k (select_cursor 0) (omega (arith, length-cursors_of plan is, length-sequence plan))))
   ]
 
   pub not_end : (k : ℕ) → cursor_at plan k ≡ None → false ≡ eqb k (length (commands_of plan))

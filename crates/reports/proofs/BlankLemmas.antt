@@ -1,14 +1,11 @@
 -- A product's blanks: no blank is charged twice, and each that is charged lies in a lot.
-use Rattle.std.proofs.Common.{◌≡◌, ◌≢◌, ◌^◌, ℕ, zero, suc, ◌+◌, ◌<◌, ◌≤◌, ◌==◌, ◌||◌, Bool, true, false, cond, List, [], ◌∷◌, ◌++◌, length, map, All, Some, refl, sym, ap, subst, ◌∙◌, arith}
-use Rattle.std.specs.Prelude.{⊤, bytes_eq, count_by, filter, sum_by}
-use Rattle.std.specs.List.{flat_map, list_any}
+use Rattle.std.proofs.Common.{◌≡◌, ◌≢◌, ◌^◌, ℕ, ◌+◌, ◌<◌, ◌≤◌, Bool, true, false, cond, List, [], ◌∷◌, ◌++◌, length, map, All, Some, refl, sym, ap, subst, ◌∙◌, arith}
+use Rattle.std.specs.Prelude.{⊤, bytes_eq, count_by, filter}
+use Rattle.std.specs.List.{flat_map}
 use Rattle.std.specs.Cmp.{nat_eq_equiv}
 use Rattle.std.proofs.lemmas.Bool.{and_parts, eqb-true}
-use Rattle.std.proofs.lemmas.Bool.Decides.{Decides-eqb, nat_tests}
-use Rattle.std.proofs.lemmas.List.Concat.{flat_map-cons}
-use Rattle.std.proofs.lemmas.List.Folds.{list_any-append}
+use Rattle.std.proofs.lemmas.Bool.Decides.{Decides-eqb}
 use Rattle.std.proofs.lemmas.List.Kept.{AllPairs-filter}
-use Rattle.std.proofs.lemmas.List.{length-append}
 use Rattle.std.proofs.lemmas.List.Elements.{All-filter}
 use Rattle.std.proofs.lemmas.List.Sums.{count_by-le-length, length-filter, sum_by-cons, sum_by-le}
 use Rattle.std.proofs.lemmas.Map.Made.{IsDistinct-from_AllPairs, is_member-filter, length-le_from_is_member}
@@ -19,56 +16,12 @@ use Rattle.job_core.specs.Accounts.{blank_states, blank_totals, is_blank_of, is_
 use Rattle.job_core.specs.Facts.{Facts, Session}
 use Rattle.job_core.specs.Sound.{IsSound, charges}
 use Rattle.job_core.specs.States.{is_good, is_in, is_running, is_spoiled, lot_of, session_state}
+use Rattle.job_core.proofs.Serials.{has, has_first, has_later, length-all, serials_of}
 use Rattle.reports.specs.Accounts.{AreAllCounted, charged}
 
--- ---- the serials of lots
-
-abbrev serials : ℕ → ℕ → List ℕ
-serials first zero = []
-serials first (suc n) = first ∷ serials (first + 1) n
-
-abbrev serials_of : Lot → List ℕ
-serials_of l = serials l.first l.count
-
-length-serials : (first n : ℕ) → length (serials first n) ≡ n
-length-serials first zero = refl
-length-serials first (suc n) = ap suc (length-serials (first + 1) n)
-
-length-all : (lots : List Lot) → length (flat_map serials_of lots) ≡ sum_by (λ (l : Lot). l.count) lots
-length-all [] = refl
-length-all (l ∷ lots) =
-    ap length (flat_map-cons serials_of l lots) ∙ length-append (serials_of l) (flat_map serials_of lots)
-    ∙ (λ i. length-serials l.first l.count i + length-all lots i) ∙ sym (sum_by-cons (λ (m : Lot). m.count) l lots)
-
-abbrev has : List ℕ → ℕ → Bool
-has xs q = list_any (λ x. q == x) xs
-
-or_else : (a b : Bool) → (a ≡ false → b ≡ true) → (a || b) ≡ true
-or_else true b rest = refl
-or_else false b rest = rest refl
-
-or_second : (a b : Bool) → b ≡ true → (a || b) ≡ true
-or_second true b h = refl
-or_second false b h = h
-
-has_serial : (first n q : ℕ) → first ≤ q → q < first + n → has (serials first n) q ≡ true
-has_serial first zero q low high = absurd (omega arith)
-has_serial first (suc n) q low high =
-    or_else (q == first) (has (serials (first + 1) n) q) (λ other. has_serial (first + 1) n q (grind (arith, nat_tests)) (omega arith))
-
-in_lot : (q : ℕ) (l : Lot) → is_in q l ≡ true → has (serials_of l) q ≡ true
-in_lot q l h = has_serial l.first l.count q (grind (arith, nat_tests)) (grind (arith, nat_tests))
-
-has_first : (q : ℕ) (l : Lot) (ls : List Lot) → has (serials_of l) q ≡ true → has (flat_map serials_of (l ∷ ls)) q ≡ true
-has_first q l ls h =
-    ap (λ xs. has xs q) (flat_map-cons serials_of l ls) ∙ list_any-append (λ x. q == x) (serials_of l) (flat_map serials_of ls)
-    ∙ ap (λ b. b || has (flat_map serials_of ls) q) h
-
-has_later : (q : ℕ) (keeps : Bool) (l : Lot) (ls : List Lot) → has (flat_map serials_of ls) q ≡ true → has (flat_map serials_of (cond keeps (l ∷ ls) ls)) q ≡ true
-has_later q true l ls h =
-    ap (λ xs. has xs q) (flat_map-cons serials_of l ls) ∙ list_any-append (λ x. q == x) (serials_of l) (flat_map serials_of ls)
-    ∙ or_second (has (serials_of l) q) (has (flat_map serials_of ls) q) h
-has_later q false l ls h = h
+has_kept : (q : ℕ) (keeps : Bool) (l : Lot) (ls : List Lot) → has (flat_map serials_of ls) q ≡ true → has (flat_map serials_of (cond keeps (l ∷ ls) ls)) q ≡ true
+has_kept q true l ls h = has_later q l ls h
+has_kept q false l ls h = h
 
 none_true : false ≡ true → ⊥
 none_true h = subst (λ b. cond b ⊥ ⊤) h tt
@@ -79,8 +32,8 @@ among_lots p [] q h = absurd (none_true h)
 among_lots p (l ∷ lots) q h =
     let rest = filter (λ (m : Lot). bytes_eq m.product p) lots in
     elim (is_in q l) as (λ b. is_in q l ≡ b → is_lot_of p (cond b (Some l) (lot_of lots q)) ≡ true → has (flat_map serials_of (cond (bytes_eq l.product p) (l ∷ rest) rest)) q ≡ true) [
-      | true ↦ λ inside own. subst (λ keeps. has (flat_map serials_of (cond keeps (l ∷ rest) rest)) q ≡ true) (sym own) (has_first q l rest (in_lot q l inside))
-      | false ↦ λ outside own. has_later q (bytes_eq l.product p) l rest (among_lots p lots q own)
+      | true ↦ λ inside own. subst (λ keeps. has (flat_map serials_of (cond keeps (l ∷ rest) rest)) q ≡ true) (sym own) (has_first q l rest inside)
+      | false ↦ λ outside own. has_kept q (bytes_eq l.product p) l rest (among_lots p lots q own)
     ] refl h
 
 -- ---- what is charged

@@ -1,16 +1,8 @@
 -- A head and then a body.
-use Rattle.std.proofs.Common.{ℕ, List, ◌++◌, Option, Ok, Err, Result, sym, ap, ◌∙◌, append_assoc}
-use Rattle.std.proofs.KnownBytes.{Appends-trans}
-use Rattle.std.specs.Io.KnownBytes.{Appends}
-use Rattle.text_io.specs.declared.writing.WriteFailed.{WriteFailed}
-use Rattle.text_io.specs.Written.{AppendsBeginning, Writes}
+use Rattle.std.proofs.Common.{ℕ, List, ◌++◌, Option, sym, ap, ◌∙◌, append_assoc}
+use Rattle.text_io.specs.Written.{AppendsBeginning}
 
 -- a beginning of the head is one of both
 pub begins_both : (before after : Option (List ℕ)) (head body : List ℕ) → AppendsBeginning before after head → AppendsBeginning before after (head ++ body)
 begins_both before after head body (front, back, whole, appends) =
     (front, back ++ body, sym (append_assoc front back body) ∙ ap (λ (l : List ℕ). l ++ body) whole, appends)
-
-pub writes_both : (before mid after : Option (List ℕ)) (head body : List ℕ) (r : Result (Unit {0}) WriteFailed) → Appends before mid head → Writes mid after body r → Writes before after (head ++ body) r
-writes_both before mid after head body (Ok u) first rest = Appends-trans before mid after head body first rest
-writes_both before mid after head body (Err e) first (front, back, whole, appends) =
-    (head ++ front, back, append_assoc head front back ∙ ap (λ (l : List ℕ). head ++ l) whole, Appends-trans before mid after head front first appends)

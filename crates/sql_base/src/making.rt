@@ -4,7 +4,7 @@ ghost use Rattle.sqlite.specs.Held.{state};
 ghost use Rattle.sqlite.specs.State.{HasCleanDisk, Survives};
 ghost use Rattle.sql_base.specs.Columns.{no_schema};
 ghost use Rattle.sql_base.specs.Ends.{Wrote};
-ghost use Rattle.sql_base.specs.Making.{MakesTable};
+ghost use Rattle.sql_base.specs.Making.{MakesIndex, MakesTable};
 
 use sqlite::{Alter, Error, Transaction};
 use sqlite_schema::schema::Schema;
@@ -16,11 +16,15 @@ pub fn is_empty(schema: &Schema) -> bool
     schema.tables.is_empty() && schema.indexes.is_empty() && schema.views.is_empty()
 }
 
-/// Makes the table that a text defines, in an open transaction. A crash leaves nothing of it.
+/// Makes the table or the index that a text defines, in an open transaction. A crash leaves nothing
+/// of it.
 pub fn make<S: Alter>(tx: &mut Transaction<'_, S>, sql: &str) -> Result<usize, Error>
     ensures same_reference { tx.new.conn.ghost_name ≡ tx.old.conn.ghost_name }
     ensures made { HasCleanDisk (state S.Store tx.new.conn.now)
         → Wrote (MakesTable sql.now) (state S.Store tx.old.conn.now)
+        (state S.Store tx.new.conn.now) result }
+    ensures indexed { HasCleanDisk (state S.Store tx.new.conn.now)
+        → Wrote (MakesIndex sql.now) (state S.Store tx.old.conn.now)
         (state S.Store tx.new.conn.now) result }
     ensures survives { Survives (state S.Store tx.old.conn.now) (state S.Store tx.new.conn.now)
         (λ _. ⊥) }

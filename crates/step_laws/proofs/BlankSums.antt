@@ -6,6 +6,7 @@ use Rattle.std.proofs.lemmas.List.{get_or-map, length-map}
 use Rattle.std.proofs.lemmas.List.Elements.{All-head, All-tail, All-weaker}
 use Rattle.std.proofs.lemmas.List.Sums.{sum_by-cons}
 use Rattle.store_data.proofs.GroupLemmas.{bytes_eq-same, same-bytes_eq}
+use Rattle.store_data.proofs.PieceLemmas.{sum_by-agree}
 use Rattle.job_core.specs.declared.facts.Lot.{Lot}
 use Rattle.job_core.specs.declared.facts.SessionState.{SessionState}
 use Rattle.job_core.specs.declared.facts.SessionState.TheVariants as session
@@ -67,10 +68,6 @@ sum_by_both : {K : Type 0} (g h : K → ℕ) (ks : List K) → sum_by (λ k. g k
 sum_by_both g h [] = refl
 sum_by_both g h (k ∷ ks) = omega (arith, sum_by-cons (λ k. g k + h k) k ks, sum_by-cons g k ks, sum_by-cons h k ks, sum_by_both g h ks)
 
-sum_by_same : {K : Type 0} (g h : K → ℕ) (ks : List K) → ((k : K) → g k ≡ h k) → sum_by g ks ≡ sum_by h ks
-sum_by_same g h [] same = refl
-sum_by_same g h (k ∷ ks) same = omega (arith, sum_by-cons g k ks, sum_by-cons h k ks, same k, sum_by_same g h ks same)
-
 sum_by_nothing : {K : Type 0} (ks : List K) → sum_by (λ (k : K). 0) ks ≡ 0
 sum_by_nothing [] = refl
 sum_by_nothing {K = K} (k ∷ ks) = omega (arith, sum_by-cons (λ (k : K). 0) k ks, sum_by_nothing ks)
@@ -85,7 +82,7 @@ module _ {X K : Type 0} (fits : X → K → Bool) (p : X → Bool) (ks : List K)
   by_keys (x ∷ xs) each =
       let here = All-head IsOneKeys x xs each in
       let rest = by_keys xs (All-tail IsOneKeys x xs each) in
-      let split = sum_by_same (λ k. count_by (λ y. fits y k) (x ∷ xs)) (λ k. one (fits x k) + count_by (λ y. fits y k) xs) ks (λ k. sum_by-cons (λ y. one (fits y k)) x xs) in
+      let split = sum_by-agree (λ k. count_by (λ y. fits y k) (x ∷ xs)) (λ k. one (fits x k) + count_by (λ y. fits y k) xs) (λ k. sum_by-cons (λ y. one (fits y k)) x xs) ks in
       let both = sum_by_both (λ k. one (fits x k)) (λ k. count_by (λ y. fits y k) xs) ks in
       omega (arith, sum_by-cons (λ y. one (p y)) x xs, here, rest, split, both)
 
@@ -100,8 +97,8 @@ and_false false b miss = refl
 -- with a test that is no matter of the key
 count_beside : {K : Type 0} (fits : K → Bool) (p q : Bool) (ks : List K) → count_by fits ks ≡ one p → count_by (λ k. fits k && q) ks ≡ one (p && q)
 count_beside fits p q ks is = elim (cases_Bool q) [
-  | inl hit ↦ sum_by_same (λ k. one (fits k && q)) (λ k. one (fits k)) ks (λ k. and_true (fits k) q hit) ∙ is ∙ sym (and_true p q hit)
-  | inr miss ↦ sum_by_same (λ k. one (fits k && q)) (λ k. 0) ks (λ k. and_false (fits k) q miss) ∙ sum_by_nothing ks ∙ sym (and_false p q miss)
+  | inl hit ↦ sum_by-agree (λ k. one (fits k && q)) (λ k. one (fits k)) (λ k. and_true (fits k) q hit) ks ∙ is ∙ sym (and_true p q hit)
+  | inr miss ↦ sum_by-agree (λ k. one (fits k && q)) (λ k. 0) (λ k. and_false (fits k) q miss) ks ∙ sum_by_nothing ks ∙ sym (and_false p q miss)
 ]
 
 -- ---- batches by names, and lots by ranges
@@ -144,7 +141,7 @@ module _ (f : Facts) (p : List ℕ) (sound : IsSound f) where
       let fits : Batch → Bool = λ b. bytes_eq b.name x.batch in
       let of_product : Batch → Bool = λ b. bytes_eq b.product p in
       let turned : count_by (λ (b : Batch). bytes_eq x.batch b.name) (batches_of f p) ≡ count_by fits (batches_of f p) =
-      sum_by_same (λ (b : Batch). one (bytes_eq x.batch b.name)) (λ (b : Batch). one (fits b)) (batches_of f p) (λ b. ap one (bytes_eq_either x.batch b.name)) in
+      sum_by-agree (λ (b : Batch). one (bytes_eq x.batch b.name)) (λ (b : Batch). one (fits b)) (λ b. ap one (bytes_eq_either x.batch b.name)) (batches_of f p) in
       let once = named_once (λ (b : Batch). b.name) f.batches x.batch sound.named.batches.once in
       turned ∙ fits_found fits of_product f.batches once ∙ ap (λ o. one (passes of_product o)) is.batch_is
       ∙ ap (λ c. one (bytes_eq c p)) (sym is.product) ∙ sym (ap (λ o. one (is_lot_of p o)) is.lot_is)
@@ -161,8 +158,7 @@ module _ (f : Facts) (p : List ℕ) (sound : IsSound f) where
       (λ x is. count_beside (λ (b : Batch). bytes_eq x.batch b.name) (of_product x) (stands x) (batches_of f p) (one_batch x is)) f.sessions sound.sessions.each in
       count_among q (session_state f) of_product f.sessions
       ∙ by_keys fits (λ x. of_product x && stands x) (batches_of f p) f.sessions each
-      ∙ sum_by_same (λ (b : Batch). count_by (λ x. fits x b) f.sessions) (λ (b : Batch). count_sessions (session_states f b.name) state) (batches_of f p)
-      (λ b. sym (count_among q (session_state f) (λ (x : Session). bytes_eq x.batch b.name) f.sessions))
+      ∙ sum_by-agree (λ (b : Batch). count_by (λ x. fits x b) f.sessions) (λ (b : Batch). count_sessions (session_states f b.name) state) (λ b. sym (count_among q (session_state f) (λ (x : Session). bytes_eq x.batch b.name) f.sessions)) (batches_of f p)
 
   -- a blank lies in one of the product's lots, or it is of another product
   one_lot : (blank : ℕ) → count_by (is_in blank) (lots_of f p) ≡ one (is_blank_of f p blank)

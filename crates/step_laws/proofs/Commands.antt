@@ -1,10 +1,11 @@
 -- The commands of a record of sound facts: some, and of bytes, and its name is one.
-use Rattle.std.proofs.Common.{◌≡◌, ◌≤◌, ◌<◌, ◌||◌, ℕ, zero, suc, true, cond, List, [], ◌∷◌, length, get_or, map, All, Option, Some, None, refl, sym, ap, ◌∙◌, subst, inl, inr, arith}
+use Rattle.std.proofs.Common.{◌≡◌, ◌≤◌, ◌<◌, ℕ, zero, suc, true, List, [], ◌∷◌, length, map, All, Option, Some, None, refl, sym, ap, ◌∙◌, subst, arith}
 use Rattle.std.specs.Prelude.{bytes_eq, option_and_then, option_map, slice_get}
 use Rattle.std.specs.List.{flat_map, list_any}
-use Rattle.std.proofs.lemmas.Bool.{cases_Bool, false≢true, or_left}
+use Rattle.std.proofs.lemmas.Bool.{false≢true, or_left}
 use Rattle.std.proofs.lemmas.List.Elements.{All-filter, All-head, All-weaker, filter_passes}
 use Rattle.std.proofs.lemmas.Option.{get_or_from_slice_get, same_Some, slice_get_within}
+use Rattle.std.proofs.lemmas.List.{get_or_default}
 use Rattle.store_data.specs.declared.row.Product.{Product}
 use Rattle.store_data.specs.declared.row.Row.{Row}
 use Rattle.store_data.specs.Groups.{first_appearances, grouped, with_the_key}
@@ -16,7 +17,7 @@ use Rattle.job_core.specs.Facts.{Batch, Facts}
 use Rattle.job_core.specs.Sound.{IsBatch, IsName, IsRecord, IsSound}
 use Rattle.job_core.specs.States.{batch_named, command_at, command_bytes, commands_for, commands_under, plan_for, product_named, records_of, records_under, rows_of, rows_of_record, rows_or_none, rows_under}
 use Rattle.job_core.proofs.Lists.{find-All}
-use Rattle.job_core.proofs.PlanLemmas.{plan_there}
+use Rattle.job_core.proofs.PlanLemmas.{plan_there, some_row}
 use Rattle.step_laws.specs.Ranges.{AreBytes}
 
 abbrev rec_of : Row → List ℕ
@@ -33,18 +34,6 @@ record IsPlanned (f : Facts) (b r : List ℕ) : Type 0 where
   typed : All IsTyped rows
   own : All (λ (row : Row). bytes_eq row.rec r ≡ true) rows
   some : 1 ≤ length rows
-
-some_row : (rows : List Row) (r : List ℕ) → list_any (bytes_eq r) (map rec_of rows) ≡ true → 1 ≤ length (rows_of_record rows r)
-some_row [] r there = absurd (false≢true there)
-some_row (row ∷ rows) r there = elim (cases_Bool (bytes_eq row.rec r)) [
-  | inl hit ↦ subst (λ b. 1 ≤ length (cond b (row ∷ rows_of_record rows r) (rows_of_record rows r))) (sym hit) (omega arith)
-  | inr miss ↦
-      let later : list_any (bytes_eq r) (map rec_of rows) ≡ true = elim (cases_Bool (bytes_eq r row.rec)) [
-        | inl same ↦ absurd (false≢true (sym miss ∙ ap (λ n. bytes_eq n r) (sym (same-bytes_eq r row.rec same)) ∙ bytes_eq-same r))
-        | inr differ ↦ sym (ap (λ b. b || list_any (bytes_eq r) (map rec_of rows)) differ) ∙ there
-      ] in
-      subst (λ b. 1 ≤ length (cond b (row ∷ rows_of_record rows r) (rows_of_record rows r))) (sym miss) (some_row rows r later)
-]
 
 planned_in : (f : Facts) (b r : List ℕ) (batch : Batch) → IsSound f → batch_named f.batches b ≡ Some batch → list_any (bytes_eq r) (records_of f.products batch) ≡ true → IsPlanned f b r
 unfolding plan_for rows_of records_of
@@ -105,12 +94,7 @@ record_named f b r sound is =
 
 -- bytes by their places, and one by one
 bytes_all : (xs : List ℕ) → AreBytes xs → AllBytes xs
-bytes_all xs each = λ k d within. subst (λ n. n < 256) (any xs k 0 d within) (each k)
-  where
-    any : (ys : List ℕ) (k d e : ℕ) → k < length ys → get_or ys k d ≡ get_or ys k e
-    any [] k d e within = absurd (omega arith)
-    any (y ∷ ys) zero d e within = refl
-    any (y ∷ ys) (suc k) d e within = any ys k d e (omega arith)
+bytes_all xs each = λ k d within. subst (λ n. n < 256) (get_or_default xs k 0 d within) (each k)
 
 bytes_at : (xs : List ℕ) → AllBytes xs → AreBytes xs
 bytes_at [] each i = omega arith

@@ -88,7 +88,7 @@ module _ (f g : Facts) (more : KnowsMore f g) where
     unfolding rows_of
     rows_kept = ap (λ p. rows_under p b.raw) own_product
 
-    plan_kept : (r : List ℕ) → plan_for g n r ≡ plan_for f n r
+    pub plan_kept : (r : List ℕ) → plan_for g n r ≡ plan_for f n r
     unfolding plan_for
     plan_kept r =
         let plan : List Row → Option Product → Option Plan = λ rows p. option_map (λ (q : Product). plan_of q (rows_of_record rows r)) p in

@@ -7,6 +7,7 @@ use Rattle.std.proofs.lemmas.Bool.{both_ways, cond-false, cond_both, false_from_
 use Rattle.std.proofs.lemmas.List.Elements.{All-filter, All-weaker}
 use Rattle.std.proofs.lemmas.List.Folds.{list_any-append, list_any_none}
 use Rattle.std.proofs.lemmas.List.Sums.{sum_by_push}
+use Rattle.store_data.proofs.IsPlanLemmas.{All-from_list_any}
 use Rattle.job_core.specs.declared.facts.SessionState.{SessionState}
 use Rattle.job_core.specs.declared.facts.SessionState.TheVariants as session
 use Rattle.job_core.specs.declared.request.Request.{Request}
@@ -15,7 +16,7 @@ use Rattle.job_core.specs.Facts.{Facts, RecordName, Session, at_session, ended, 
 use Rattle.job_core.specs.Sound.{IsSession, IsSound, IsSoundRecord, has_card}
 use Rattle.job_core.specs.States.{goes_at, commands_for, is_good, is_record, is_running, is_spoiled, is_withdrawn, plan_for, record_state, remakes_of, session_numbered, session_state, state_by, states_of}
 use Rattle.job_core.specs.Steps.{Outcome, step}
-use Rattle.job_core.proofs.Lists.{count_by-at, count_by_any, list_any-false, list_any-there, map_filter-at, map_same}
+use Rattle.job_core.proofs.Lists.{count_by-at, count_by_any, list_any-there, map_filter-at, map_same}
 use Rattle.job_core.proofs.SessionLemmas.{session_changed, session_split}
 use Rattle.job_core.proofs.SoundFacts.{is_for, states_among, states_are}
 use Rattle.step_laws.specs.Later.{KnowsMore}
@@ -27,10 +28,10 @@ use Rattle.step_laws.proofs.StepCases.{own_there, step_by}
 
 -- without a card none is good or runs
 pub none_good : (states : List SessionState) → list_any has_card states ≡ false → list_any is_good states ≡ false
-none_good states none = list_any_none is_good states (λ k d within. (or_parts _ _ (list_any-false has_card states none k d within)).0)
+none_good states none = list_any_none is_good states (λ k d within. (or_parts _ _ (All-from_list_any has_card states none k d within)).0)
 
 pub none_running : (states : List SessionState) → list_any has_card states ≡ false → list_any is_running states ≡ false
-none_running states none = list_any_none is_running states (λ k d within. (or_parts _ _ (list_any-false has_card states none k d within)).1)
+none_running states none = list_any_none is_running states (λ k d within. (or_parts _ _ (All-from_list_any has_card states none k d within)).1)
 
 module _ (before after : List SessionState) (t : SessionState) where
   abbrev then_states : List SessionState

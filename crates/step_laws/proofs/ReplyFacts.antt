@@ -8,7 +8,6 @@ use Rattle.std.proofs.lemmas.List.{length_push}
 use Rattle.std.proofs.lemmas.List.Folds.{find-append}
 use Rattle.std.proofs.lemmas.List.Sums.{sum_by_push}
 use Rattle.std.proofs.lemmas.Option.{cond_some, none-some}
-use Rattle.store_data.specs.Sequence.{Command}
 use Rattle.store_data.specs.declared.row.Product.{Product}
 use Rattle.store_data.specs.declared.row.Row.{Row}
 use Rattle.store_data.proofs.GroupLemmas.{bytes_eq-same}
@@ -23,11 +22,11 @@ use Rattle.job_core.specs.declared.request.Request.{Request}
 use Rattle.job_core.specs.declared.request.Request.TheVariants as request
 use Rattle.job_core.specs.Facts.{Batch, Facts, Session, at_session, ended, new_session, with_end, with_remake, with_session, with_withdrawal, with_word, worded}
 use Rattle.job_core.specs.Sound.{IsRecord, IsSound, IsSoundRecord, has_card, runs_on}
-use Rattle.job_core.specs.States.{command_bytes, commands_for, first_waiting, goes_at, is_charged, is_record, is_running, is_spoiled, is_waiting, is_withdrawn, last_stops, last_stops_from, product_named, record_state, record_state_of, records_named, remakes_of, rows_of, rows_or_none, rows_under, running_session, session_state, state_by, states_of}
+use Rattle.job_core.specs.States.{command_bytes, commands_for, first_waiting, goes_at, is_charged, is_record, is_running, is_spoiled, is_waiting, is_withdrawn, last_stops, product_named, record_state, record_state_of, records_named, remakes_of, rows_of, rows_or_none, rows_under, running_session, session_state, state_by, states_of}
 use Rattle.job_core.specs.Steps.{opened, step, take_word}
 use Rattle.job_core.proofs.Lists.{found_among, list_any-there}
 use Rattle.job_core.proofs.RecordLemmas.{open_parts, record_opened}
-use Rattle.job_core.proofs.RunningLemmas.{waiting_there}
+use Rattle.job_core.proofs.RunningLemmas.{waiting_there, last_stops_push}
 use Rattle.job_core.proofs.SessionLemmas.{session_changed, session_split}
 use Rattle.job_core.proofs.SoundFacts.{is_for, states_are}
 use Rattle.job_core.proofs.SoundSessions.{running_numbered, running_parts}
@@ -200,13 +199,6 @@ module _ (f : Facts) (client : List ℕ) (s : ℕ) (x : Session) (sound : IsSoun
           ])
 
 -- ---- a word
-
-last_stops_push : (commands : List Command) (k : ℕ) (words : List ℕ) (sw : ℕ) → last_stops_from commands k (words ++ sw ∷ []) ≡ not (goes_at commands (k + length words) sw)
-last_stops_push commands k [] sw = let e : k ≡ k + 0 = omega arith in ap (λ n. not (goes_at commands n sw)) e
-last_stops_push commands k (w ∷ []) sw = refl
-last_stops_push commands k (w ∷ v ∷ words) sw =
-    let e : k + 1 + length (v ∷ words) ≡ k + length (w ∷ v ∷ words) = omega arith in
-    last_stops_push commands (k + 1) (v ∷ words) sw ∙ ap (λ n. not (goes_at commands n sw)) e
 
 -- how a running session stands after a word, by its tests
 word_state : (f : Facts) (x : Session) (k sw : ℕ) (goes full : Bool) → session_state f x ≡ session.Running → k ≡ length x.words

@@ -1,15 +1,13 @@
 -- Sound facts stay sound, whatever is asked in its ranges; and they have few sessions.
-use Rattle.std.proofs.Common.{◌≡◌, ◌≢◌, ◌≤◌, ◌<◌, ◌+◌, ◌==◌, ℕ, zero, suc, Bool, true, cond, List, [], ◌∷◌, length, length-append, map, All, Some, refl, sym, ap, ◌∙◌, subst, inl, inr, arith}
+use Rattle.std.proofs.Common.{◌≡◌, ◌≢◌, ◌≤◌, ◌==◌, ℕ, true, cond, List, [], ◌∷◌, length, length-append, map, All, Some, sym, ap, ◌∙◌, subst, inl, inr, arith}
 use Rattle.std.specs.Prelude.{AllPairs, IsSome, is_some, sum_by}
-use Rattle.std.specs.List.{flat_map, list_any}
+use Rattle.std.specs.List.{flat_map}
 use Rattle.std.specs.Cmp.{nat_eq_equiv}
-use Rattle.std.proofs.lemmas.Bool.{cases_Bool, eqb-true, false≢true, or_cases, or_left, or_right}
-use Rattle.std.proofs.lemmas.Bool.Decides.{Decides-eqb, nat_tests}
+use Rattle.std.proofs.lemmas.Bool.{cases_Bool, eqb-true, false≢true, or_cases}
+use Rattle.std.proofs.lemmas.Bool.Decides.{Decides-eqb}
 use Rattle.std.proofs.lemmas.List.{length-map}
-use Rattle.std.proofs.lemmas.List.Concat.{flat_map-cons}
 use Rattle.std.proofs.lemmas.List.Elements.{All-head, All-tail, All-weaker}
-use Rattle.std.proofs.lemmas.List.Folds.{list_any-append}
-use Rattle.std.proofs.lemmas.List.Sums.{sum_by-cons, sum_by-le}
+use Rattle.std.proofs.lemmas.List.Sums.{sum_by-le}
 use Rattle.std.proofs.lemmas.Map.Made.{IsDistinct-from_AllPairs, length-le_from_is_member}
 use Rattle.batch_import.proofs.RangedRows.{batch_typed}
 use Rattle.job_core.specs.declared.facts.Lot.{Lot}
@@ -20,6 +18,7 @@ use Rattle.job_core.specs.States.{is_in, lot_of}
 use Rattle.job_core.specs.Steps.{step}
 use Rattle.job_core.proofs.SoundFacts.{sound_batch, sound_close, sound_discard, sound_lot, sound_product, sound_remake, sound_withdraw}
 use Rattle.job_core.proofs.SoundSessions.{sound_end, sound_open, sound_word}
+use Rattle.job_core.proofs.Serials.{has, has_first, has_later, length-all, serials_of}
 use Rattle.step_laws.specs.Ranges.{IsRanged}
 use Rattle.step_laws.proofs.StepCases.{facts_by, named_batch}
 
@@ -44,48 +43,12 @@ step_sound f client r sound name ranged =
 
 -- ---- the serials of lots
 
-serials : ℕ → ℕ → List ℕ
-serials first zero = []
-serials first (suc n) = first ∷ serials (first + 1) n
-
-serials_of : Lot → List ℕ
-unfolding serials
-serials_of l = serials l.first l.count
-
-length-serials : (first n : ℕ) → length (serials first n) ≡ n
-unfolding serials
-length-serials first zero = refl
-length-serials first (suc n) = ap suc (length-serials (first + 1) n)
-
-length-all : (lots : List Lot) → length (flat_map serials_of lots) ≡ sum_by (λ (l : Lot). l.count) lots
-unfolding serials_of
-length-all [] = refl
-length-all (l ∷ lots) =
-    let joined = ap length (flat_map-cons serials_of l lots) ∙ length-append (serials_of l) (flat_map serials_of lots) in
-    omega (arith, joined, length-serials l.first l.count, length-all lots, sum_by-cons (λ (m : Lot). m.count) l lots)
-
-abbrev has : List ℕ → ℕ → Bool
-has xs q = list_any (λ x. q == x) xs
-
-has_serial : (first n q : ℕ) → first ≤ q → q < first + n → has (serials first n) q ≡ true
-unfolding serials
-has_serial first zero q low high = absurd (omega arith)
-has_serial first (suc n) q low high = elim (cases_Bool (q == first)) [
-  | inl here ↦ or_left (q == first) (has (serials (first + 1) n) q) here
-  | inr other ↦ or_right (q == first) (has (serials (first + 1) n) q) (has_serial (first + 1) n q (grind (arith, nat_tests)) (omega arith))
-]
-
 among_serials : (lots : List Lot) (q : ℕ) → IsSome (lot_of lots q) → has (flat_map serials_of lots) q ≡ true
-unfolding serials_of
 among_serials [] q some = absurd (false≢true some)
-among_serials (l ∷ lots) q some =
-    let split = ap (λ xs. has xs q) (flat_map-cons serials_of l lots) ∙ list_any-append (λ x. q == x) (serials_of l) (flat_map serials_of lots) in
-    elim (cases_Bool (is_in q l)) [
-      | inl inside ↦ split ∙ or_left (has (serials_of l) q) _ (has_serial l.first l.count q (grind (arith, nat_tests)) (grind (arith, nat_tests)))
-      | inr outside ↦
-          let rest = among_serials lots q (sym (ap (λ b. is_some (cond b (Some l) (lot_of lots q))) outside) ∙ some) in
-          split ∙ or_right (has (serials_of l) q) _ rest
-    ]
+among_serials (l ∷ lots) q some = elim (cases_Bool (is_in q l)) [
+  | inl inside ↦ has_first q l lots inside
+  | inr outside ↦ has_later q l lots (among_serials lots q (sym (ap (λ b. is_some (cond b (Some l) (lot_of lots q))) outside) ∙ some))
+]
 
 -- what holds of each holds of one among them
 has_holds : (P : ℕ → Type 0) (xs : List ℕ) (q : ℕ) → All P xs → has xs q ≡ true → P q

@@ -1,7 +1,7 @@
 -- The plain machine, outcome by outcome: what holds of each holds of every step.
-use Rattle.std.proofs.Common.{◌≡◌, ◌<◌, ◌==◌, ℕ, Bool, true, false, not, cond, List, [], ◌∷◌, ◌++◌, length, Option, Some, None, Result, Ok, Err, ◌⊎◌, inl, inr, refl, sym}
+use Rattle.std.proofs.Common.{◌≡◌, ◌<◌, ◌==◌, ℕ, Bool, true, false, not, cond, List, [], ◌∷◌, ◌++◌, length, Option, Some, None, Result, Ok, Err, ◌⊎◌, inl, inr, refl}
 use Rattle.std.specs.Prelude.{bytes_eq, nat_le}
-use Rattle.std.proofs.lemmas.Bool.{cond_both, eqb-true, false≢true, leb-false}
+use Rattle.std.proofs.lemmas.Bool.{cond_both, eqb-true, false≢true, leb-false, not-false}
 use Rattle.store_data.specs.declared.row.Product.{Product}
 use Rattle.store_data.specs.declared.row.Row.{Row}
 use Rattle.store_data.proofs.GroupLemmas.{same-bytes_eq}
@@ -78,10 +78,6 @@ option_both : {A : Type 0} (o : Option A) (x : Outcome) (g : A → Outcome) (Q :
 option_both None x g Q without having = without refl
 option_both (Some y) x g Q without having = having y refl
 
-is_true : (b : Bool) → not b ≡ false → b ≡ true
-is_true true h = refl
-is_true false h = absurd (false≢true (sym h))
-
 running_is : (state : SessionState) → is_running state ≡ true → state ≡ session.Running
 running_is session.Running h = refl
 running_is session.Good h = absurd (false≢true h)
@@ -141,7 +137,7 @@ module _ (f : Facts) (client : List ℕ) (P : Request → Outcome → Type 0) (t
         idle = idle;
         lot = l;
         lot_is = lot_is;
-        same = same-bytes_eq l.product batch.product (is_true (bytes_eq l.product batch.product) same);
+        same = same-bytes_eq l.product batch.product (not-false (bytes_eq l.product batch.product) same);
         free = free;
         waits = waits;
       }))))))
@@ -154,8 +150,8 @@ module _ (f : Facts) (client : List ℕ) (P : Request → Outcome → Type 0) (t
       cond_both {A = Outcome} (not (is_running (session_state f x))) _ _ (P r) (λ over. tells.refuses _ _) (λ runs.
       acts x (record {
         there = is;
-        own = same-bytes_eq x.machine client (is_true (bytes_eq x.machine client) own);
-        runs = running_is (session_state f x) (is_true (is_running (session_state f x)) runs);
+        own = same-bytes_eq x.machine client (not-false (bytes_eq x.machine client) own);
+        runs = running_is (session_state f x) (not-false (is_running (session_state f x)) runs);
       }))))
 
   answer_by : (s k sw : ℕ) → P (request.Answer s k sw) (step_answer f client s k sw)

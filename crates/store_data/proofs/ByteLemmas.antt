@@ -1,11 +1,11 @@
 -- The commands of rows of bytes are of bytes.
-use Rattle.std.proofs.Common.{◌≡◌, ◌≤◌, ◌<◌, ◌+◌, ◌*◌, ◌/◌, ◌%◌, ℕ, zero, suc, Bool, cond, List, [], ◌∷◌, ◌++◌, length, map, drop, get_or, All, refl, sym, subst, arith}
+use Rattle.std.proofs.Common.{◌≤◌, ◌<◌, ◌+◌, ◌*◌, ◌/◌, ◌%◌, ℕ, Bool, cond, List, [], ◌∷◌, ◌++◌, length, map, drop, get_or, All, sym, subst, arith}
 use Rattle.std.specs.Prelude.{◌==◌, ◌&&◌, nat_le}
 use Rattle.std.specs.Int.{w16, to_be_bytes}
 use Rattle.std.specs.List.{flat_map, range_with_len, enumerate_from}
 use Rattle.std.proofs.lemmas.Bool.{cond_both, leb-true}
 use Rattle.std.proofs.lemmas.List.Elements.{All-append, All-cons, All-drop, All-filter, All-head, All-map, All-nil, All-tail, All-take, All-weaker}
-use Rattle.std.proofs.lemmas.List.{length-take}
+use Rattle.std.proofs.lemmas.List.{length-take, get_or_default}
 use Rattle.dgi.specs.Coding.{IsSent, coded, short_length}
 use Rattle.store_data.specs.declared.row.Enc.{Enc}
 use Rattle.store_data.specs.declared.row.Enc.TheVariants.{Plain}
@@ -49,14 +49,9 @@ pub coded_bytes : (xs : List ℕ) → IsSent xs → AreBytes xs
 unfolding coded
 coded_bytes xs is =
     let g = is.0 in
-    let body : AreBytes g.body = λ k d within. subst (λ n. n < 256) (get_or_any g.body k 0 d within) (is.1.bytes k) in
+    let body : AreBytes g.body = λ k d within. subst (λ n. n < 256) (get_or_default g.body k 0 d within) (is.1.bytes k) in
     subst AreBytes (sym is.2) (All-append (λ b. b < 256) (to_be_bytes w16 g.id) (short_length (length g.body) ++ g.body) (two_bytes g.id)
     (All-append (λ b. b < 256) (short_length (length g.body)) g.body (length_bytes (length g.body)) body))
-  where
-    get_or_any : (ys : List ℕ) (k d e : ℕ) → k < length ys → get_or ys k d ≡ get_or ys k e
-    get_or_any [] k d e within = absurd (omega arith)
-    get_or_any (y ∷ ys) zero d e within = refl
-    get_or_any (y ∷ ys) (suc k) d e within = get_or_any ys k d e (omega arith)
 
 -- ---- rows, segments and applications
 

@@ -8,7 +8,7 @@ use Rattle.std.proofs.lemmas.Bool.{cases_Bool, cases_lt, eq-eqb, eqb-true, ne_eq
 use Rattle.std.proofs.lemmas.Bool.Decides.{nat_tests}
 use Rattle.std.proofs.lemmas.Grind.{flat_map-append}
 use Rattle.std.proofs.lemmas.List.{append-nil, length-append, get_or_append_left}
-use Rattle.std.proofs.lemmas.List.Elements.{All-nil, All-cons, All-head, All-tail, All-append, All-push, filter-append}
+use Rattle.std.proofs.lemmas.List.Elements.{All-nil, All-cons, All-head, All-tail, All-append, All-push, filter-append, filter_agree}
 use Rattle.std.proofs.lemmas.List.FromFn.{length-range_with_len}
 use Rattle.std.proofs.lemmas.List.Sorted.{All-permutation}
 use Rattle.store_data.specs.declared.row.Row.{Row}
@@ -218,11 +218,6 @@ module _ {X : Type 0} (rank : X → ℕ) where
     | inr miss ↦ passed p xs y ys (sym (ap (λ b. cond b (x ∷ filter p xs) (filter p xs)) miss) ∙ e)
   ]
 
-  filter-same : (p q : X → Bool) → ((x : X) → p x ≡ q x) → (xs : List X) → filter p xs ≡ filter q xs
-  filter-same p q same [] = refl
-  filter-same p q same (x ∷ xs) =
-      ap (λ b. cond b (x ∷ filter p xs) (filter p xs)) (same x) ∙ ap (λ ys. cond (q x) (x ∷ ys) ys) (filter-same p q same xs)
-
   abbrev lower : X → X → Bool
   lower x y = is_lt (nat_cmp (rank x) (rank y))
 
@@ -235,7 +230,7 @@ module _ {X : Type 0} (rank : X → ℕ) where
     of_rank-of r y e =
         let same : rank y ≡ r = eqb-true (rank y) r e in
         let tie : (x : X) → ties lower y x ≡ eqb (rank x) r = λ x. ties-rank (rank y) (rank x) ∙ ap (eqb (rank x)) same in
-        sym (filter-same (ties lower y) (λ x. eqb (rank x) r) tie sorted) ∙ stable y ∙ filter-same (ties lower y) (λ x. eqb (rank x) r) tie items
+        sym (filter_agree (ties lower y) (λ x. eqb (rank x) r) tie sorted) ∙ stable y ∙ filter_agree (ties lower y) (λ x. eqb (rank x) r) tie items
 
     of_rank-sorted : (r : ℕ) → of_rank rank sorted r ≡ of_rank rank items r
     of_rank-sorted r = by_cases (of_rank rank sorted r) (of_rank rank items r) refl refl

@@ -10,7 +10,7 @@ use job_core::{Arrival, BlankTotals, JobStore, StoreFault};
 use list_store::ListStore;
 use reply_store::handle;
 use reports::blank_counts;
-use server::{Served, serve_one};
+use server::{End, Served, serve_one};
 use std::alloc::{AllocError, Global};
 use std::process::Abort;
 use std::test::Fail;
@@ -138,7 +138,8 @@ pub(crate) fn blank_account(alloc: Global, store: &mut ListStore) -> Result<Byte
     Ok(at_last!(blank_counts(alloc, store, &product))?)
 }
 
-/// What becomes of a connection that brings these bytes, and what was written; it comes again where it is told refused memory.
+/// What becomes of a connection that brings these bytes, and what was written; it comes again where it is told refused memory, or would
+/// be with more room.
 pub(crate) fn served(
     alloc: Global,
     store: &mut ListStore,
@@ -147,7 +148,8 @@ pub(crate) fn served(
 ) -> (Served, Limited) {
     let mut first = writer;
     let served = serve_one(alloc, store, &mut Pieces::new(bytes, 8192), &mut first);
-    if !first.taken().starts_with(b"HTTP/1.1 503 ") {
+    let is_cut = served.end == End::WriteFailed && !served.decided;
+    if !is_cut && !first.taken().starts_with(b"HTTP/1.1 503 ") {
         return (served, first);
     }
     let mut second = writer;

@@ -6,7 +6,8 @@ use std::alloc::Global;
 use std::io::{BufWriter, Cursor};
 use std::test::Fail;
 
-// A run with these words, from this input to this writer behind a buffer; refused memory is a fault, so that it comes again.
+// A run with these words, from this input to this writer behind a buffer; refused memory is a fault, so that it comes again, also where
+// the first reply of a drill tells it.
 fn run_once(
     alloc: Global,
     words: &[&str],
@@ -20,7 +21,7 @@ fn run_once(
         Ok(words) => run(alloc, words, &mut Cursor::new(raw), &mut writer),
         Err(fault) => told_end(&fault, true),
     };
-    if end == End::Memory {
+    if end == End::Memory || writer.get_ref().taken().starts_with(b"503 ") {
         return Err(WordsFault::Memory);
     }
     Ok((end, *writer.get_ref()))

@@ -1,5 +1,5 @@
 -- Replies, read back from their own texts.
-use Rattle.std.proofs.Common.{◌≡◌, ◌<◌, ◌≤◌, ◌+◌, ◌-◌, ◌^◌, ℕ, zero, suc, Bool, true, false, not, cond, List, [], ◌∷◌, ◌++◌, length, drop, get_or, Some, None, inl, inr, refl, sym, ap, ◌∙◌, arith, append-nil, length-append, lt-ltb, decimal}
+use Rattle.std.proofs.Common.{◌≡◌, ◌<◌, ◌≤◌, ◌+◌, ◌-◌, ◌^◌, ℕ, zero, suc, Bool, true, false, not, List, [], ◌∷◌, ◌++◌, length, drop, get_or, Some, inl, inr, refl, sym, ap, ◌∙◌, arith, append-nil, length-append, lt-ltb, decimal}
 use Rattle.std.specs.Prelude.{◌==◌, ◌≢◌, slice_index, bytes_eq, nat_lt, option_map, option_and_then, Option, IsTrue, IsUtf8}
 use Rattle.std.specs.List.{list_all}
 use Rattle.std.specs.Str.{IsAscii}
@@ -11,7 +11,7 @@ use Rattle.std.proofs.lemmas.Bool.{and_parts, cases_lt}
 use Rattle.std.proofs.lemmas.Bool.Decides.{nat_tests}
 use Rattle.std.proofs.lemmas.Fmt.{IsAscii-decimal, decimal_is_IsNumeral}
 use Rattle.std.proofs.lemmas.List.{append_cancel_left}
-use Rattle.std.proofs.lemmas.Str.{IsUtf8-from_ascii, is_utf8-from_IsUtf8}
+use Rattle.std.proofs.lemmas.Str.{IsUtf8-from_ascii}
 use Rattle.std.proofs.lemmas.Str.Ascii.{IsAscii-cons, IsAscii-nil}
 use Rattle.std.proofs.lemmas.List.Folds.{list_all-append}
 use Rattle.std.proofs.lemmas.Slice.Eq.{bytes_eq-Decides}
@@ -48,13 +48,10 @@ use Rattle.heads.specs.declared.reply.Content.TheVariants.{Json}
 use Rattle.wire.specs.ReplyReading.{HasNoBrace, reply_in}
 use Rattle.wire.specs.ReplyText.{AreToldApart, IsReply, reply_bytes}
 use Rattle.asks.specs.Members.{name_at, text_at, value_in}
+use Rattle.asks.proofs.RequestLemmas.{value_in-read}
 use Rattle.heads.specs.Texts.{head_text, status_text}
 
 -- ---- JSON
-
-pub value_in-read : (body : List ℕ) (d : Data) → IsUtf8 body → read body ≡ Some d → value_in body ≡ Some d
-unfolding value_in
-value_in-read body d text is = ap (λ b. cond b (read body) None) (is_utf8-from_IsUtf8 body text) ∙ is
 
 -- ---- where a body begins
 

@@ -1,11 +1,10 @@
 -- The body of a request that is sent is read as that request.
-use Rattle.std.proofs.Common.{◌≡◌, ◌<◌, ◌≤◌, ◌+◌, ◌-◌, ◌*◌, ◌^◌, ◌/◌, ◌%◌, ◌==◌, ℕ, zero, suc, Bool, true, false, cond, List, length, Some, None, inl, inr, refl, sym, ap, ◌∙◌, decimal, arith, length-append}
+use Rattle.std.proofs.Common.{◌≡◌, ◌<◌, ◌≤◌, ◌+◌, ◌-◌, ◌*◌, ◌^◌, ◌/◌, ◌%◌, ◌==◌, ℕ, zero, suc, Bool, true, false, cond, List, length, Some, None, inl, inr, refl, sym, ap, ◌∙◌, arith, length-append}
 use Rattle.std.specs.Prelude.{◌&&◌, nat_le, slice_index, option_map, option_and_then, IsUtf8, IsTrue}
 use Rattle.std.specs.Char.{digit_value, is_ascii_hexdigit}
 use Rattle.std.specs.Str.Parse.{digits_value}
 use Rattle.std.proofs.lemmas.Bool.{and_parts, cases_lt}
 use Rattle.std.proofs.lemmas.Bool.Decides.{nat_tests}
-use Rattle.std.proofs.lemmas.Fmt.{length-decimal-le}
 use Rattle.hex.specs.Hex.{encode_with, upper_digits}
 use Rattle.json.proofs.Printed.Decimals.{IsNumber-decimal}
 use Rattle.serde_json.specs.Read.{read}
@@ -19,8 +18,10 @@ use Rattle.arrivals.specs.Values.{flag_text}
 use Rattle.text_io.specs.Inputs.{most_input}
 use Rattle.asks.specs.Members.{passing, name_at, text_at}
 use Rattle.asks.specs.Requests.{abort_in, answer_in, call_by_word, call_in, call_of_value, close_in, discard_in, flag_at, is_lot, is_within, is_word, lot_in, number_within, open_in, product_in, release_in, remake_in, request_by_word, withdraw_in, word_in, with_two, with_three, with_four}
+use Rattle.asks.proofs.PostLemmas.{decimal_is_short, name_is_short}
+use Rattle.asks.proofs.RequestLemmas.{value_in-read}
 use Rattle.wire.specs.Sending.{AreNames, IsNoImport, IsSendable, body_of, value_of, word_text}
-use Rattle.wire.proofs.ParseLemmas.{read_whole, value_in-read}
+use Rattle.wire.proofs.ParseLemmas.{read_whole}
 use Rattle.wire.proofs.SendLemmas.{text_is_body}
 
 -- ---- words
@@ -133,32 +134,26 @@ value_is_read (Release upto) s other = let few : upto < 2 ^ 64 = omega (arith, s
 
 -- ---- sizes
 
-name_is_short : (n : List ℕ) → IsTrue (is_name n) → length n ≤ 32
-name_is_short n h = grind (arith, nat_tests)
-
 flag_is_short : (b : Bool) → length (flag_text b) ≤ 5
 flag_is_short true = omega arith
 flag_is_short false = omega arith
 
-few : (n : ℕ) → n < 2 ^ 64 → length (decimal n) ≤ 20
-few n h = length-decimal-le 20 n (omega arith) (omega (arith, h)) h
-
 pub body_is_short : (r : Call) → AreNames r → IsSendable r → IsNoImport r → length (body_of r) ≤ most_input
 unfolding body_of encode_with
 body_is_short (Job (request.Product p)) h s other =
-    simp length-append (omega (arith, flag_is_short p.check, few p.low (omega (arith, s.low)), few p.max (omega (arith, s.most)), name_is_short p.code h))
+    simp length-append (omega (arith, flag_is_short p.check, decimal_is_short p.low (omega (arith, s.low)), decimal_is_short p.max (omega (arith, s.most)), name_is_short p.code h))
 body_is_short (Job (request.Lot l)) h s other =
-    simp length-append (omega (arith, few l.count (omega (arith, s.most)), few l.first (omega (arith, s.range)), name_is_short l.name h.0, name_is_short l.product h.1))
+    simp length-append (omega (arith, decimal_is_short l.count (omega (arith, s.most)), decimal_is_short l.first (omega (arith, s.range)), name_is_short l.name h.0, name_is_short l.product h.1))
 body_is_short (Job (request.Import b p raw)) h s other = absurd (other b p raw refl)
-body_is_short (Job (request.Open b blank)) h s other = simp length-append (omega (arith, name_is_short b h, few blank (omega (arith, s))))
-body_is_short (Job (request.Answer n k sw)) h s other = simp length-append (omega (arith, few k (omega (arith, s.2)), few n (omega (arith, s.1))))
-body_is_short (Job (request.Abort n)) h s other = simp length-append (omega (arith, few n (omega (arith, s.1))))
+body_is_short (Job (request.Open b blank)) h s other = simp length-append (omega (arith, name_is_short b h, decimal_is_short blank (omega (arith, s))))
+body_is_short (Job (request.Answer n k sw)) h s other = simp length-append (omega (arith, decimal_is_short k (omega (arith, s.2)), decimal_is_short n (omega (arith, s.1))))
+body_is_short (Job (request.Abort n)) h s other = simp length-append (omega (arith, decimal_is_short n (omega (arith, s.1))))
 body_is_short (Job request.Reset) h s other = omega arith
-body_is_short (Job (request.Discard blank)) h s other = simp length-append (omega (arith, few blank (omega (arith, s))))
+body_is_short (Job (request.Discard blank)) h s other = simp length-append (omega (arith, decimal_is_short blank (omega (arith, s))))
 body_is_short (Job (request.Remake b r)) h s other = simp length-append (omega (arith, name_is_short b h.0, name_is_short r h.1))
 body_is_short (Job (request.Withdraw b r)) h s other = simp length-append (omega (arith, name_is_short b h.0, name_is_short r h.1))
 body_is_short (Job (request.Close b)) h s other = simp length-append (omega (arith, name_is_short b h))
-body_is_short (Release upto) h s other = simp length-append (omega (arith, few upto (omega (arith, s.1))))
+body_is_short (Release upto) h s other = simp length-append (omega (arith, decimal_is_short upto (omega (arith, s.1))))
 
 pub call_is_read : (r : Call) → AreNames r → IsSendable r → IsNoImport r → IsUtf8 (body_of r) → call_in (body_of r) ≡ Some r
 unfolding call_in

@@ -49,6 +49,7 @@ fn discard_by(client: &Name, blank: u64, lot: Option<Lot>, charged: bool) -> Dec
 }
 
 /// The decision on a remake.
+#[tactic(auto, unfolding(crate::specs::Steps::step))]
 pub(crate) fn remake<S: JobStore>(
     store: &mut S,
     client: &Name,
@@ -61,36 +62,30 @@ pub(crate) fn remake<S: JobStore>(
         answer.0 answer.1) }
     ensures faults { CountsFaults (S.state store.old) (S.state store.new) result }
 {
-    let row = store.batch(batch)?;
-    let stands = store.record_state(batch, rec)?;
-    Ok(remake_by(client, batch, rec, row, stands))
+    match record_at(store, batch, rec)? {
+        Err(refusal) => Ok(refused(refusal)),
+        Ok(stands) => Ok(remake_by(client, batch, rec, stands)),
+    }
 }
 
-// By the batch, and the state of the record.
+// By the state of the record.
 #[tactic(auto, unfolding(crate::specs::Steps::step))]
-fn remake_by(
-    client: &Name,
-    batch: &Name,
-    rec: &Name,
-    row: Option<BatchRow>,
-    stands: Option<RecordState>,
-) -> Decision<'static>
-    ensures { (f : Facts) → IsSound f → row ≡ batch_row_of f batch.now
-        → stands ≡ record_state_of f batch.now rec.now
+fn remake_by(client: &Name, batch: &Name, rec: &Name, stands: RecordState) -> Decision<'static>
+    ensures { (f : Facts) → IsSound f → IsOpenRecord f batch.now rec.now (Ok stands)
         → Decides f client.now (request.Remake batch.now rec.now) result.0 result.1 }
 {
     let (batch, rec) = (*batch, *rec);
-    match in_record(row, stands) {
-        Err(refusal) => refused(refusal),
-        Ok(RecordState::Failed) => (
+    match stands {
+        RecordState::Failed => (
             Reply::Waiting { batch, rec },
             Change::Remakes { batch, rec },
         ),
-        Ok(_) => refused(Refusal::NotFailed),
+        _ => refused(Refusal::NotFailed),
     }
 }
 
 /// The decision on a withdrawal.
+#[tactic(auto, unfolding(crate::specs::Steps::step))]
 pub(crate) fn withdraw<S: JobStore>(
     store: &mut S,
     client: &Name,
@@ -103,29 +98,21 @@ pub(crate) fn withdraw<S: JobStore>(
         answer.0 answer.1) }
     ensures faults { CountsFaults (S.state store.old) (S.state store.new) result }
 {
-    let row = store.batch(batch)?;
-    let stands = store.record_state(batch, rec)?;
-    Ok(withdraw_by(client, batch, rec, row, stands))
+    match record_at(store, batch, rec)? {
+        Err(refusal) => Ok(refused(refusal)),
+        Ok(stands) => Ok(withdraw_by(client, batch, rec, stands)),
+    }
 }
 
-// By the batch, and the state of the record.
+// By the state of the record.
 #[tactic(auto, unfolding(crate::specs::Steps::step))]
-fn withdraw_by(
-    client: &Name,
-    batch: &Name,
-    rec: &Name,
-    row: Option<BatchRow>,
-    stands: Option<RecordState>,
-) -> Decision<'static>
-    ensures { (f : Facts) → IsSound f → row ≡ batch_row_of f batch.now
-        → stands ≡ record_state_of f batch.now rec.now
+fn withdraw_by(client: &Name, batch: &Name, rec: &Name, stands: RecordState) -> Decision<'static>
+    ensures { (f : Facts) → IsSound f → IsOpenRecord f batch.now rec.now (Ok stands)
         → Decides f client.now (request.Withdraw batch.now rec.now) result.0 result.1 }
 {
-    match in_record(row, stands) {
-        Err(refusal) => refused(refusal),
-        Ok(RecordState::Waiting) => withdrawn(batch, rec, RecordState::Waiting),
-        Ok(RecordState::Failed) => withdrawn(batch, rec, RecordState::Failed),
-        Ok(_) => refused(Refusal::NotWithdrawable),
+    match stands {
+        RecordState::Waiting | RecordState::Failed => withdrawn(batch, rec, stands),
+        _ => refused(Refusal::NotWithdrawable),
     }
 }
 
@@ -145,7 +132,23 @@ fn discarded(blank: u64, lot: Name) -> Decision<'static>
     (Reply::Discarded { blank }, Change::Discards { blank, lot })
 }
 
-// The state of a record of a batch that is not closed, or the refusal.
+// The state of a record of a batch that is not closed, or the refusal, as the store has them.
+fn record_at<S: JobStore>(
+    store: &mut S,
+    batch: &Name,
+    rec: &Name,
+) -> Result<Result<RecordState, Refusal>, StoreFault>
+    ensures stays { Stays (S.state store.old) (S.state store.new) }
+    ensures value { Reads (S.state store.old) (S.state store.new) result
+        (λ c found. IsOpenRecord c.facts batch.now rec.now found) }
+    ensures faults { CountsFaults (S.state store.old) (S.state store.new) result }
+{
+    let row = store.batch(batch)?;
+    let stands = store.record_state(batch, rec)?;
+    Ok(in_record(row, stands))
+}
+
+// By the batch's row, and the state of the record.
 fn in_record(row: Option<BatchRow>, stands: Option<RecordState>) -> Result<RecordState, Refusal>
     ensures { (f : Facts) (b r : List ℕ) → row ≡ batch_row_of f b → stands ≡ record_state_of f b r
         → IsOpenRecord f b r result }

@@ -3,17 +3,17 @@ use Rattle.std.specs.Prelude.{option_map}
 use Rattle.std.proofs.lemmas.Option.{none-some}
 use Rattle.store_data.specs.Cursor.{PlacedSegment, is_last_piece}
 use Rattle.store_data.specs.Sequence.{goes_on, sequence}
-use Rattle.store_data.proofs.CursorLemmas.{segment_before, tolerance_there}
+use Rattle.store_data.proofs.CursorLemmas.{segment_before, tolerance_there, length-sequence}
 use Rattle.job_core.specs.declared.rows.SegmentRow.{SegmentRow}
 use Rattle.job_core.specs.Rows.{segment_row}
 use Rattle.job_core.proofs.Lists.{mapped}
-use Rattle.job_core.proofs.RunningLemmas.{class_stops, goes_by, length_sequence}
+use Rattle.job_core.proofs.RunningLemmas.{class_stops, goes_by}
 use Rattle.job_core.proofs.decision.sessions.after_word.Goals as goal
 use Rattle.job_core.proofs.decision.sessions.after_word.Goals.{else-segment, then-segment}
 
 pub returns-in_default : goal.returns-in_default
 returns-in_default c = λ plan k is at before segment.
-    let within : k < length (sequence plan) = omega (arith, before, length_sequence plan) in
+    let within : k < length (sequence plan) = omega (arith, before, length-sequence plan) in
     let v = segment_before plan is k c.args.cursor.now at within in
     absurd (none-some (segment_row plan v.0) (sym c.in_default.is ∙ segment ∙ ap (option_map (segment_row plan)) v.1))
 

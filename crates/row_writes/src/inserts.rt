@@ -1,0 +1,69 @@
+//! One row more, in an open transaction. A crash before its end leaves nothing of it.
+ghost use Rattle.std.specs.Prelude.{◌≡◌, ◌<◌, ◌^◌};
+ghost use Rattle.sqlite.specs.Held.{state};
+ghost use Rattle.sqlite.specs.State.{HasCleanDisk, Survives};
+ghost use Rattle.job_core.specs.Contents.{Entry};
+ghost use Rattle.sql_base.specs.Ends.{Wrote};
+ghost use Rattle.sql_rows.specs.Image.{Moves};
+ghost use Rattle.table_rows.specs.Tables.{with_product, with_reply};
+
+use sql_base::int;
+use sqlite::types::ValueRef;
+use sqlite::{Alter, Error, Transaction};
+use store_data::{Name, Product};
+
+/// Adds a product.
+pub fn add_product<S: Alter>(tx: &mut Transaction<'_, S>, product: &Product) -> Result<usize, Error>
+    ensures same_reference { tx.new.conn.ghost_name ≡ tx.old.conn.ghost_name }
+    ensures wrote { HasCleanDisk (state S.Store tx.new.conn.now)
+        → Wrote (Moves (with_product product.now)) (state S.Store tx.old.conn.now)
+        (state S.Store tx.new.conn.now) result }
+    ensures survives { Survives (state S.Store tx.old.conn.now) (state S.Store tx.new.conn.now)
+        (λ _. ⊥) }
+{
+    tx.execute(
+        "INSERT INTO product (name, max, low, checked) VALUES (?1, ?2, ?3, ?4)",
+        &[
+            ValueRef::Text(product.code.bytes()),
+            int(u64::from(product.max)),
+            int(u64::from(product.low)),
+            int(u64::from(product.check)),
+        ],
+    )
+}
+
+/// Keeps a reply under its client's number.
+pub fn add_reply<'x, S: Alter>(
+    tx: &mut Transaction<'_, S>,
+    client: &'x Name,
+    number: u64,
+    ask: &'x [u8],
+    status: u16,
+    body: &'x [u8],
+) -> Result<usize, Error>
+    requires { number < 2 ^ 63 }
+    ensures same_reference { tx.new.conn.ghost_name ≡ tx.old.conn.ghost_name }
+    ensures wrote { let entry : Entry = record {
+      client = client.now;
+      number = number;
+      ask = ask.now;
+      status = status;
+      body = body.now;
+    } in
+        HasCleanDisk (state S.Store tx.new.conn.now)
+        → Wrote (Moves (with_reply entry)) (state S.Store tx.old.conn.now)
+        (state S.Store tx.new.conn.now) result }
+    ensures survives { Survives (state S.Store tx.old.conn.now) (state S.Store tx.new.conn.now)
+        (λ _. ⊥) }
+{
+    tx.execute(
+        "INSERT INTO reply (client, number, ask, status, body) VALUES (?1, ?2, ?3, ?4, ?5)",
+        &[
+            ValueRef::Text(client.bytes()),
+            int(number),
+            ValueRef::Blob(ask),
+            int(u64::from(status)),
+            ValueRef::Blob(body),
+        ],
+    )
+}

@@ -1,0 +1,3 @@
+pub mod Lists
+pub mod Staying
+pub mod Products

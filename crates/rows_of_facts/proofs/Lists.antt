@@ -1,0 +1,24 @@
+-- Lists with numbers, and joined lists.
+use Rattle.std.proofs.Common.{◌≡◌, ℕ, ◌+◌, List, [], ◌∷◌, ◌++◌, All, refl, ap, ◌∙◌, IsPermutation}
+use Rattle.std.specs.List.{enumerate_from, flat_map}
+use Rattle.std.proofs.lemmas.List.Elements.{All-nil, All-cons, All-head, All-tail}
+use Rattle.std.proofs.lemmas.List.Sorted.{IsPermutation-push_more, IsPermutation-refl}
+
+module _ {X : Type 0} where
+  -- what holds of each holds of each with its number
+  pub All-numbered : (P : X → Type 0) (n : ℕ) (xs : List X) → All P xs → All (λ (e : ℕ × X). P e.1) (enumerate_from n xs)
+  All-numbered P n [] each = All-nil (λ (e : ℕ × X). P e.1)
+  All-numbered P n (x ∷ xs) each = All-cons (λ (e : ℕ × X). P e.1) (n, x) (enumerate_from (n + 1) xs) (All-head P x xs each) (All-numbered P (n + 1) xs (All-tail P x xs each))
+
+  -- one more at the end, as one more at the front
+  pub pushed : (xs : List X) (x : X) → IsPermutation (xs ++ x ∷ []) (x ∷ xs)
+  pushed xs x = IsPermutation-push_more xs xs (x ∷ xs) x (IsPermutation-refl xs) (IsPermutation-refl (x ∷ xs))
+
+  pub flat_map_same : {Y : Type 0} (f g : X → List Y) (xs : List X) → All (λ x. f x ≡ g x) xs → flat_map f xs ≡ flat_map g xs
+  flat_map_same f g [] same = refl
+  flat_map_same f g (x ∷ xs) same =
+      ap (λ ys. ys ++ flat_map f xs) (All-head (λ y. f y ≡ g y) x xs same) ∙ ap (λ ys. g x ++ ys) (flat_map_same f g xs (All-tail (λ y. f y ≡ g y) x xs same))
+
+-- the same list moves nowhere
+pub unmoved : {X : Type 0} (xs ys : List X) → xs ≡ ys → IsPermutation xs ys
+unmoved xs ys same = rw same (IsPermutation-refl ys)

@@ -1,0 +1,49 @@
+-- The rows after a product was added.
+use Rattle.std.proofs.Common.{◌≡◌, ℕ, List, refl}
+use Rattle.store_data.specs.declared.row.Product.{Product}
+use Rattle.job_core.specs.declared.change.Change.TheVariants as change
+use Rattle.job_core.specs.Contents.{Contents, Entry, committed}
+use Rattle.job_core.specs.Facts.{Facts, with_product}
+use Rattle.job_core.specs.Sound.{IsSound}
+use Rattle.step_laws.specs.Records.{StandsSame}
+use Rattle.step_laws.proofs.ChangeStands.{others_same}
+use Rattle.step_laws.proofs.Kept.{product_knows}
+use Rattle.table_rows.specs.Tables.{HaveSameRows}
+use Rattle.table_rows.specs.Tables as tables
+use Rattle.rows_of_facts.specs.Image.{image, stored_blanks, stored_lots, stored_words}
+use Rattle.rows_of_facts.proofs.Lists.{pushed, unmoved}
+use Rattle.rows_of_facts.proofs.Staying.{batches_stay, groupings_stay, records_stay, remakes_stay, sessions_stay}
+
+module _ (f : Facts) (p : Product) where
+  lots_stay : stored_lots (with_product f p) ≡ stored_lots f
+  unfolding stored_lots
+  lots_stay = refl
+
+  blanks_stay : stored_blanks (with_product f p) ≡ stored_blanks f
+  unfolding stored_blanks
+  blanks_stay = refl
+
+  words_stay : stored_words (with_product f p) ≡ stored_words f
+  unfolding stored_words
+  words_stay = refl
+
+pub rows_with_product : (c : Contents) (p : Product) (entry : Entry) → IsSound c.facts
+    → HaveSameRows (image (committed c (change.AddsProduct p) entry)) (tables.with_reply entry (tables.with_product p (image c)))
+rows_with_product c p entry sound =
+    let f = c.facts in
+    let g = with_product f p in
+    let stands : (b r : List ℕ) → StandsSame f g b r = λ b r. others_same f (change.AddsProduct p) sound tt b r refl in
+    let more = product_knows f p in
+    record {
+      products = pushed f.products p;
+      lots = unmoved _ _ (lots_stay f p);
+      batches = unmoved _ _ (batches_stay f g sound more refl refl stands refl);
+      records = unmoved _ _ (records_stay f g sound more refl refl stands);
+      groupings = unmoved _ _ (groupings_stay f g sound more refl refl stands);
+      sessions = unmoved _ _ (sessions_stay f g sound more refl refl stands);
+      words = unmoved _ _ (words_stay f p);
+      blanks = unmoved _ _ (blanks_stay f p);
+      remakes = unmoved _ _ (remakes_stay f g sound more refl refl stands);
+      replies = pushed c.kept entry;
+      marks = unmoved _ _ refl;
+    }

@@ -1,0 +1,6 @@
+//! The image of contents in the rows of tables, and how changes move it.
+#![tactic(auto)]
+
+mod laws;
+
+pub use laws::rows_with_product;

@@ -1,0 +1,82 @@
+-- One table's rows change, and those of the others stay.
+use Rattle.std.proofs.Common.{◌≡◌, ◌≢◌, ℕ, true, List, [], ◌∷◌, ◌++◌, map, not, ◌==◌, arith, refl, sym, subst}
+use Rattle.std.specs.List.{AllByRecursion, list_all}
+use Rattle.std.proofs.lemmas.Bool.{and_parts}
+use Rattle.std.proofs.lemmas.Bool.Decides.{nat_tests}
+use Rattle.std.specs.List.Sorted.{IsPermutation}
+use Rattle.std.proofs.lemmas.List.Sorted.{IsPermutation-cons, IsPermutation-trans}
+use Rattle.sqlite.specs.declared.types.Value.TheVariants.{Null}
+use Rattle.sqlite.specs.Edit.{with_rowid}
+use Rattle.sqlite.specs.Order.{Row}
+use Rattle.sqlite.specs.Rowids.TheVariants.{Chosen}
+use Rattle.sqlite.specs.State.{State}
+use Rattle.sqlite.specs.Table.{Table}
+use Rattle.sqlite.specs.Tree.{Trees}
+use Rattle.sql_base.specs.Effects.{Inserted, SparesOthers}
+use Rattle.sql_base.specs.Rowids.{AreApart}
+use Rattle.sql_base.proofs.Rowids.{put_apart}
+use Rattle.sql_base.proofs.Values.{one_more}
+use Rattle.sql_tables.specs.Tables.{our_schema}
+use Rattle.table_rows.specs.Tables.{Tables}
+use Rattle.sql_rows.specs.Image.{Filled, IsFilled, IsImage, filled, told, unnumbered}
+
+module _ (key : ℕ) (old new : Trees) where
+  -- all trees but this one stay
+  abbrev Stays : Table → Type 0
+  Stays table = table.tree ≢ key → new table.tree ≡ old table.tree
+
+  -- it has another tree
+  abbrev IsOther : Filled → Type 0
+  IsOther x = x.table.tree ≢ key
+
+  stays : (x : Filled) → new x.table.tree ≡ old x.table.tree → IsFilled x old → IsFilled x new
+  stays x same is = record {
+    rows = subst (λ rows. IsPermutation x.rows (told x.by_rowid rows)) (sym same) is.rows;
+    apart = subst AreApart (sym same) is.apart;
+  }
+
+  others_stay : (xs : List Filled) → AllByRecursion IsOther xs → AllByRecursion Stays (map (λ (x : Filled). x.table) xs) → AllByRecursion (λ x. IsFilled x old) xs
+      → AllByRecursion (λ x. IsFilled x new) xs
+  others_stay [] other spared each = tt
+  others_stay (x ∷ xs) other spared each = (stays x (spared.0 other.0) each.0, others_stay xs other.1 spared.1 each.1)
+
+  -- another filling of one table
+  pub filled_at : (before after : List Filled) (x y : Filled) → AllByRecursion IsOther before → AllByRecursion IsOther after
+      → AllByRecursion Stays (map (λ (z : Filled). z.table) (before ++ x ∷ after))
+      → AllByRecursion (λ z. IsFilled z old) (before ++ x ∷ after) → (IsFilled x old → IsFilled y new) → AllByRecursion (λ z. IsFilled z new) (before ++ y ∷ after)
+  filled_at [] after x y left right spared each moves = (moves each.0, others_stay after right spared.1 each.1)
+  filled_at (z ∷ before) after x y left right spared each moves = (stays z (spared.0 left.0) each.0, filled_at before after x y left.1 right spared.1 each.1 moves)
+
+apart_by : (key : ℕ) (xs : List Filled) → list_all (λ (x : Filled). not (x.table.tree == key)) xs ≡ true → AllByRecursion (λ (x : Filled). x.table.tree ≢ key) xs
+apart_by key [] ok = tt
+apart_by key (x ∷ xs) ok =
+    let parts = and_parts (not (x.table.tree == key)) (list_all (λ (z : Filled). not (z.table.tree == key)) xs) ok in
+    (differ x.table.tree key parts.0, apart_by key xs parts.1)
+  where
+    differ : (m n : ℕ) → not (m == n) ≡ true → m ≢ n
+    differ m n is same = grind (arith, nat_tests)
+
+module _ (before after : List Filled) (table : Table) (left : list_all (λ (x : Filled). not (x.table.tree == table.tree)) before ≡ true)
+    (right : list_all (λ (x : Filled). not (x.table.tree == table.tree)) after ≡ true) (t u : Tables) (old new : State) where
+  -- another filling of the table is an image where the statement spared the others
+  pub refilled : (x y : Filled) → x.table ≡ table → filled t ≡ before ++ x ∷ after → filled u ≡ before ++ y ∷ after
+      → map (λ (z : Filled). z.table) (before ++ x ∷ after) ≡ our_schema.tables → new.now.schema ≡ our_schema
+      → SparesOthers our_schema table old.now.trees new.now.trees → (IsFilled x old.now.trees → IsFilled y new.now.trees) → IsImage t old.now → IsImage u new.now
+  refilled x y is_table is_t is_u are_ours ours spared moves image =
+      record {
+        ours = ours;
+        each = subst (AllByRecursion (λ z. IsFilled z new.now.trees)) (sym is_u)
+            (filled_at table.tree old.now.trees new.now.trees before after x y (apart_by table.tree before left) (apart_by table.tree after right)
+            (subst (AllByRecursion (Stays table.tree old.now.trees new.now.trees)) (sym are_ours) spared)
+            (subst (AllByRecursion (λ z. IsFilled z old.now.trees)) is_t image.each) moves);
+      }
+
+-- one more row, under a rowid that SQLite chose
+pub row_put : (table : Table) (row : Row) (rows : List Row) (old new : State) → Inserted our_schema table (Null ∷ row) old new
+    → IsFilled (unnumbered table rows) old.now.trees → IsFilled (unnumbered table (row ∷ rows)) new.now.trees
+row_put table row rows old new it is =
+    let stored = old.now.trees table.tree in
+    record {
+      rows = IsPermutation-trans _ _ _ (IsPermutation-cons row _ _ is.rows) (one_more row stored (new.now.trees table.tree) (sym it.rows) it.fresh);
+      apart = subst AreApart (sym it.rows) (put_apart (with_rowid Chosen stored (Null ∷ row)) stored refl it.fresh is.apart);
+    }

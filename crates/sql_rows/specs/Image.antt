@@ -1,0 +1,60 @@
+-- When a database holds the rows of our tables, and nothing beside them.
+use Rattle.std.specs.Prelude.{◌≡◌, Bool, true, false, List, [], ◌∷◌, map, drop, IsPermutation}
+use Rattle.std.specs.List.{AllByRecursion}
+use Rattle.sqlite.specs.Effect.{Database}
+use Rattle.sqlite.specs.Order.{Row}
+use Rattle.sqlite.specs.Table.{Table}
+use Rattle.sqlite.specs.Tree.{Trees}
+use Rattle.sql_base.specs.Rowids.{AreApart}
+use Rattle.sql_tables.specs.Opening.{version_row}
+use Rattle.sql_tables.specs.Tables.{batch_table, blank_table, grouping_table, lot_table, mark_table, our_schema, product_table, record_table, remake_table, reply_table, session_table, version_table, word_table}
+use Rattle.table_rows.specs.Tables.{Tables}
+use Rattle.sql_rows.specs.Encoding.{batch_row, blank_row, grouping_row, lot_row, mark_row, product_row, record_row, remake_row, reply_row, session_row, word_row}
+
+-- a table with the rows in it; they are told with their rowids, or without
+pub record Filled : Type 0 where
+  pub table : Table
+  pub by_rowid : Bool
+  pub rows : List Row
+
+abbrev pub by_rowid : Table → List Row → Filled
+by_rowid table rows = record { table = table; by_rowid = true; rows = rows }
+
+-- SQLite has chosen the rowids
+abbrev pub unnumbered : Table → List Row → Filled
+unnumbered table rows = record { table = table; by_rowid = false; rows = rows }
+
+-- all our tables, in their order
+abbrev pub filled : Tables → List Filled
+filled t =
+    by_rowid version_table (version_row ∷ [])
+    ∷ unnumbered product_table (map product_row t.products)
+    ∷ unnumbered lot_table (map lot_row t.lots)
+    ∷ by_rowid batch_table (map batch_row t.batches)
+    ∷ unnumbered record_table (map record_row t.records)
+    ∷ unnumbered grouping_table (map grouping_row t.groupings)
+    ∷ by_rowid session_table (map session_row t.sessions)
+    ∷ unnumbered word_table (map word_row t.words)
+    ∷ by_rowid blank_table (map blank_row t.blanks)
+    ∷ unnumbered remake_table (map remake_row t.remakes)
+    ∷ unnumbered reply_table (map reply_row t.replies)
+    ∷ unnumbered mark_table (map mark_row t.marks)
+    ∷ []
+
+abbrev pub told : Bool → List Row → List Row
+told true stored = stored
+told false stored = map (drop 1) stored
+
+-- the table's tree has these rows, in any order, under rowids of which no two are one
+pub record IsFilled (x : Filled) (trees : Trees) : Type 0 where
+  pub rows : IsPermutation x.rows (told x.by_rowid (trees x.table.tree))
+  pub apart : AreApart (trees x.table.tree)
+
+-- the database has just our tables, with just these rows
+pub record IsImage (t : Tables) (db : Database) : Type 0 where
+  pub ours : db.schema ≡ our_schema
+  pub each : AllByRecursion (λ x. IsFilled x db.trees) (filled t)
+
+-- whatever rows the one has, the other has these of them
+abbrev pub Moves : (Tables → Tables) → Database → Database → Type 0
+Moves change old new = (t : Tables) → IsImage t old → IsImage (change t) new

@@ -1,0 +1,2 @@
+//! When a database of our tables holds rows.
+#![tactic(auto)]

@@ -1,0 +1,3 @@
+pub mod Defined
+pub mod Growing
+pub mod Version

@@ -1,0 +1,8 @@
+use Rattle.sql_base.proofs.Ending.{wrote}
+use Rattle.sql_tables.specs.Opening.{AddsVersion}
+use Rattle.sql_tables.specs.Texts.{add_version_text}
+use Rattle.sql_tables.proofs.Version.{adds_version}
+use Rattle.sql_tables.proofs.opening.add_version.Goals as goal
+
+pub returns-clause-made : goal.returns-clause-made
+returns-clause-made g c clean = wrote g.S.Store AddsVersion c.args.tx.now.conn.now c.execute.new.self.conn.now add_version_text _ _ (λ count ran. adds_version _ _ count ran) c.execute.result c.execute.ensures.ended (c.execute.ensures.runs clean)

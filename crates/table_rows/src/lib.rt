@@ -1,0 +1,2 @@
+//! The rows of the store's tables, as definitions alone: what SQL they stand in is no matter here.
+#![tactic(auto)]
