@@ -3,7 +3,7 @@
 //! A run is a list of lines, each of which a client sends and is told: the set-up, a release of its numbers, a late repeat of one of
 //! these, a story, and the accounts.
 use crate::again::{MayWantMemory, at_last};
-use crate::exchanges::{Exchange, message};
+use crate::exchanges::{Exchange, UNAVAILABLE, message};
 use crate::stories::{SET_UP, STORIES, Story};
 use faulty_store::{Device, Fault, FaultyStore, Plan};
 use job_core::JobStore;
@@ -34,9 +34,6 @@ const ACCOUNTS: [&[u8]; 2] = [
     b"GET /batch/B1 HTTP/1.1\r\n\r\n",
     b"GET /blanks/P1 HTTP/1.1\r\n\r\n",
 ];
-
-const UNAVAILABLE: &[u8] =
-    b"HTTP/1.1 503 Service Unavailable\r\nContent-Type: application/json\r\nContent-Length: 32\r\nConnection: close\r\n\r\n{\"code\":503,\"refused\":\"storage\"}";
 
 // More turns than a run takes.
 const MANY_TURNS: u64 = 1000;
@@ -277,21 +274,25 @@ fn check_turns(rt: &impl Abort, alloc: Global, fault: Fault) -> Result<(), Fail>
     Ok(())
 }
 
+// Whatever turn it fails in, what was acknowledged is told again, and the accounts are the story's.
 #[test]
 fn a_device_that_fails_loses_nothing(rt: HostRuntime) -> Result<(), Fail> {
     check_turns(&rt, rt.alloc(), Fault::Failed)
 }
 
+// The write of a line that was told 503 is there after all: the line's repeat is told its reply, and makes no second change.
 #[test]
 fn a_write_that_reached_a_failed_device_counts_once(rt: HostRuntime) -> Result<(), Fail> {
     check_turns(&rt, rt.alloc(), Fault::FailedAfterWrite)
 }
 
+// The store stays open, and the line's repeat is decided.
 #[test]
 fn a_full_device_refuses_one_line(rt: HostRuntime) -> Result<(), Fail> {
     check_turns(&rt, rt.alloc(), Fault::Full)
 }
 
+// No reply speaks of it.
 #[test]
 fn a_lie_is_told_by_its_count_alone(rt: HostRuntime) -> Result<(), Fail> {
     check_turns(&rt, rt.alloc(), Fault::Lies)
