@@ -1,5 +1,5 @@
 //! The accounts of batches, records and blanks.
-ghost use Rattle.std.specs.Prelude.{◌≡◌, ◌∷◌, ◌&&◌, IfErr, IfOk, bytes_eq, count_by, filter, find};
+ghost use Rattle.std.specs.Prelude.{◌≡◌, ◌&&◌, IfErr, IfOk, bytes_eq, count_by, filter, find};
 ghost use Rattle.std.specs.Prelude.{length, map, option_map, sum_by};
 ghost use Rattle.job_core.specs.declared.store.StoreFault.TheVariants.{Memory};
 ghost use Rattle.job_core.specs.declared.facts.Lot.{Lot as LotValue};
@@ -137,24 +137,6 @@ fn record_line(
     })
 }
 
-// How these records of a batch stand.
-fn lines_of(
-    alloc: Global,
-    facts: &FactLists,
-    batch: &Name,
-    names: &[Name],
-) -> Result<Vec<RecordLine>, StoreFault>
-    ensures value { IfOk result
-        (λ lines. lines.items ≡ map (record_line facts.now batch.now) names.now) }
-    ensures cause { IfErr result (λ fault. fault ≡ Memory) }
-{
-    let mut lines = Vec::new(alloc);
-    for rec in names {
-        lines.push(record_line(alloc, facts, batch, rec)?)?;
-    }
-    Ok(lines)
-}
-
 /// How the records of a batch stand, in file order.
 #[tactic(auto, unfolding(job_core::specs::Accounts::record_lines))]
 pub(crate) fn record_lines(
@@ -166,7 +148,11 @@ pub(crate) fn record_lines(
     ensures cause { IfErr result (λ fault. fault ≡ Memory) }
 {
     let names = record_names(alloc, facts, batch)?;
-    lines_of(alloc, facts, batch, &names)
+    let mut lines = Vec::new(alloc);
+    for rec in &names {
+        lines.push(record_line(alloc, facts, batch, rec)?)?;
+    }
+    Ok(lines)
 }
 
 // ---- a product's blanks

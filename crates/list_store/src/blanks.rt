@@ -2,7 +2,7 @@
 ghost use Rattle.std.specs.Prelude.{◌≡◌, ◌+◌, ◌==◌, nat_lt, option_copied};
 ghost use Rattle.std.specs.List.{list_any};
 ghost use Rattle.job_core.specs.Facts.{Session};
-ghost use Rattle.job_core.specs.States.{any_overlaps, is_charged, is_in, lot_of, overlaps};
+ghost use Rattle.job_core.specs.States.{any_overlaps, is_charged, lot_of};
 
 use crate::lists::{FactLists, KeptSession};
 use job_core::Lot;
@@ -14,28 +14,17 @@ fn is_below(serial: u64, first: u64, count: u32) -> bool
     serial < first || serial - first < u64::from(count)
 }
 
-fn is_in(blank: u64, lot: &Lot) -> bool
-    ensures { result ≡ is_in blank lot.now }
-{
-    lot.first <= blank && is_below(blank, lot.first, lot.count)
-}
-
-fn overlaps(first: u64, count: u32, lot: &Lot) -> bool
-    ensures { result ≡ overlaps first count lot.now }
-{
-    is_below(first, lot.first, lot.count) && is_below(lot.first, first, count)
-}
-
 pub(crate) fn lot_of(lots: &[Lot], blank: u64) -> Option<&Lot>
     ensures { option_copied result ≡ lot_of lots.now blank }
 {
-    lots.iter().find(|lot| is_in(blank, lot))
+    lots.iter().find(|lot| lot.first <= blank && is_below(blank, lot.first, lot.count))
 }
 
 pub(crate) fn any_overlaps(lots: &[Lot], first: u64, count: u32) -> bool
     ensures { result ≡ any_overlaps lots.now first count }
 {
-    lots.iter().any(|lot| overlaps(first, count, lot))
+    lots.iter().any(|lot| is_below(first, lot.first, lot.count)
+        && is_below(lot.first, first, count))
 }
 
 pub(crate) fn is_charged(facts: &FactLists, blank: u64) -> bool

@@ -1,8 +1,7 @@
 //! Facts with one change more.
-ghost use Rattle.std.specs.Prelude.{◌≡◌, IfErr, IfOk, Ok, OnErr, OnOk};
+ghost use Rattle.std.specs.Prelude.{◌≡◌, IfErr, Ok, OnErr, OnOk};
 ghost use Rattle.job_core.specs.declared.store.StoreFault.TheVariants.{Memory};
-ghost use Rattle.store_data.specs.Sequence.{IsProduct};
-ghost use Rattle.job_core.specs.Facts.{at_session, ended, new_session, worded};
+ghost use Rattle.job_core.specs.Facts.{at_session, ended, worded};
 ghost use Rattle.job_core.specs.Sound.{changed};
 
 use crate::kept::copied;
@@ -23,7 +22,7 @@ pub(crate) fn change_facts(
 {
     match *change {
         Change::Nothing => (),
-        Change::AddsProduct { product } => facts.products.push(known(product)?)?,
+        Change::AddsProduct { product } => facts.products.push(KnownProduct::new(product)?)?,
         Change::AddsLot { lot } => facts.lots.push(lot)?,
         Change::AddsBatch {
             batch,
@@ -40,9 +39,14 @@ pub(crate) fn change_facts(
             rec,
             blank,
             ..
-        } => facts
-            .sessions
-            .push(new_session(alloc, machine, batch, rec, blank))?,
+        } => facts.sessions.push(KeptSession {
+            machine,
+            batch,
+            rec,
+            blank,
+            words: Vec::new(alloc),
+            ended: false,
+        })?,
         Change::AddsWord { session, sw, .. } => add_word(&mut facts.sessions, session, sw)?,
         Change::Ends { session } => end(&mut facts.sessions, session),
         Change::Discards { blank, .. } => facts.discarded.push(blank)?,
@@ -51,30 +55,6 @@ pub(crate) fn change_facts(
         Change::Closes { batch } => facts.closed.push(batch)?,
     }
     Ok(())
-}
-
-// A product that a change adds. One out of its ranges is told as refused memory: sound facts have
-// none.
-fn known(product: Product) -> Result<KnownProduct, StoreFault>
-    ensures value { IfOk result (λ known. known ≡ product) }
-    ensures there { IsProduct product → result ≡ Ok product }
-    ensures cause { IfErr result (λ fault. fault ≡ Memory) }
-{
-    KnownProduct::new(product).ok_or(StoreFault::Memory)
-}
-
-// A session without a word.
-fn new_session(alloc: Global, machine: Name, batch: Name, rec: Name, blank: u64) -> KeptSession
-    ensures { result ≡ new_session machine batch rec blank }
-{
-    KeptSession {
-        machine,
-        batch,
-        rec,
-        blank,
-        words: Vec::new(alloc),
-        ended: false,
-    }
 }
 
 // Adds a word to a session.

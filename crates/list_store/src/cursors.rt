@@ -1,7 +1,7 @@
 //! Where a card stands in a plan, and how its words leave its session.
 ghost use Rattle.std.specs.Prelude.{◌≡◌, ◌==◌, IfSome, length, slice_get};
 ghost use Rattle.store_data.specs.Cursor.{IsCursor, cursor_at};
-ghost use Rattle.store_data.specs.Sequence.{IsPlan, commands_of, goes_on};
+ghost use Rattle.store_data.specs.Sequence.{IsPlan, commands_of};
 ghost use Rattle.job_core.specs.States.{going, is_tolerant, last_stops};
 
 use store_data::{Class, Cursor, RecordPlan, class};
@@ -55,16 +55,7 @@ pub(crate) fn last_stops(plan: &RecordPlan<'_>, words: &[u16]) -> bool
         return false;
     }
     let place = words.len() - 1;
-    !goes_on(words[place], is_tolerant(plan, place))
-}
-
-fn goes_on(sw: u16, is_tolerant: bool) -> bool
-    ensures { result ≡ goes_on sw is_tolerant }
-{
-    match class(sw, is_tolerant) {
-        Class::Go => true,
-        Class::Stop => false,
-    }
+    class(words[place], is_tolerant(plan, place)) == Class::Stop
 }
 
 /// How many of the words go.

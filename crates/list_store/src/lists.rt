@@ -1,9 +1,10 @@
 //! The facts as lists.
-ghost use Rattle.std.specs.Prelude.{◌≡◌, IfSome, OnErr, OnOk, Some};
+ghost use Rattle.std.specs.Prelude.{◌≡◌, IfErr, IfOk, Ok, OnErr, OnOk};
 ghost use Rattle.store_data.specs.Sequence.{IsProduct};
 ghost use Rattle.job_core.specs.Facts.{ended, no_facts, worded};
+ghost use Rattle.job_core.specs.declared.store.StoreFault.TheVariants.{Memory};
 
-use job_core::Lot;
+use job_core::{Lot, StoreFault};
 use std::alloc::{AllocError, Global};
 use std::marker::Model;
 use store_data::{Bytes, Name, Product};
@@ -26,15 +27,16 @@ impl Model for KnownProduct {
 }
 
 impl KnownProduct {
-    /// A product, where it is in its ranges.
-    pub(crate) fn new(product: Product) -> Option<KnownProduct>
-        ensures value { IfSome result (λ known. known ≡ product) }
-        ensures there { IsProduct product → result ≡ Some product }
+    /// A product in its ranges. One out of them is told as refused memory: sound facts have none.
+    pub(crate) fn new(product: Product) -> Result<KnownProduct, StoreFault>
+        ensures value { IfOk result (λ known. known ≡ product) }
+        ensures there { IsProduct product → result ≡ Ok product }
+        ensures cause { IfErr result (λ fault. fault ≡ Memory) }
     {
         if product.max >= 16 && product.low <= 31 {
-            Some(KnownProduct { product })
+            Ok(KnownProduct { product })
         } else {
-            None
+            Err(StoreFault::Memory)
         }
     }
 

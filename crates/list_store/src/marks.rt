@@ -1,7 +1,7 @@
 //! How far clients have released their numbers.
-ghost use Rattle.std.specs.Prelude.{◌≡◌, IfErr, OnErr, OnOk, bytes_eq, nat_lt, not};
+ghost use Rattle.std.specs.Prelude.{◌≡◌, IfErr, OnErr, OnOk};
 ghost use Rattle.job_core.specs.declared.store.StoreFault.TheVariants.{Memory};
-ghost use Rattle.job_core.specs.Contents.{above, has_mark, is_above, mark_of, with_mark};
+ghost use Rattle.job_core.specs.Contents.{above, mark_of, with_mark};
 
 use crate::lists::{KeptMark, KeptRow};
 use job_core::StoreFault;

@@ -1,10 +1,10 @@
 //! The rows of a batch, its records, and their plans.
-ghost use Rattle.std.specs.Prelude.{◌≡◌, ◌≤◌, ◌∷◌, All, IfErr, IfOk, bytes_eq, length, map};
+ghost use Rattle.std.specs.Prelude.{◌≡◌, ◌≤◌, All, IfErr, IfOk, bytes_eq, length, map};
 ghost use Rattle.std.specs.List.{list_any};
 ghost use Rattle.store_data.specs.Groups.{first_appearances};
 ghost use Rattle.store_data.specs.Sequence.{IsProduct, IsRow};
 ghost use Rattle.store_data.specs.declared.row.Row.{Row as RowValue};
-ghost use Rattle.batch_import.specs.Batch.{batch_of, records_of_rows};
+ghost use Rattle.batch_import.specs.Batch.{batch_of};
 ghost use Rattle.batch_import.specs.SoundRecords.{AreSoundRecords};
 ghost use Rattle.job_core.specs.declared.store.StoreFault.TheVariants.{Memory};
 ghost use Rattle.job_core.specs.Rows.{batch_has, batch_row_of, batch_size_of};
@@ -62,42 +62,6 @@ fn rows_under(alloc: Global, product: &Product, raw: &[u8]) -> Result<Vec<Row>, 
     }
 }
 
-// The rows of a batch.
-#[tactic(auto, unfolding(job_core::specs::States::rows_of))]
-fn rows(alloc: Global, facts: &FactLists, batch: &KeptBatch) -> Result<Vec<Row>, StoreFault>
-    ensures value { IfOk result (λ rows. rows.items ≡ rows_of facts.now.products batch.now) }
-    ensures cause { IfErr result (λ fault. fault ≡ Memory) }
-{
-    match product_named(&facts.products, &batch.product) {
-        None => Ok(Vec::new(alloc)),
-        Some(product) => rows_under(alloc, &product, batch.raw.as_slice()),
-    }
-}
-
-// How many rows and records a batch has.
-#[tactic(auto, unfolding(job_core::specs::States::rows_of, store_data::specs::Groups::grouped))]
-fn totals(alloc: Global, facts: &FactLists, batch: &KeptBatch) -> Result<Totals, StoreFault>
-    ensures rows { IfOk result
-        (λ totals. totals.rows ≡ length (rows_of facts.now.products batch.now)) }
-    ensures records { IfOk result
-        (λ totals. totals.records
-        ≡ length (records_of_rows (rows_of facts.now.products batch.now))) }
-    ensures cause { IfErr result (λ fault. fault ≡ Memory) }
-{
-    let none = Totals {
-        rows: 0,
-        records: 0,
-    };
-    match product_named(&facts.products, &batch.product) {
-        None => Ok(none),
-        Some(product) => match check_batch(alloc, batch.raw.as_slice(), &product) {
-            Ok(totals) => Ok(totals),
-            Err(ImportFault::At(_)) => Ok(none),
-            Err(ImportFault::Memory) => Err(StoreFault::Memory),
-        },
-    }
-}
-
 /// The batch of a name.
 pub(crate) fn batch_row(facts: &FactLists, name: &Name) -> Option<BatchRow>
     ensures { result ≡ batch_row_of facts.now name.now }
@@ -109,6 +73,7 @@ pub(crate) fn batch_row(facts: &FactLists, name: &Name) -> Option<BatchRow>
 }
 
 /// How many rows and records the batch of a name has.
+#[tactic(auto, unfolding(job_core::specs::States::rows_of, store_data::specs::Groups::grouped))]
 pub(crate) fn batch_size(
     alloc: Global,
     facts: &FactLists,
@@ -117,15 +82,20 @@ pub(crate) fn batch_size(
     ensures value { IfOk result (λ size. size ≡ batch_size_of facts.now name.now) }
     ensures cause { IfErr result (λ fault. fault ≡ Memory) }
 {
-    match batch_named(&facts.batches, name) {
-        None => Ok(None),
-        Some(batch) => {
-            let totals = totals(alloc, facts, batch)?;
-            Ok(Some(BatchSize {
-                rows: totals.rows,
-                records: totals.records,
-            }))
-        }
+    let Some(batch) = batch_named(&facts.batches, name) else {
+        return Ok(None);
+    };
+    let none = BatchSize {
+        rows: 0,
+        records: 0,
+    };
+    let Some(product) = product_named(&facts.products, &batch.product) else {
+        return Ok(Some(none));
+    };
+    match check_batch(alloc, batch.raw.as_slice(), &product) {
+        Ok(Totals { rows, records }) => Ok(Some(BatchSize { rows, records })),
+        Err(ImportFault::At(_)) => Ok(Some(none)),
+        Err(ImportFault::Memory) => Err(StoreFault::Memory),
     }
 }
 
@@ -198,7 +168,7 @@ pub(crate) fn has_name(names: &[Name], name: &Name) -> bool
 }
 
 /// The records of the batch of a name, in file order.
-#[tactic(auto, unfolding(job_core::specs::States::records_of))]
+#[tactic(auto, unfolding(job_core::specs::States::records_of, job_core::specs::States::rows_of))]
 pub(crate) fn record_names(
     alloc: Global,
     facts: &FactLists,
@@ -207,8 +177,12 @@ pub(crate) fn record_names(
     ensures value { IfOk result (λ names. names.items ≡ records_named facts.now batch.now) }
     ensures cause { IfErr result (λ fault. fault ≡ Memory) }
 {
-    match batch_named(&facts.batches, batch) {
-        None => Ok(Vec::new(alloc)),
-        Some(kept) => names(alloc, rows(alloc, facts, kept)?.as_slice()),
-    }
+    let Some(kept) = batch_named(&facts.batches, batch) else {
+        return Ok(Vec::new(alloc));
+    };
+    let Some(product) = product_named(&facts.products, &kept.product) else {
+        return Ok(Vec::new(alloc));
+    };
+    let rows = rows_under(alloc, &product, kept.raw.as_slice())?;
+    names(alloc, &rows)
 }

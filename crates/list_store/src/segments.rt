@@ -1,9 +1,8 @@
 //! The segments of a record's plan.
-ghost use Rattle.std.specs.Prelude.{◌≡◌, ◌≤◌, IfErr, IfOk, IfSome, length};
+ghost use Rattle.std.specs.Prelude.{◌≡◌, ◌≤◌, IfErr, IfOk, IfSome};
 ghost use Rattle.job_core.specs.declared.rows.SegmentRow.{SegmentRow as SegmentRowValue};
 ghost use Rattle.job_core.specs.declared.store.StoreFault.TheVariants.{Memory};
-ghost use Rattle.job_core.specs.Rows.{segment_row, segment_row_of};
-ghost use Rattle.store_data.specs.Cursor.{shown};
+ghost use Rattle.job_core.specs.Rows.{segment_row_of};
 
 use crate::kept::copied;
 use crate::lists::FactLists;
@@ -30,24 +29,10 @@ pub(crate) fn segment_row_of(
         return Ok(None);
     };
     let plan = rows.plan(alloc)?;
-    match plan.segment(app, segment) {
-        None => Ok(None),
-        Some(view) => Ok(Some(segment_row(alloc, &plan, &view)?)),
-    }
-}
-
-fn segment_row(
-    alloc: Global,
-    plan: &RecordPlan<'_>,
-    view: &SegmentView<'_>,
-) -> Result<SegmentRow, StoreFault>
-    requires least { 5 ≤ length view.now.aid.now }
-    requires most { length view.now.aid.now ≤ 16 }
-    ensures value { IfOk result (λ row. row ≡ segment_row plan.now (shown view.now)) }
-    ensures ranged { IfOk result (λ (row : SegmentRowValue). row.low ≤ 31) }
-    ensures cause { IfErr result (λ fault. fault ≡ Memory) }
-{
-    Ok(SegmentRow {
+    let Some(view) = plan.segment(app, segment) else {
+        return Ok(None);
+    };
+    Ok(Some(SegmentRow {
         aid: Aid::new(view.aid),
         bytes: copied(alloc, view.bytes)?,
         enc: view.enc,
@@ -55,5 +40,5 @@ fn segment_row(
         last: view.last,
         max: plan.max(),
         low: plan.low(),
-    })
+    }))
 }

@@ -1,14 +1,14 @@
 //! Sessions, and how they stand by their words.
-ghost use Rattle.std.specs.Prelude.{◌≡◌, ◌∷◌, IfErr, IfOk, IfSome, length, option_copied};
+ghost use Rattle.std.specs.Prelude.{◌≡◌, IfErr, IfOk, IfSome, option_copied};
 ghost use Rattle.std.specs.Prelude.{unwrap_or};
 ghost use Rattle.store_data.specs.Cursor.{IsCursor};
 ghost use Rattle.store_data.specs.Sequence.{commands_of, no_plan};
 ghost use Rattle.job_core.specs.declared.rows.SessionRow.{SessionRow as SessionRowValue};
 ghost use Rattle.job_core.specs.declared.store.StoreFault.TheVariants.{Memory};
-ghost use Rattle.job_core.specs.Rows.{session_row, session_row_of};
+ghost use Rattle.job_core.specs.Rows.{session_row_of};
 ghost use Rattle.job_core.specs.States.{running_session, session_numbered, session_state};
 ghost use Rattle.job_core.specs.States.{state_with};
-ghost use Rattle.list_store.specs.Sessions.{cursor_after, running_from};
+ghost use Rattle.list_store.specs.Sessions.{cursor_after};
 
 use crate::cursors::{cursor_at, ends_at, going, last_stops};
 use crate::lists::{FactLists, KeptSession};
@@ -83,29 +83,8 @@ pub(crate) fn session_state(
     Ok(state_under(&plan, session))
 }
 
-#[tactic(auto, using(crate::proofs::SessionLemmas::state_under_plan, crate::proofs::SessionLemmas::cursor_under_plan))]
-fn session_row(
-    alloc: Global,
-    facts: &FactLists,
-    session: &KeptSession,
-) -> Result<SessionRow, StoreFault>
-    ensures value { IfOk result (λ row. row ≡ session_row facts.now session.now) }
-    ensures ranged { IfOk result (λ (row : SessionRowValue). IsCursor row.cursor) }
-    ensures cause { IfErr result (λ fault. fault ≡ Memory) }
-{
-    let rows = record_rows(alloc, facts, &session.batch, &session.rec)?;
-    let plan = plan_or_none(alloc, &rows)?;
-    Ok(SessionRow {
-        machine: session.machine,
-        batch: session.batch,
-        rec: session.rec,
-        stands: state_under(&plan, session),
-        words: session.words.len() as u64,
-        cursor: cursor_under(&plan, session),
-    })
-}
-
 /// The session of a number, with what follows from its words.
+#[tactic(auto, using(crate::proofs::SessionLemmas::state_under_plan, crate::proofs::SessionLemmas::cursor_under_plan))]
 pub(crate) fn session_row_of(
     alloc: Global,
     facts: &FactLists,
@@ -116,10 +95,19 @@ pub(crate) fn session_row_of(
         (λ row. IfSome row (λ (row : SessionRowValue). IsCursor row.cursor)) }
     ensures cause { IfErr result (λ fault. fault ≡ Memory) }
 {
-    match session_numbered(&facts.sessions, number) {
-        None => Ok(None),
-        Some(session) => Ok(Some(session_row(alloc, facts, session)?)),
-    }
+    let Some(session) = session_numbered(&facts.sessions, number) else {
+        return Ok(None);
+    };
+    let rows = record_rows(alloc, facts, &session.batch, &session.rec)?;
+    let plan = plan_or_none(alloc, &rows)?;
+    Ok(Some(SessionRow {
+        machine: session.machine,
+        batch: session.batch,
+        rec: session.rec,
+        stands: state_under(&plan, session),
+        words: session.words.len() as u64,
+        cursor: cursor_under(&plan, session),
+    }))
 }
 
 /// The number of a machine's running session.
@@ -132,21 +120,7 @@ pub(crate) fn running_session(
     ensures value { IfOk result (λ number. number ≡ running_session facts.now machine.now) }
     ensures cause { IfErr result (λ fault. fault ≡ Memory) }
 {
-    running_among(alloc, facts, &facts.sessions, machine)
-}
-
-// The number of the first of these sessions that runs on a machine.
-fn running_among(
-    alloc: Global,
-    facts: &FactLists,
-    sessions: &[KeptSession],
-    machine: &Name,
-) -> Result<Option<u64>, StoreFault>
-    ensures value { IfOk result
-        (λ number. number ≡ running_from facts.now machine.now 1 sessions.now) }
-    ensures cause { IfErr result (λ fault. fault ≡ Memory) }
-{
-    for (place, session) in sessions.iter().enumerate() {
+    for (place, session) in facts.sessions.iter().enumerate() {
         if session.machine == *machine
             && session_state(alloc, facts, session)? == SessionState::Running
         {

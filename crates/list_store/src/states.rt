@@ -1,13 +1,13 @@
 //! How records stand.
-ghost use Rattle.std.specs.Prelude.{◌≡◌, ◌∷◌, ◌&&◌, IfErr, IfOk, bytes_eq, count_by, filter, find};
+ghost use Rattle.std.specs.Prelude.{◌≡◌, ◌&&◌, IfErr, IfOk, count_by, filter};
 ghost use Rattle.std.specs.Prelude.{map};
-ghost use Rattle.std.specs.List.{list_all, list_any};
+ghost use Rattle.std.specs.List.{list_any};
 ghost use Rattle.job_core.specs.declared.store.StoreFault.TheVariants.{Memory};
 ghost use Rattle.job_core.specs.Accounts.{count_sessions};
 ghost use Rattle.list_store.specs.Sessions.{sessions_of_record};
-ghost use Rattle.job_core.specs.States.{first_waiting, is_batch_finished, is_finished, is_record};
-ghost use Rattle.job_core.specs.States.{is_waiting, record_state, record_state_of};
-ghost use Rattle.job_core.specs.States.{same_session_state, session_state, state_by, states_of};
+ghost use Rattle.job_core.specs.States.{first_waiting, is_batch_finished, is_record};
+ghost use Rattle.job_core.specs.States.{record_state, record_state_of};
+ghost use Rattle.job_core.specs.States.{session_state, state_by, states_of};
 
 use crate::lists::{FactLists, KeptRecord, KeptSession};
 use crate::records::{has_name, record_names};
@@ -67,19 +67,12 @@ pub(crate) fn count_sessions(states: &[SessionState], state: SessionState) -> u6
     states.iter().filter(|other| **other == state).count() as u64
 }
 
-// Whether a session stands so.
-fn has_session(states: &[SessionState], state: SessionState) -> bool
-    ensures { result ≡ list_any (same_session_state state) states.now }
-{
-    states.iter().any(|other| *other == state)
-}
-
 fn state_by(states: &[SessionState], withdrawn: bool, remakes: u64) -> RecordState
     ensures { result ≡ state_by states.now withdrawn remakes }
 {
-    if has_session(states, SessionState::Good) {
+    if states.contains(&SessionState::Good) {
         RecordState::Good
-    } else if has_session(states, SessionState::Running) {
+    } else if states.contains(&SessionState::Running) {
         RecordState::Running
     } else if withdrawn {
         RecordState::Withdrawn
@@ -137,21 +130,7 @@ pub(crate) fn first_waiting(
     ensures cause { IfErr result (λ fault. fault ≡ Memory) }
 {
     let names = record_names(alloc, facts, batch)?;
-    waiting_among(alloc, facts, batch, &names)
-}
-
-// The first of these records that waits.
-fn waiting_among(
-    alloc: Global,
-    facts: &FactLists,
-    batch: &Name,
-    names: &[Name],
-) -> Result<Option<Name>, StoreFault>
-    ensures value { IfOk result
-        (λ rec. rec ≡ find (λ r. is_waiting (record_state facts.now batch.now r)) names.now) }
-    ensures cause { IfErr result (λ fault. fault ≡ Memory) }
-{
-    for rec in names {
+    for rec in &names {
         if record_state(alloc, facts, batch, rec)? == RecordState::Waiting {
             return Ok(Some(*rec));
         }
@@ -170,29 +149,9 @@ pub(crate) fn is_batch_finished(
     ensures cause { IfErr result (λ fault. fault ≡ Memory) }
 {
     let names = record_names(alloc, facts, batch)?;
-    are_finished(alloc, facts, batch, &names)
-}
-
-fn is_finished(state: RecordState) -> bool
-    ensures { result ≡ is_finished state }
-{
-    matches!(state, RecordState::Good | RecordState::Withdrawn)
-}
-
-// Whether each of these records is good or withdrawn.
-fn are_finished(
-    alloc: Global,
-    facts: &FactLists,
-    batch: &Name,
-    names: &[Name],
-) -> Result<bool, StoreFault>
-    ensures value { IfOk result
-        (λ finished. finished ≡ list_all
-        (λ r. is_finished (record_state facts.now batch.now r)) names.now) }
-    ensures cause { IfErr result (λ fault. fault ≡ Memory) }
-{
-    for rec in names {
-        if !is_finished(record_state(alloc, facts, batch, rec)?) {
+    for rec in &names {
+        let state = record_state(alloc, facts, batch, rec)?;
+        if !matches!(state, RecordState::Good | RecordState::Withdrawn) {
             return Ok(false);
         }
     }

@@ -1,9 +1,10 @@
 use Rattle.std.proofs.Common.{◌≡◌, drop}
 use Rattle.std.specs.Prelude.{find}
 use Rattle.job_core.specs.States.{is_waiting, record_state}
-use Rattle.list_store.proofs.states.waiting_among.Given as goal
+use Rattle.list_store.proofs.states.first_waiting.Given as goal
 
 -- none so far waits
 abbrev pub invariant-loop-rec : goal.invariant-loop-rec
 invariant-loop-rec l =
-    find (λ r. is_waiting (record_state l.facts l.batch r)) (drop l.rec-index l.names) ≡ find (λ r. is_waiting (record_state l.facts l.batch r)) l.names
+    find (λ r. is_waiting (record_state l.facts l.batch r)) (drop l.rec-index l.rec-items)
+    ≡ find (λ r. is_waiting (record_state l.facts l.batch r)) l.rec-items
