@@ -3,6 +3,8 @@
 
 mod opening;
 mod products;
+mod words;
 
 pub use opening::create;
 pub use products::commit_product;
+pub use words::commit_going_word;
