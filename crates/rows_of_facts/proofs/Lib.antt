@@ -1,3 +1,4 @@
 pub mod Lists
 pub mod Staying
 pub mod Products
+pub mod Words

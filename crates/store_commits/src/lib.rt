@@ -1,6 +1,10 @@
 //! Each change of the facts with its reply, in one transaction.
 #![tactic(auto)]
 
+mod opening;
 mod products;
+mod words;
 
+pub use opening::create;
 pub use products::commit_product;
+pub use words::commit_going_word;
