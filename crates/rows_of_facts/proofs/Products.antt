@@ -1,4 +1,4 @@
--- The rows after a product was added.
+-- The rows after a reply, and after a product was added.
 use Rattle.std.proofs.Common.{◌≡◌, ℕ, List, refl}
 use Rattle.store_data.specs.declared.row.Product.{Product}
 use Rattle.job_core.specs.declared.change.Change.TheVariants as change
@@ -26,6 +26,21 @@ module _ (f : Facts) (p : Product) where
   words_stay : stored_words (with_product f p) ≡ stored_words f
   unfolding stored_words
   words_stay = refl
+
+pub rows_with_reply : (c : Contents) (entry : Entry) → HaveSameRows (image (committed c change.Nothing entry)) (tables.with_reply entry (image c))
+rows_with_reply c entry = record {
+  products = unmoved _ _ refl;
+  lots = unmoved _ _ refl;
+  batches = unmoved _ _ refl;
+  records = unmoved _ _ refl;
+  groupings = unmoved _ _ refl;
+  sessions = unmoved _ _ refl;
+  words = unmoved _ _ refl;
+  blanks = unmoved _ _ refl;
+  remakes = unmoved _ _ refl;
+  replies = pushed c.kept entry;
+  marks = unmoved _ _ refl;
+}
 
 pub rows_with_product : (c : Contents) (p : Product) (entry : Entry) → IsSound c.facts
     → HaveSameRows (image (committed c (change.AddsProduct p) entry)) (tables.with_reply entry (tables.with_product p (image c)))

@@ -10,6 +10,12 @@ ghost use Rattle.rows_of_facts.specs.Image.{image};
 ghost use Rattle.table_rows.specs.Tables.{HaveSameRows, with_product, with_reply};
 ghost use Rattle.table_rows.specs.Tables.{with_session_set, with_word};
 
+/// A reply with no change is one row more in its table.
+pub fn rows_with_reply()
+    ensures { (c : Contents) (entry : Entry) → HaveSameRows
+        (image (committed c change.Nothing entry)) (with_reply entry (image c)) }
+{}
+
 /// A new product and its reply are one row more in each of their tables.
 pub fn rows_with_product()
     ensures { (c : Contents) (p : ProductValue) (entry : Entry) → IsSound c.facts

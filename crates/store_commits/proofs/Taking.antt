@@ -1,6 +1,9 @@
 -- From the rows that are written to the contents that are taken.
-use Rattle.std.proofs.Common.{ℕ, ◌+◌}
+use Rattle.std.proofs.Common.{Result, Ok, Err, ℕ, ◌+◌}
 use Rattle.sqlite.specs.Effect.{Database}
+use Rattle.sqlite.specs.State.{State}
+use Rattle.sqlite.specs.declared.error.Error.{Error}
+use Rattle.sql_base.specs.Ends.{Wrote}
 use Rattle.store_data.specs.declared.cursor.Cursor.{Cursor}
 use Rattle.store_data.specs.declared.row.Product.{Product}
 use Rattle.job_core.specs.declared.change.Change.TheVariants as change
@@ -31,3 +34,15 @@ module _ (s index sw : ℕ) (cursor : Cursor) (entry : Entry) where
       → Takes (change.AddsWord s index sw session.Running cursor) entry a d
   going_word_taken law a b d two three c sound owed holds =
       same_rows _ _ d (law c sound.facts owed.keeps) (three (on_session (with_word word_row (image c))) (two (image c) holds))
+
+pub reply_taken : (entry : Entry) → ((c : Contents) → HaveSameRows (image (committed c change.Nothing entry)) (with_reply entry (image c)))
+    → (a b : Database) → Moves (with_reply entry) a b → Takes change.Nothing entry a b
+reply_taken entry law a b one c sound owed holds = same_rows _ _ b (law c) (one (image c) holds)
+
+-- what is written, told in other words
+pub wrote_as : {X : Type 0} (P Q : Database → Database → Type 0) (a b : State) (r : Result X Error) → (P a.now b.now → Q a.now b.now) → Wrote P a b r → Wrote Q a b r
+wrote_as P Q a b (Err e) told wrote = record { well = tt; kept = wrote.kept }
+wrote_as P Q a b (Ok x) told wrote = record {
+  well = record { made = told wrote.well.made; committed = wrote.well.committed; inside = wrote.well.inside; was_open = wrote.well.was_open };
+  kept = wrote.kept;
+}
