@@ -6,7 +6,7 @@ use Rattle.sqlite.specs.Listing.{understood}
 use Rattle.sqlite.proofs.Callers.{IsPlain, command_of}
 use Rattle.sqlite_tied.specs.Compute.{everything}
 use Rattle.sql_tables.specs.Tables.{our_schema}
-use Rattle.row_writes.specs.Texts.{add_product_terms, add_product_text, add_reply_terms, add_reply_text, add_word_terms, add_word_text, set_session_query, set_session_text}
+use Rattle.row_writes.specs.Texts.{add_lot_terms, add_lot_text, add_remake_terms, add_remake_text, add_product_terms, add_product_text, add_reply_terms, add_reply_text, add_word_terms, add_word_text, set_session_query, set_session_text}
 
 pub add_product_is : command_of (understood our_schema add_product_text) ≡ Insert 1 (Values add_product_terms 5)
 unfolding understood everything
@@ -39,3 +39,19 @@ set_session_is = refl
 pub set_session_plain : IsPlain (understood our_schema set_session_text)
 unfolding understood everything
 set_session_plain = (refl, refl)
+
+pub add_lot_is : command_of (understood our_schema add_lot_text) ≡ Insert 2 (Values add_lot_terms 6)
+unfolding understood everything
+add_lot_is = refl
+
+pub add_lot_plain : IsPlain (understood our_schema add_lot_text)
+unfolding understood everything
+add_lot_plain = (refl, refl)
+
+pub add_remake_is : command_of (understood our_schema add_remake_text) ≡ Insert 9 (Values add_remake_terms 4)
+unfolding understood everything
+add_remake_is = refl
+
+pub add_remake_plain : IsPlain (understood our_schema add_remake_text)
+unfolding understood everything
+add_remake_plain = (refl, refl)

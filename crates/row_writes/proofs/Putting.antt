@@ -1,7 +1,7 @@
 -- What each INSERT does to the rows.
 use Rattle.std.proofs.Common.{◌≡◌, ℕ, ◌==◌, inl, inr, List, [], ◌∷◌, drop, length, map, pos, take, Ok, refl}
 use Rattle.std.proofs.lemmas.Bool.{cases_Bool}
-use Rattle.sqlite.specs.declared.types.Value.TheVariants.{Null}
+use Rattle.sqlite.specs.declared.types.Value.TheVariants.{Null, Text}
 use Rattle.sqlite.specs.Cast.{cast_row}
 use Rattle.sqlite.specs.Order.{Row}
 use Rattle.sqlite.specs.State.{Executes, State}
@@ -9,17 +9,18 @@ use Rattle.sqlite_rules.specs.Action.{works}
 use Rattle.sqlite_schema.specs.declared.schema.Keys.TheVariants.{Enforced}
 use Rattle.sqlite_schema.specs.Names.{same_name}
 use Rattle.store_data.specs.declared.row.Product.{Product}
+use Rattle.job_core.specs.declared.facts.Lot.{Lot}
 use Rattle.job_core.specs.Contents.{Entry}
 use Rattle.sql_base.specs.Effects.{Inserted}
 use Rattle.sql_base.proofs.Inserting.{inserted}
 use Rattle.sql_base.proofs.Values.{cast_int, cast_null}
-use Rattle.sql_tables.specs.Tables.{our_schema, product_table, reply_table, word_table}
-use Rattle.table_rows.specs.Tables.{StoredWord, with_product, with_reply, with_word}
-use Rattle.sql_rows.specs.Encoding.{flag, product_row, reply_row, word_row}
+use Rattle.sql_tables.specs.Tables.{lot_table, our_schema, product_table, remake_table, reply_table, word_table}
+use Rattle.table_rows.specs.Tables.{StoredLot, StoredRemake, StoredWord, with_lot, with_product, with_remake, with_reply, with_word}
+use Rattle.sql_rows.specs.Encoding.{flag, lot_row, number, product_row, remake_row, reply_row, word_row}
 use Rattle.sql_rows.specs.Image.{Moves, filled, unnumbered}
 use Rattle.sql_rows.proofs.Filling.{refilled, row_put}
-use Rattle.row_writes.specs.Texts.{add_product_terms, add_product_text, add_reply_terms, add_reply_text, add_word_terms, add_word_text}
-use Rattle.row_writes.proofs.Meanings.{add_product_is, add_product_plain, add_reply_is, add_reply_plain, add_word_is, add_word_plain}
+use Rattle.row_writes.specs.Texts.{add_lot_terms, add_lot_text, add_remake_terms, add_remake_text, add_product_terms, add_product_text, add_reply_terms, add_reply_text, add_word_terms, add_word_text}
+use Rattle.row_writes.proofs.Meanings.{add_lot_is, add_lot_plain, add_remake_is, add_remake_plain, add_product_is, add_product_plain, add_reply_is, add_reply_plain, add_word_is, add_word_plain}
 
 -- no foreign key of ours acts on another table
 pub no_works : (tree : ℕ) (olds news : List Row) → works our_schema Enforced 0 tree olds news ≡ []
@@ -73,3 +74,43 @@ word_added old new w count ran t image =
     let rows = map word_row t.words in
     refilled (take 7 (filled t)) (drop 8 (filled t)) word_table refl refl t (with_word w t) old new
     (unnumbered word_table rows) (unnumbered word_table (word_row w ∷ rows)) refl refl refl refl it.kept it.others (row_put word_table (word_row w) rows old new it) image
+
+-- a new lot has no discarded blank
+abbrev pub new_lot : Lot → StoredLot
+new_lot l = record { lot = l; discarded = 0 }
+
+abbrev pub lot_values : Lot → Row
+lot_values l = Text l.name ∷ Text l.product ∷ number l.first ∷ number l.count ∷ []
+
+lot_cast : (l : Lot) → cast_row lot_table (Null ∷ lot_row (new_lot l)) ≡ Null ∷ lot_row (new_lot l)
+lot_cast l = rw (cast_null, cast_int (pos l.first), cast_int (pos l.count), cast_int (pos 0)) refl
+
+lot_inserted : (old new : State) (l : Lot) (count : ℕ) → old.now.schema ≡ our_schema → Executes add_lot_text (lot_values l) old new (Ok count)
+    → Inserted our_schema lot_table (Null ∷ lot_row (new_lot l)) old new
+lot_inserted old new l count ours =
+    inserted add_lot_text (lot_values l) old new our_schema ours 2 lot_table add_lot_terms 6 add_lot_is add_lot_plain refl refl refl
+    (Null ∷ lot_row (new_lot l)) (Null ∷ lot_row (new_lot l)) refl (lot_cast l) (no_works 3) count
+
+pub lot_added : (old new : State) (l : Lot) (count : ℕ) → Executes add_lot_text (lot_values l) old new (Ok count) → Moves (with_lot (new_lot l)) old.now new.now
+lot_added old new l count ran t image =
+    let it = lot_inserted old new l count image.ours ran in
+    let rows = map lot_row t.lots in
+    let row = lot_row (new_lot l) in
+    refilled (take 2 (filled t)) (drop 3 (filled t)) lot_table refl refl t (with_lot (new_lot l) t) old new
+    (unnumbered lot_table rows) (unnumbered lot_table (row ∷ rows)) refl refl refl refl it.kept it.others (row_put lot_table row rows old new it) image
+
+remake_cast : (r : StoredRemake) → cast_row remake_table (Null ∷ remake_row r) ≡ Null ∷ remake_row r
+remake_cast r = rw (cast_null, cast_int (pos r.batch), cast_int (pos r.place), cast_int (pos r.turn)) refl
+
+remake_inserted : (old new : State) (r : StoredRemake) (count : ℕ) → old.now.schema ≡ our_schema → Executes add_remake_text (remake_row r) old new (Ok count)
+    → Inserted our_schema remake_table (Null ∷ remake_row r) old new
+remake_inserted old new r count ours =
+    inserted add_remake_text (remake_row r) old new our_schema ours 9 remake_table add_remake_terms 4 add_remake_is add_remake_plain refl refl refl
+    (Null ∷ remake_row r) (Null ∷ remake_row r) refl (remake_cast r) (no_works 17) count
+
+pub remake_added : (old new : State) (r : StoredRemake) (count : ℕ) → Executes add_remake_text (remake_row r) old new (Ok count) → Moves (with_remake r) old.now new.now
+remake_added old new r count ran t image =
+    let it = remake_inserted old new r count image.ours ran in
+    let rows = map remake_row t.remakes in
+    refilled (take 9 (filled t)) (drop 10 (filled t)) remake_table refl refl t (with_remake r t) old new
+    (unnumbered remake_table rows) (unnumbered remake_table (remake_row r ∷ rows)) refl refl refl refl it.kept it.others (row_put remake_table (remake_row r) rows old new it) image

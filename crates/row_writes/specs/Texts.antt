@@ -1,6 +1,6 @@
 -- The texts of the statements that write, and the values that they put in.
-use Rattle.std.specs.Prelude.{List, ℕ, [], ◌∷◌, codes}
-use Rattle.sqlite.specs.declared.types.Value.TheVariants.{Null}
+use Rattle.std.specs.Prelude.{List, ℕ, pos, [], ◌∷◌, codes}
+use Rattle.sqlite.specs.declared.types.Value.TheVariants.{Int, Null}
 use Rattle.sqlite.specs.Query.{Query}
 use Rattle.sqlite.specs.Term.{Term, col, lit}
 use Rattle.sql_base.specs.Queries.{from_tree, is_equal}
@@ -36,3 +36,15 @@ set_session_columns =
 
 abbrev pub set_session_query : Query
 set_session_query = from_tree 12 by_id set_session_columns
+
+abbrev pub add_lot_text : List ℕ
+add_lot_text = codes "INSERT INTO lot (name, product, low_serial, amount, discarded) VALUES (?1, ?2, ?3, ?4, 0)"
+
+abbrev pub add_lot_terms : List Term
+add_lot_terms = lit Null ∷ col 0 0 ∷ col 0 1 ∷ col 0 2 ∷ col 0 3 ∷ lit (Int (pos 0)) ∷ []
+
+abbrev pub add_remake_text : List ℕ
+add_remake_text = codes "INSERT INTO remake (batch, place, turn) VALUES (?1, ?2, ?3)"
+
+abbrev pub add_remake_terms : List Term
+add_remake_terms = lit Null ∷ col 0 0 ∷ col 0 1 ∷ col 0 2 ∷ []

@@ -5,8 +5,10 @@ ghost use Rattle.sqlite.specs.State.{HasCleanDisk, Survives};
 ghost use Rattle.job_core.specs.Contents.{Entry};
 ghost use Rattle.sql_base.specs.Ends.{Wrote};
 ghost use Rattle.sql_rows.specs.Image.{Moves};
-ghost use Rattle.table_rows.specs.Tables.{with_product, with_reply};
+ghost use Rattle.table_rows.specs.Tables.{StoredLot, StoredRemake, with_lot, with_product};
+ghost use Rattle.table_rows.specs.Tables.{with_remake, with_reply};
 
+use job_core::Lot;
 use sql_base::int;
 use sqlite::types::ValueRef;
 use sqlite::{Alter, Error, Transaction};
@@ -29,6 +31,56 @@ pub fn add_product<S: Alter>(tx: &mut Transaction<'_, S>, product: &Product) -> 
             int(u64::from(product.low)),
             int(u64::from(product.check)),
         ],
+    )
+}
+
+/// Adds a lot, of which no blank is discarded.
+pub fn add_lot<S: Alter>(tx: &mut Transaction<'_, S>, lot: &Lot) -> Result<usize, Error>
+    requires { lot.now.first < 2 ^ 63 }
+    ensures same_reference { tx.new.conn.ghost_name ≡ tx.old.conn.ghost_name }
+    ensures wrote { let row : StoredLot = record { lot = lot.now; discarded = 0 } in
+        HasCleanDisk (state S.Store tx.new.conn.now)
+        → Wrote (Moves (with_lot row)) (state S.Store tx.old.conn.now)
+        (state S.Store tx.new.conn.now) result }
+    ensures survives { Survives (state S.Store tx.old.conn.now) (state S.Store tx.new.conn.now)
+        (λ _. ⊥) }
+{
+    tx.execute(
+        "INSERT INTO lot (name, product, low_serial, amount, discarded) \
+        VALUES (?1, ?2, ?3, ?4, 0)",
+        &[
+            ValueRef::Text(lot.name.bytes()),
+            ValueRef::Text(lot.product.bytes()),
+            int(lot.first),
+            int(u64::from(lot.count)),
+        ],
+    )
+}
+
+/// Adds a turn in which the record at a place of a batch was remade.
+pub fn add_remake<S: Alter>(
+    tx: &mut Transaction<'_, S>,
+    batch: u64,
+    place: u32,
+    turn: u64,
+) -> Result<usize, Error>
+    requires batch { batch < 2 ^ 63 }
+    requires turn { turn < 2 ^ 63 }
+    ensures same_reference { tx.new.conn.ghost_name ≡ tx.old.conn.ghost_name }
+    ensures wrote { let row : StoredRemake = record {
+      batch = batch;
+      place = place;
+      turn = turn;
+    } in
+        HasCleanDisk (state S.Store tx.new.conn.now)
+        → Wrote (Moves (with_remake row)) (state S.Store tx.old.conn.now)
+        (state S.Store tx.new.conn.now) result }
+    ensures survives { Survives (state S.Store tx.old.conn.now) (state S.Store tx.new.conn.now)
+        (λ _. ⊥) }
+{
+    tx.execute(
+        "INSERT INTO remake (batch, place, turn) VALUES (?1, ?2, ?3)",
+        &[int(batch), int(u64::from(place)), int(turn)],
     )
 }
 

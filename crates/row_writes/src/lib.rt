@@ -5,4 +5,4 @@ mod cards;
 mod inserts;
 
 pub use cards::{add_word, session_code, set_session};
-pub use inserts::{add_product, add_reply};
+pub use inserts::{add_lot, add_product, add_remake, add_reply};

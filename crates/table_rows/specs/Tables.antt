@@ -129,6 +129,12 @@ with_product p t = record t { products = p ∷ t.products }
 abbrev pub with_reply : Entry → Tables → Tables
 with_reply e t = record t { replies = e ∷ t.replies }
 
+abbrev pub with_lot : StoredLot → Tables → Tables
+with_lot l t = record t { lots = l ∷ t.lots }
+
+abbrev pub with_remake : StoredRemake → Tables → Tables
+with_remake r t = record t { remakes = r ∷ t.remakes }
+
 abbrev pub with_word : StoredWord → Tables → Tables
 with_word w t = record t { words = w ∷ t.words }
 
