@@ -1,11 +1,6 @@
 -- What is told of a reply (this project's profile): its status, and its body, which is compact JSON (RFC 8259) with the members in order of their names.
-use Rattle.std.specs.Prelude.{ℕ, List, ◌++◌, codes, decimal}
-use Rattle.hex.specs.Hex.{encode_upper}
-use Rattle.batch_import.specs.Kinds.{code_of as kind_code_of, name_of as kind_name_of}
-use Rattle.job_core.specs.Refusals.{code_of, name_of}
+use Rattle.std.specs.Prelude.{ℕ, List}
 use Rattle.job_core.specs.declared.refusal.Refusal.TheVariants.{NumberReused}
-use Rattle.job_core.specs.declared.reply.Made.{Made}
-use Rattle.job_core.specs.declared.reply.Made.TheVariants.{Created, Known}
 use Rattle.job_core.specs.declared.reply.Reply.{Reply}
 use Rattle.job_core.specs.declared.reply.Reply.TheVariants.{Product, Lot, Import, Opened, Next, Good, Spoiled, Reset, Discarded, Waiting, Withdrawn, Closed, Refused, Busy, Released, NumberReleased, Faulty}
 use Rattle.arrivals.specs.declared.kept.Kept.{Kept}

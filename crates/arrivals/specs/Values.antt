@@ -1,5 +1,5 @@
 -- The JSON value of a reply.
-use Rattle.std.specs.Prelude.{◌≡◌, ℕ, Bool, true, false, List, codes, ⊤}
+use Rattle.std.specs.Prelude.{◌≡◌, ℕ, true, List, codes}
 use Rattle.std.specs.List.{list_all}
 use Rattle.hex.specs.Hex.{encode_upper}
 use Rattle.serde_json.specs.Data.{Data, number, unsigned, string, object, member, no_members}
@@ -17,11 +17,6 @@ made_name Known = codes "known"
 
 abbrev pub num : ℕ → Data
 num n = number (unsigned n)
-
--- a boolean as JSON has it
-abbrev pub flag_text : Bool → List ℕ
-flag_text true = codes "true"
-flag_text false = codes "false"
 
 abbrev pub ended_value : List ℕ → ℕ → Data
 ended_value result s = object (member (codes "result") (string result) (member (codes "session") (num s) no_members))

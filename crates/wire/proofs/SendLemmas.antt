@@ -1,16 +1,15 @@
 -- The text of a request's JSON value.
-use Rattle.std.proofs.Common.{◌≡◌, ◌<◌, ◌/◌, ◌%◌, ℕ, zero, suc, true, false, List, [], ◌∷◌, refl, sym, ap, ◌∙◌, append_assoc, arith}
+use Rattle.std.proofs.Common.{◌≡◌, ◌<◌, ◌/◌, ◌%◌, ℕ, zero, suc, false, List, [], ◌∷◌, refl, sym, ap, ◌∙◌, arith}
 use Rattle.serde_json.specs.Written.{compact_text, has_float}
-use Rattle.serde_json.proofs.OnLiterals.{serde_json_on_literals}
 use Rattle.hex.specs.Hex.{IsBytes}
 use Rattle.job_core.specs.declared.request.Call.{Call}
 use Rattle.job_core.specs.declared.request.Call.TheVariants.{Job, Release}
 use Rattle.job_core.specs.declared.request.Request.TheVariants as request
 use Rattle.arrivals.specs.Values.{IsPlain}
-use Rattle.arrivals.proofs.Escapes.{escape_plain, hex_plain, name_plain}
+use Rattle.arrivals.proofs.Escapes.{hex_plain}
 use Rattle.asks.specs.Asks.{import_tail}
 use Rattle.asks.specs.Posts.{post_with}
-use Rattle.wire.specs.Sending.{AreNames, IsNoImport, IsSendable, body_of, sending_of, tail_of, value_of, word_text}
+use Rattle.wire.specs.Sending.{IsNoImport, body_of, sending_of, tail_of, value_of, word_text}
 
 pub no_float : (r : Call) → has_float (value_of r) ≡ false
 no_float (Job (request.Product p)) = refl

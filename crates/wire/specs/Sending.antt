@@ -1,9 +1,9 @@
 -- The texts of requests: HTTP/1.1 (RFC 9112), with the lines of this project's profile, and compact JSON (RFC 8259) with the members in order of their names.
-use Rattle.std.specs.Prelude.{◌≡◌, ◌≤◌, ◌<◌, ◌^◌, ◌/◌, ◌%◌, ℕ, List, [], ◌∷◌, ◌++◌, length, codes, decimal, ⊤}
+use Rattle.std.specs.Prelude.{◌≡◌, ◌≤◌, ◌<◌, ◌^◌, ◌/◌, ◌%◌, ℕ, List, [], ◌∷◌, length, codes, ⊤}
 use Rattle.hex.specs.Hex.{encode_upper}
 use Rattle.serde_json.specs.Data.{Data, boolean, null, string, object, member, no_members}
 use Rattle.serde_json.specs.Written.{compact_text}
-use Rattle.arrivals.specs.Values.{flag_text, num}
+use Rattle.arrivals.specs.Values.{num}
 use Rattle.job_core.specs.Sound.{IsName}
 use Rattle.job_core.specs.Requests.{IsRequest}
 use Rattle.job_core.specs.declared.request.Call.{Call}
