@@ -1,6 +1,7 @@
 #!/usr/bin/env bash
 # Builds the tests of `trials`, and refuses each of their allocations in turn, one in each run of a test. It fails where a run fails, is
 # killed, or takes over 60 seconds, and names those. A word given here picks the tests whose names have it: bench/refused.sh memory::
+# Of the tests of `faults`, which take far more than the others, it refuses some 2000 each, evenly spread.
 set -euo pipefail
 cd "$(dirname "$0")/.."
 (cd crates/trials && rt test)
@@ -30,7 +31,10 @@ tests=0 total=0
 for test in $("$PROGRAM" --list | sed -n 's/: test$//p' | grep -F -- "${1:-}"); do
     COUNT=$folder/count run "$test" 0 >/dev/null
     count=$(cat "$folder/count")
-    seq 1 "$count" | xargs -r -P "$(nproc)" -n 50 bash -c 'runs "$@"' runs "$test" >>"$folder/failed"
+    step=1
+    case $test in faults::*) step=$((count / 2000 + 1)) ;; esac
+    seq 1 "$step" "$count" | xargs -r -P "$(nproc)" -n 50 bash -c 'runs "$@"' runs "$test" >>"$folder/failed"
+    count=$(seq 1 "$step" "$count" | wc -l)
     echo "$test: $count"
     tests=$((tests + 1)) total=$((total + count))
 done

@@ -89,7 +89,7 @@ module _ (f g : Facts) (sound : IsSound f) (same : AreSameFacts f g) where
   unfolding states_of
   states_alike b r = λ i. map (λ (s : Session). state_alike s i) (filter (λ (s : Session). bytes_eq s.batch b && bytes_eq s.rec r) (same.sessions i))
 
-  record_alike : (b r : List ℕ) → record_state f b r ≡ record_state g b r
+  pub record_alike : (b r : List ℕ) → record_state f b r ≡ record_state g b r
   unfolding record_state
   record_alike b r = λ i.
       state_by (states_alike b r i) (list_any-IsPermutation (is_record b r) f.withdrawn g.withdrawn same.withdrawn i)
@@ -100,7 +100,7 @@ module _ (f g : Facts) (sound : IsSound f) (same : AreSameFacts f g) where
   names_under None = refl
   names_under (Some b) = λ i. first_appearances (map (λ (row : Row). row.rec) (rows_alike b i))
 
-  names_alike : (b : List ℕ) → records_named f b ≡ records_named g b
+  pub names_alike : (b : List ℕ) → records_named f b ≡ records_named g b
   names_alike b = names_under (batch_named f.batches b) ∙ ap (records_under g.products) (batches_alike b)
 
   pub waiting_alike : (b : List ℕ) → first_waiting f b ≡ first_waiting g b

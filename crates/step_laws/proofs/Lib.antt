@@ -13,3 +13,4 @@ pub mod BlankSums
 pub mod Permuted
 pub mod AlikeReads
 pub mod AlikeSteps
+pub mod AlikeAccounts

@@ -5,7 +5,7 @@ ghost use Rattle.job_core.specs.Contents.{AreSameFacts};
 ghost use Rattle.job_core.specs.Facts.{Facts};
 ghost use Rattle.job_core.specs.Sound.{IsName, IsSound};
 ghost use Rattle.job_core.specs.Steps.{step};
-ghost use Rattle.step_laws.specs.Alike.{AreAlike};
+ghost use Rattle.step_laws.specs.Alike.{AreAlike, HaveSameAccounts};
 ghost use Rattle.step_laws.specs.Ranges.{IsRanged};
 
 /// Sound facts stay sound, whatever a client asks in its ranges.
@@ -20,8 +20,9 @@ pub fn sessions_are_few()
 {}
 
 /// Facts that are the same but for the order of what is a set are asked alike: a request gets one
-/// reply on both, and leaves the same again.
+/// reply on both, and leaves the same again. Their accounts are the same.
 pub fn same_facts_answer_alike()
-    ensures { (f g : Facts) (client : List ℕ) (r : RequestValue)
+    ensures replies { (f g : Facts) (client : List ℕ) (r : RequestValue)
         → IsSound f → AreSameFacts f g → AreAlike (step f client r) (step g client r) }
+    ensures accounts { (f g : Facts) → IsSound f → AreSameFacts f g → HaveSameAccounts f g }
 {}

@@ -26,6 +26,10 @@ pub(crate) struct Exchange(
     pub(crate) &'static str,
 );
 
+/// What is told where the store failed, or memory was refused.
+pub(crate) const UNAVAILABLE: &[u8] =
+    b"HTTP/1.1 503 Service Unavailable\r\nContent-Type: application/json\r\nContent-Length: 32\r\nConnection: close\r\n\r\n{\"code\":503,\"refused\":\"storage\"}";
+
 /// The name of these characters.
 pub(crate) fn name(text: &str) -> Result<Name, Fail> {
     Ok(Name::new(text.as_bytes()).ok_or("no name")?)

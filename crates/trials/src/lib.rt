@@ -1,4 +1,4 @@
-//! Tests of what no file of worked examples can say: readers and writers that fail, refused memory, and the program's words.
+//! Tests of what no file of worked examples can say: readers, writers and devices that fail, refused memory, and the program's words.
 #![tactic(auto)]
 
 #[cfg(test)]
@@ -11,6 +11,8 @@ mod exchanges;
 mod failing_readers;
 #[cfg(test)]
 mod failing_writers;
+#[cfg(test)]
+mod faults;
 #[cfg(test)]
 mod memory;
 #[cfg(test)]

@@ -123,16 +123,11 @@ fn a_spoiled_card_is_made_again(rt: HostRuntime) -> Result<(), Fail> {
     let alloc = rt.alloc();
     let mut store = store_after(&rt, alloc, &SET_UP)?;
     tell(&rt, alloc, &mut store, MADE_AGAIN.exchanges)?;
+    let [batch, blanks] = MADE_AGAIN.accounts;
     let account = at_last!(batch_counts(alloc, &mut store, &name("B1")?))?;
-    assert_eq!(rt;
-        account.as_slice(),
-        br#"{"batch":"B1","closed":false,"failed":0,"good":1,"product":"P1","records":1,"running":0,"sessions":2,"spoiled":1,"waiting":0,"withdrawn":0}"#.as_slice()
-    );
+    assert_eq!(rt; account.as_slice(), batch.as_bytes());
     let account = blank_account(alloc, &mut store)?;
-    assert_eq!(rt;
-        account.as_slice(),
-        br#"{"charged":2,"discarded":0,"free":1,"good":1,"lots":1,"product":"P1","running":0,"spoiled":1,"total":3}"#.as_slice()
-    );
+    assert_eq!(rt; account.as_slice(), blanks.as_bytes());
     Ok(())
 }
 

@@ -9,6 +9,8 @@ pub(crate) struct Story {
     pub(crate) batch: [u64; 8],
     /// Lots, total, good, running, spoiled, discarded.
     pub(crate) blanks: [u64; 6],
+    /// The accounts of both.
+    pub(crate) accounts: [&'static str; 2],
 }
 
 /// Product P1, lot L1 of three blanks from 1000, and batch B1 of one record with one grouping.
@@ -119,6 +121,10 @@ pub(crate) const MADE_AGAIN: Story = Story {
     ],
     batch: [1, 0, 0, 0, 0, 1, 2, 1],
     blanks: [1, 3, 1, 0, 1, 0],
+    accounts: [
+        r#"{"batch":"B1","closed":false,"failed":0,"good":1,"product":"P1","records":1,"running":0,"sessions":2,"spoiled":1,"waiting":0,"withdrawn":0}"#,
+        r#"{"charged":2,"discarded":0,"free":1,"good":1,"lots":1,"product":"P1","running":0,"spoiled":1,"total":3}"#,
+    ],
 };
 
 /// A batch whose card was spoiled, closed with its record withdrawn.
@@ -149,6 +155,10 @@ pub(crate) const CLOSING: Story = Story {
     ],
     batch: [1, 0, 0, 0, 1, 0, 1, 1],
     blanks: [1, 3, 0, 0, 1, 0],
+    accounts: [
+        r#"{"batch":"B1","closed":true,"failed":0,"good":0,"product":"P1","records":1,"running":0,"sessions":1,"spoiled":1,"waiting":0,"withdrawn":1}"#,
+        r#"{"charged":1,"discarded":0,"free":2,"good":0,"lots":1,"product":"P1","running":0,"spoiled":1,"total":3}"#,
+    ],
 };
 
 // The requests and the replies that the others lack.
@@ -186,6 +196,10 @@ const WITHDRAWAL: Story = Story {
     ],
     batch: [1, 0, 0, 0, 1, 0, 2, 2],
     blanks: [1, 3, 0, 0, 2, 1],
+    accounts: [
+        r#"{"batch":"B1","closed":false,"failed":0,"good":0,"product":"P1","records":1,"running":0,"sessions":2,"spoiled":2,"waiting":0,"withdrawn":1}"#,
+        r#"{"charged":3,"discarded":1,"free":0,"good":0,"lots":1,"product":"P1","running":0,"spoiled":2,"total":3}"#,
+    ],
 };
 
 /// All of them.

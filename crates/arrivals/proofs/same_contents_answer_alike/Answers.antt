@@ -2,4 +2,4 @@ use Rattle.arrivals.proofs.AlikeContents.{same_told_alike}
 use Rattle.arrivals.proofs.same_contents_answer_alike.Goals as goal
 
 pub returns : goal.returns
-returns c = same_told_alike c.same_facts_answer_alike.ensures
+returns c = same_told_alike c.same_facts_answer_alike.ensures.replies

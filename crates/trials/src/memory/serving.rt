@@ -1,6 +1,6 @@
 //! Connections and drills.
 use crate::again::{MayWantMemory, at_last};
-use crate::exchanges::inputs;
+use crate::exchanges::{UNAVAILABLE, inputs};
 use crate::failing_writers::Limited;
 use drill::{DrillStop, drill_engine, serve_inputs};
 use list_store::ListStore;
@@ -15,9 +15,6 @@ const PRODUCT: &[u8] =
 
 const CREATED: &[u8] =
     b"HTTP/1.1 200 OK\r\nContent-Type: application/json\r\nContent-Length: 35\r\nConnection: close\r\n\r\n{\"product\":\"P1\",\"result\":\"created\"}";
-
-const UNAVAILABLE: &[u8] =
-    b"HTTP/1.1 503 Service Unavailable\r\nContent-Type: application/json\r\nContent-Length: 32\r\nConnection: close\r\n\r\n{\"code\":503,\"refused\":\"storage\"}";
 
 // What is told where a message was decided, and where memory for it was refused.
 fn reply_of(served: Served) -> &'static [u8] {

@@ -1,0 +1,77 @@
+-- What a query over one table shows of the rows that fill it.
+use Rattle.std.proofs.Common.{◌≡◌, suc, Bool, true, false, List, [], ◌∷◌, map, All, Option, Some, None, inl, inr, refl, sym, ap, subst, ◌∙◌, arith}
+use Rattle.std.specs.Prelude.{AllPairs, filter, find}
+use Rattle.std.specs.List.Sorted.{IsPermutation}
+use Rattle.std.specs.Option.{option_to_list}
+use Rattle.std.proofs.lemmas.Bool.{cases_Bool, cond-false, cond-true}
+use Rattle.std.proofs.lemmas.Option.{none-some, same_Some}
+use Rattle.std.proofs.lemmas.List.Elements.{All-head, All-tail}
+use Rattle.std.proofs.lemmas.List.Sorted.{IsPermutation-map, IsPermutation-trans}
+use Rattle.sqlite.specs.Order.{Row}
+use Rattle.sqlite.proofs.Callers.{one_permutation}
+use Rattle.sqlite_keyed.proofs.ListLemmas.{IsPermutation-filter, filter-map}
+use Rattle.sql_base.proofs.Replacing.{nothing_found}
+use Rattle.sql_base.proofs.Selecting.{map_map, map_same}
+
+filter_same : {X : Type 0} (p q : X → Bool) → ((x : X) → p x ≡ q x) → (xs : List X) → filter p xs ≡ filter q xs
+filter_same p q same [] = refl
+filter_same p q same (x ∷ xs) = rw (same x, filter_same p q same xs) refl
+
+-- a stored row is seen with its rowid or without
+module _ {X : Type 0} (encode : X → Row) (view : Row → Row) (hit hit_seen : Row → Bool) (key : X → Bool) (show show_seen : Row → Row) (told : X → Row)
+    (hit_is : (r : Row) → hit r ≡ hit_seen (view r)) (show_is : (r : Row) → show r ≡ show_seen (view r))
+    (key_is : (x : X) → hit_seen (encode x) ≡ key x) (told_is : (x : X) → show_seen (encode x) ≡ told x) where
+  seen : (stored : List Row) → map show (filter hit stored) ≡ map show_seen (filter hit_seen (map view stored))
+  seen stored =
+      map_same show (λ r. show_seen (view r)) show_is (filter hit stored)
+      ∙ ap (map (λ r. show_seen (view r))) (filter_same hit (λ r. hit_seen (view r)) hit_is stored)
+      ∙ sym (map_map show_seen view (filter (λ r. hit_seen (view r)) stored))
+      ∙ sym (ap (map show_seen) (filter-map hit_seen view stored))
+
+  encoded : (xs : List X) → map show_seen (filter hit_seen (map encode xs)) ≡ map told (filter key xs)
+  encoded xs =
+      ap (map show_seen) (filter-map hit_seen encode xs ∙ ap (map encode) (filter_same (λ x. hit_seen (encode x)) key key_is xs))
+      ∙ map_map show_seen encode (filter key xs) ∙ map_same (λ x. show_seen (encode x)) told told_is (filter key xs)
+
+  -- what is answered is what the rows with the key tell
+  pub looked_up : (xs : List X) (stored rows : List Row) → IsPermutation (map encode xs) (map view stored) → IsPermutation (map show (filter hit stored)) rows
+      → IsPermutation (map told (filter key xs)) rows
+  looked_up xs stored rows held got =
+      IsPermutation-trans _ _ _
+      (subst (λ zs. IsPermutation zs (map show_seen (filter hit_seen (map view stored)))) (encoded xs) (IsPermutation-map show_seen _ _ (IsPermutation-filter hit_seen _ _ held)))
+      (subst (λ zs. IsPermutation zs rows) (seen stored) got)
+
+module _ {X : Type 0} (p : X → Bool) where
+  filter_none : (xs : List X) → All (λ x. p x ≡ false) xs → filter p xs ≡ []
+  filter_none [] none = refl
+  filter_none (x ∷ xs) none =
+      let miss : p x ≡ false = All-head (λ y. p y ≡ false) x xs none in
+      rw miss (filter_none xs (All-tail (λ y. p y ≡ false) x xs none))
+
+  pub find_passes : (xs : List X) (x : X) → find p xs ≡ Some x → p x ≡ true
+  find_passes [] x is = absurd (none-some x is)
+  find_passes (y ∷ xs) x is = elim (cases_Bool (p y)) [
+    | inl hit ↦ ap p (sym (same_Some y x (sym (cond-true (p y) (Some y) (find p xs) hit) ∙ is))) ∙ hit
+    | inr miss ↦ find_passes xs x (sym (cond-false (p y) (Some y) (find p xs) miss) ∙ is)
+  ]
+
+  -- at most one passes
+  abbrev pub PassOnce : List X → Type 0
+  PassOnce xs = AllPairs (λ x y. p x ≡ true → p y ≡ false) xs
+
+  filter_once : (xs : List X) → PassOnce xs → filter p xs ≡ option_to_list (find p xs)
+  filter_once [] once = refl
+  filter_once (x ∷ xs) once = elim (cases_Bool (p x)) [
+    | inl hit ↦
+        let none : filter p xs ≡ [] = filter_none xs (λ k d within. once 0 (suc k) d (omega arith) (omega arith) hit) in
+        rw (hit, none) refl
+    | inr miss ↦ rw miss (filter_once xs (λ i j d before within. once (suc i) (suc j) d (omega arith) (omega arith)))
+  ]
+
+  -- so it alone is answered
+  pub one_answered : (told : X → Row) (xs : List X) (rows : List Row) → PassOnce xs → IsPermutation (map told (filter p xs)) rows → rows ≡ map told (option_to_list (find p xs))
+  one_answered told xs rows once got = few (find p xs) (subst (λ zs. IsPermutation (map told zs) rows) (filter_once xs once) got)
+    where
+      few : (o : Option X) → IsPermutation (map told (option_to_list o)) rows → rows ≡ map told (option_to_list o)
+      few None none = nothing_found rows none
+      few (Some x) one = one_permutation (told x) rows one

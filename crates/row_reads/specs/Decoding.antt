@@ -1,0 +1,29 @@
+-- What the values of an answered row tell.
+use Rattle.std.specs.Prelude.{◌≡◌, ℕ, pos, Bool, false, not, List, [], ◌∷◌, Option, Some, None}
+use Rattle.std.specs.Ordering.{int_eq}
+use Rattle.sqlite.specs.declared.types.Value.{Value}
+use Rattle.sqlite.specs.declared.types.Value.TheVariants.{Int}
+use Rattle.sqlite.specs.Order.{Row, column}
+use Rattle.store_data.specs.declared.row.Product.{Product}
+
+abbrev pub nat_in : Value → ℕ
+nat_in (Int (pos n)) = n
+nat_in _ = 0
+
+abbrev pub flag_in : Value → Bool
+flag_in (Int n) = not (int_eq n (pos 0))
+flag_in _ = false
+
+-- the product of this code
+abbrev pub product_in : List ℕ → Row → Product
+product_in code row = record { code = code; max = nat_in (column row 0); low = nat_in (column row 1); check = flag_in (column row 2) }
+
+-- the first of them, if there is one
+abbrev pub IsFirst : {X : Type 0} → List X → Option X → Type 0
+IsFirst [] found = found ≡ None
+IsFirst (x ∷ xs) found = found ≡ Some x
+
+-- the number of the first row; 0 where there is none
+abbrev pub first_number : List Row → ℕ
+first_number [] = 0
+first_number (row ∷ rows) = nat_in (column row 0)

@@ -1,0 +1,48 @@
+//! Marks are read.
+ghost use Rattle.std.specs.Prelude.{◌≡◌, false, map, IfOk, IsTrue};
+ghost use Rattle.sqlite.specs.Held.{state};
+ghost use Rattle.sqlite.specs.Order.{column};
+ghost use Rattle.sqlite.specs.State.{HasCleanDisk, Survives};
+ghost use Rattle.job_core.specs.Contents.{Mark, mark_of};
+ghost use Rattle.job_core.specs.Sound.{AreNamedOnce};
+ghost use Rattle.row_reads.specs.Decoding.{first_number};
+ghost use Rattle.sql_base.specs.Ends.{IsKept};
+ghost use Rattle.sql_rows.specs.Image.{IsImage};
+ghost use Rattle.table_rows.specs.Tables.{Tables};
+
+use sql_base::rows_of;
+use sqlite::types::ValueRef;
+use sqlite::{Alter, Connection, Error, Row};
+use store_data::Name;
+
+// The number in the first answered row; 0 where there is none.
+fn first_number(rows: &[Row]) -> Result<u64, Error>
+    ensures { IfOk result (λ n. n ≡ first_number rows.now) }
+{
+    match rows.first() {
+        None => Ok(0),
+        Some(row) => row.get(0),
+    }
+}
+
+/// The number up to which a client has released its numbers; 0 where it never did. Nothing is
+/// changed, and a crash leaves what it could leave before.
+pub fn mark<S: Alter>(conn: &mut Connection<S>, client: &Name) -> Result<u64, Error>
+    requires { conn.old.in_transaction ≡ false }
+    ensures found { HasCleanDisk (state S.Store conn.new) → IfOk result
+        (λ upto. IsTrue (state S.Store conn.old).is_open × ((t : Tables)
+        → IsImage t (state S.Store conn.old).now
+        → AreNamedOnce (map (λ (m : Mark). m.client) t.marks)
+        → upto ≡ mark_of t.marks client.now)) }
+    ensures kept { HasCleanDisk (state S.Store conn.new)
+        → IsKept (state S.Store conn.old) (state S.Store conn.new) }
+    ensures idle { conn.new.in_transaction ≡ false }
+    ensures survives { Survives (state S.Store conn.old) (state S.Store conn.new) (λ _. ⊥) }
+{
+    let rows = rows_of(
+        conn,
+        "SELECT upto FROM mark WHERE client = ?1",
+        &[ValueRef::Text(client.bytes())],
+    )?;
+    first_number(rows.as_slice())
+}

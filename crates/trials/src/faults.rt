@@ -1,0 +1,299 @@
+//! Stories over a device that fails, is full or lies: each fault in each turn of a run, and then the repeat of all.
+//!
+//! A run is a list of lines, each of which a client sends and is told: the set-up, a release of its numbers, a late repeat of one of
+//! these, a story, and the accounts.
+use crate::again::{MayWantMemory, at_last};
+use crate::exchanges::{Exchange, UNAVAILABLE, message};
+use crate::stories::{SET_UP, STORIES, Story};
+use faulty_store::{Device, Fault, FaultyStore, Plan};
+use job_core::JobStore;
+use server::{End, MemoryConnections, NextFault, Replied, serve_all};
+use std::alloc::{AllocError, Global};
+use std::process::Abort;
+use std::test::Fail;
+
+const NUMBER_RELEASED: &str = r#"{"code":73,"mark":3,"refused":"number-released"}"#;
+
+// The office releases the numbers of the set-up, and one of these comes late.
+const RELEASES: [Exchange; 2] = [
+    Exchange(
+        "office/20",
+        r#"{"do":"release","upto":3}"#,
+        200,
+        r#"{"mark":3,"result":"released"}"#,
+    ),
+    Exchange(
+        "office/2",
+        r#"{"do":"lot","lot":"L1","product":"P1","first":1000,"count":3}"#,
+        409,
+        NUMBER_RELEASED,
+    ),
+];
+
+const ACCOUNTS: [&[u8]; 2] = [
+    b"GET /batch/B1 HTTP/1.1\r\n\r\n",
+    b"GET /blanks/P1 HTTP/1.1\r\n\r\n",
+];
+
+// More turns than a run takes.
+const MANY_TURNS: u64 = 1000;
+
+// What a connection brings, and what it is told.
+#[derive(Drop)]
+struct Line {
+    message: Vec<u8>,
+    reply: Vec<u8>,
+}
+
+// A run, line by line, and what is told of a number of its set-up that was released.
+#[derive(Drop)]
+struct Run {
+    lines: Vec<Line>,
+    released: Vec<u8>,
+}
+
+fn run_of(alloc: Global, story: &Story) -> Result<Run, AllocError> {
+    let mut lines = Vec::new(alloc);
+    for exchanges in [SET_UP.as_slice(), RELEASES.as_slice(), story.exchanges] {
+        for exchange in exchanges {
+            let Exchange(_, _, status, body) = *exchange;
+            lines.push(Line {
+                message: message(alloc, exchange)?,
+                reply: reply(alloc, status, body)?,
+            })?;
+        }
+    }
+    for (asks, account) in ACCOUNTS.iter().zip(story.accounts.iter()) {
+        lines.push(Line {
+            message: asks.to_vec(alloc)?,
+            reply: reply(alloc, 200, account)?,
+        })?;
+    }
+    Ok(Run {
+        lines,
+        released: reply(alloc, 409, NUMBER_RELEASED)?,
+    })
+}
+
+fn reply(alloc: Global, status: u16, body: &str) -> Result<Vec<u8>, AllocError> {
+    let reason = if status == 200 { "OK" } else { "Conflict" };
+    let size = body.len();
+    let text = format!(in alloc;
+        "HTTP/1.1 {status} {reason}\r\nContent-Type: application/json\r\nContent-Length: {size}\r\nConnection: close\r\n\r\n{body}"
+    )?;
+    Ok(text.into_bytes())
+}
+
+// What the line at this place is told, where so many lines had reached the device before it was sent.
+fn wanted(run: &Run, place: usize, reached: usize) -> &[u8] {
+    if place < SET_UP.len() && reached > SET_UP.len() {
+        return run.released.as_slice();
+    }
+    run.lines
+        .get(place)
+        .map_or(b"", |line| line.reply.as_slice())
+}
+
+// The messages of these lines.
+fn messages(alloc: Global, lines: &[Line]) -> Result<Vec<Vec<u8>>, AllocError> {
+    let mut messages = Vec::new(alloc);
+    for line in lines {
+        messages.push(line.message.as_slice().to_vec(alloc)?)?;
+    }
+    Ok(messages)
+}
+
+// How often a device was told to have failed, or to be full.
+fn faults(device: Device) -> u64 {
+    device.failed.saturating_add(device.full)
+}
+
+// Sends these lines, one connection for each. 503 is told as often as a fault of the device is counted, or else memory was refused.
+fn sent(
+    alloc: Global,
+    store: &mut FaultyStore,
+    lines: &[Line],
+) -> Result<MemoryConnections, NextFault> {
+    let before = faults(store.device());
+    let mut connections = MemoryConnections::new(alloc, messages(alloc, lines)?, 512);
+    serve_all(alloc, store, &mut connections, lines.len() as u64)?;
+    let mut unavailable = 0u64;
+    for replied in connections.replies() {
+        if replied.served.end != End::Answered {
+            return Err(NextFault::Memory);
+        }
+        unavailable = unavailable.saturating_add(u64::from(is_unavailable(replied)));
+    }
+    if unavailable != faults(store.device()).saturating_sub(before) {
+        return Err(NextFault::Memory);
+    }
+    Ok(connections)
+}
+
+fn is_unavailable(replied: &Replied) -> bool {
+    replied.written.as_slice() == UNAVAILABLE
+}
+
+// Sends the line at this place for the first time. Answers whether it is told 503; else it is told as the run says.
+fn is_refused(
+    rt: &impl Abort,
+    alloc: Global,
+    store: &mut FaultyStore,
+    run: &Run,
+    place: usize,
+) -> Result<bool, NextFault> {
+    let lines = run.lines.get(place..).unwrap_or(&[]);
+    let connections = sent(alloc, store, lines.get(..1).unwrap_or(lines))?;
+    let Some(replied) = connections.replies().first() else {
+        return Err(NextFault::Device);
+    };
+    if is_unavailable(replied) {
+        return Ok(true);
+    }
+    if store.device().lies == 0 {
+        let told = wanted(run, place, place);
+        assert_eq!(rt; replied.written.as_slice(), told, "at {place}");
+    }
+    Ok(false)
+}
+
+// Sends so many lines again. Each is told as the run says.
+fn check_repeat(
+    rt: &impl Abort,
+    alloc: Global,
+    store: &mut FaultyStore,
+    run: &Run,
+    count: usize,
+    reached: usize,
+) -> Result<(), NextFault> {
+    let lines = run.lines.get(..count).unwrap_or(&[]);
+    let connections = sent(alloc, store, lines)?;
+    for (place, replied) in connections.replies().iter().enumerate() {
+        let told = wanted(run, place, reached);
+        assert_eq!(rt; replied.written.as_slice(), told, "at {place}");
+    }
+    Ok(())
+}
+
+// The product, the lot and the batch of the set-up are there exactly where their lines have reached the device.
+fn check_set_up(rt: &impl Abort, store: &mut FaultyStore, reached: usize) {
+    let counts = [
+        store.product_count(),
+        store.lot_count(),
+        store.batch_count(),
+    ];
+    let wanted = [
+        Ok(u64::from(reached > 0)),
+        Ok(u64::from(reached > 1)),
+        Ok(u64::from(reached > 2)),
+    ];
+    assert_eq!(rt; counts, wanted);
+}
+
+// Sends a run, each line of which meets this fault. A line that does is told 503. A device that failed has shut the store, which then
+// tells 503 even to what is kept, until it is opened again; one that is full leaves it open. Then all lines so far are sent again: each
+// that was told is told in the same bytes, but for released numbers, and that one is decided, or told where its write had reached the
+// device. At the end the whole run is told again, so nothing counts twice in its accounts. Answers whether a line met the fault.
+fn check_told(rt: &impl Abort, alloc: Global, run: &Run, plan: Plan) -> Result<bool, NextFault> {
+    let is_full = matches!(plan.fault, Fault::Full);
+    let is_written = matches!(plan.fault, Fault::FailedAfterWrite);
+    let mut strikes = false;
+    let mut store = FaultyStore::new(alloc, None);
+    for place in 0..run.lines.len() {
+        store = store.reopen(Some(plan));
+        if !is_refused(rt, alloc, &mut store, run, place)? {
+            continue;
+        }
+        strikes = true;
+        assert_eq!(rt; store.device().is_shut, !is_full);
+        if !is_full {
+            assert!(rt; is_refused(rt, alloc, &mut store, run, 0)?);
+            store = store.reopen(None);
+        }
+        let reached = place + usize::from(is_written);
+        check_set_up(rt, &mut store, reached);
+        check_repeat(rt, alloc, &mut store, run, place + 1, reached)?;
+    }
+    store = store.reopen(None);
+    let all = run.lines.len();
+    check_repeat(rt, alloc, &mut store, run, all, all)?;
+    let Device { failed, full, .. } = store.device();
+    assert_eq!(rt;
+        (full > 0, failed > 0),
+        (strikes && is_full, strikes && !is_full)
+    );
+    Ok(strikes)
+}
+
+// Sends a run in which the device loses all. The lines before are told as the run says, and no line is told 503: the count of lies alone
+// tells that the product, which was created, is gone. Answers whether the device has lied.
+fn check_lying(rt: &impl Abort, alloc: Global, run: &Run, plan: Plan) -> Result<bool, NextFault> {
+    let mut store = FaultyStore::new(alloc, Some(plan));
+    let mut honest = 0;
+    for place in 0..run.lines.len() {
+        assert!(rt; !is_refused(rt, alloc, &mut store, run, place)?);
+        if store.device().lies == 0 {
+            honest = place + 1;
+        }
+    }
+    if honest == run.lines.len() {
+        return Ok(false);
+    }
+    let Device {
+        lies,
+        failed,
+        full,
+        ..
+    } = store.device();
+    assert_eq!(rt; (lies, failed, full), (1, 0, 0));
+    assert_eq!(rt; store.product_count(), Ok(u64::from(honest == 0)));
+    Ok(true)
+}
+
+fn check_fault(rt: &impl Abort, alloc: Global, run: &Run, plan: Plan) -> Result<bool, NextFault> {
+    if matches!(plan.fault, Fault::Lies) {
+        check_lying(rt, alloc, run, plan)
+    } else {
+        check_told(rt, alloc, run, plan)
+    }
+}
+
+// A fault in each turn of each story's run, until it strikes no more.
+fn check_turns(rt: &impl Abort, alloc: Global, fault: Fault) -> Result<(), Fail> {
+    for story in STORIES {
+        let run = at_last!(run_of(alloc, story))?;
+        let mut strikes = true;
+        for turns in 0..MANY_TURNS {
+            strikes = at_last!(check_fault(rt, alloc, &run, Plan { turns, fault }))?;
+            if !strikes {
+                break;
+            }
+        }
+        assert!(rt; !strikes);
+    }
+    Ok(())
+}
+
+// Whatever turn it fails in, what was acknowledged is told again, and the accounts are the story's.
+#[test]
+fn a_device_that_fails_loses_nothing(rt: HostRuntime) -> Result<(), Fail> {
+    check_turns(&rt, rt.alloc(), Fault::Failed)
+}
+
+// The write of a line that was told 503 is there after all: the line's repeat is told its reply, and makes no second change.
+#[test]
+fn a_write_that_reached_a_failed_device_counts_once(rt: HostRuntime) -> Result<(), Fail> {
+    check_turns(&rt, rt.alloc(), Fault::FailedAfterWrite)
+}
+
+// The store stays open, and the line's repeat is decided.
+#[test]
+fn a_full_device_refuses_one_line(rt: HostRuntime) -> Result<(), Fail> {
+    check_turns(&rt, rt.alloc(), Fault::Full)
+}
+
+// No reply speaks of it.
+#[test]
+fn a_lie_is_told_by_its_count_alone(rt: HostRuntime) -> Result<(), Fail> {
+    check_turns(&rt, rt.alloc(), Fault::Lies)
+}
