@@ -1,9 +1,10 @@
 //! A device, and the fault that is planned for it.
-ghost use Rattle.std.specs.Prelude.{◌≡◌, IfErr, OnErr, OnOk, Some, true};
+ghost use Rattle.std.specs.Prelude.{◌≡◌, IfErr, OnErr, OnOk, Some, false, true};
 ghost use Rattle.job_core.specs.declared.store.StoreFault.TheVariants.{Device as DeviceFault};
 ghost use Rattle.job_core.specs.declared.store.StoreFault.TheVariants.{Full as FullFault};
 ghost use Rattle.job_core.specs.Store.{one_more};
 ghost use Rattle.faulty_store.specs.declared.device.Fault.TheVariants.{Failed};
+ghost use Rattle.faulty_store.specs.Faulty.{ends, left, struck};
 
 use job_core::StoreFault;
 
@@ -42,6 +43,8 @@ impl Device {
     pub(crate) fn strike(&mut self) -> Option<Fault>
         ensures plan { self.new ≡ record self.old { plan = self.new.plan } }
         ensures shut { self.old.is_shut ≡ true → result ≡ Some Failed }
+        ensures planned { self.old.is_shut ≡ false → result ≡ struck self.old.plan }
+        ensures left { self.old.is_shut ≡ false → self.new.plan ≡ left self.old.plan }
     {
         if self.is_shut {
             return Some(Fault::Failed);
@@ -90,8 +93,8 @@ impl Device {
 
     /// The end of a write that has reached it.
     pub(crate) fn end_write(&mut self) -> Result<(), StoreFault>
-        ensures ok { OnOk result (self.new ≡ self.old) }
-        ensures err { IfErr result (λ fault. fault ≡ DeviceFault) }
+        ensures ok { OnOk result ((self.new ≡ self.old) × (ends self.old.plan ≡ false)) }
+        ensures err { IfErr result (λ fault. (fault ≡ DeviceFault) × (ends self.old.plan ≡ true)) }
         ensures shut { OnErr result (self.new ≡ record self.old {
           plan = self.new.plan;
           failed = one_more self.old.failed;

@@ -1,4 +1,4 @@
--- The rows after a product was added.
+-- The rows after a reply, and after a product was added.
 use Rattle.std.proofs.Common.{◌≡◌, ℕ, List, refl}
 use Rattle.store_data.specs.declared.row.Product.{Product}
 use Rattle.job_core.specs.declared.change.Change.TheVariants as change
@@ -12,7 +12,7 @@ use Rattle.table_rows.specs.Tables.{HaveSameRows}
 use Rattle.table_rows.specs.Tables as tables
 use Rattle.rows_of_facts.specs.Image.{image, stored_blanks, stored_lots, stored_words}
 use Rattle.rows_of_facts.proofs.Lists.{pushed, unmoved}
-use Rattle.rows_of_facts.proofs.Staying.{batches_stay, groupings_stay, records_stay, remakes_stay, sessions_stay}
+use Rattle.rows_of_facts.proofs.Staying.{batches_stay, groupings_stay, records_stay, remakes_stay, session_states_same, sessions_stay}
 
 module _ (f : Facts) (p : Product) where
   lots_stay : stored_lots (with_product f p) ≡ stored_lots f
@@ -27,6 +27,21 @@ module _ (f : Facts) (p : Product) where
   unfolding stored_words
   words_stay = refl
 
+pub rows_with_reply : (c : Contents) (entry : Entry) → HaveSameRows (image (committed c change.Nothing entry)) (tables.with_reply entry (image c))
+rows_with_reply c entry = record {
+  products = unmoved _ _ refl;
+  lots = unmoved _ _ refl;
+  batches = unmoved _ _ refl;
+  records = unmoved _ _ refl;
+  groupings = unmoved _ _ refl;
+  sessions = unmoved _ _ refl;
+  words = unmoved _ _ refl;
+  blanks = unmoved _ _ refl;
+  remakes = unmoved _ _ refl;
+  replies = pushed c.kept entry;
+  marks = unmoved _ _ refl;
+}
+
 pub rows_with_product : (c : Contents) (p : Product) (entry : Entry) → IsSound c.facts
     → HaveSameRows (image (committed c (change.AddsProduct p) entry)) (tables.with_reply entry (tables.with_product p (image c)))
 rows_with_product c p entry sound =
@@ -37,13 +52,13 @@ rows_with_product c p entry sound =
     record {
       products = pushed f.products p;
       lots = unmoved _ _ (lots_stay f p);
-      batches = unmoved _ _ (batches_stay f g sound more refl refl stands refl);
-      records = unmoved _ _ (records_stay f g sound more refl refl stands);
-      groupings = unmoved _ _ (groupings_stay f g sound more refl refl stands);
-      sessions = unmoved _ _ (sessions_stay f g sound more refl refl stands);
+      batches = unmoved _ _ (batches_stay f g sound more refl stands (session_states_same f g sound more refl stands refl) refl);
+      records = unmoved _ _ (records_stay f g sound more refl stands);
+      groupings = unmoved _ _ (groupings_stay f g sound more refl stands);
+      sessions = unmoved _ _ (sessions_stay f g sound more refl stands refl);
       words = unmoved _ _ (words_stay f p);
       blanks = unmoved _ _ (blanks_stay f p);
-      remakes = unmoved _ _ (remakes_stay f g sound more refl refl stands);
+      remakes = unmoved _ _ (remakes_stay f g sound more refl stands);
       replies = pushed c.kept entry;
       marks = unmoved _ _ refl;
     }

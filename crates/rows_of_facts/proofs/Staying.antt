@@ -72,8 +72,8 @@ session_by e batch place state cursor = record {
   cursor = cursor;
 }
 
-module _ (f g : Facts) (sound : IsSound f) (more : KnowsMore f g) (batches : g.batches ≡ f.batches) (sessions : g.sessions ≡ f.sessions)
-    (stands : (b r : List ℕ) → StandsSame f g b r) where
+module _ (f g : Facts) (sound : IsSound f) (more : KnowsMore f g)
+    (batches : g.batches ≡ f.batches) (stands : (b r : List ℕ) → StandsSame f g b r) where
   -- ---- of one batch
 
   product_same : (b : Batch) → IsBatch f.products b → product_named g.products b.product ≡ product_named f.products b.product
@@ -102,34 +102,38 @@ module _ (f g : Facts) (sound : IsSound f) (more : KnowsMore f g) (batches : g.b
       ap (map (record_state g n)) (named_same n)
       ∙ map_same (record_state g n) (record_state f n) (records_named f n) (λ k d within. (stands n _).stands)
 
-  session_states_same : (n : List ℕ) → session_states g n ≡ session_states f n
+  -- by its batch's sessions
+  abbrev SessionsStand : Type 0
+  SessionsStand = (n : List ℕ) → session_states g n ≡ session_states f n
+
+  pub session_states_same : g.sessions ≡ f.sessions → SessionsStand
   unfolding session_states
-  session_states_same n =
+  session_states_same sessions n =
       let of_batch : Session → Bool = λ s. bytes_eq s.batch n in
       ap (λ xs. map (session_state g) (filter of_batch xs)) sessions
       ∙ map_same (session_state g) (session_state f) (filter of_batch f.sessions)
       (All-filter of_batch (λ s. session_state g s ≡ session_state f s) f.sessions
       (All-weaker (IsSession f) (λ s. session_state g s ≡ session_state f s) (state_kept f g more sound) f.sessions sound.sessions.each))
 
-  pub totals_same : (n : List ℕ) → batch_totals g n ≡ batch_totals f n
-  totals_same n =
-      totals_are g n ∙ ap (λ states. totals_by states (session_states g n)) (record_states_same n) ∙ ap (totals_by (record_states f n)) (session_states_same n) ∙ sym (totals_are f n)
+  pub totals_same : SessionsStand → (n : List ℕ) → batch_totals g n ≡ batch_totals f n
+  totals_same states n =
+      totals_are g n ∙ ap (λ states. totals_by states (session_states g n)) (record_states_same n) ∙ ap (totals_by (record_states f n)) (states n) ∙ sym (totals_are f n)
 
   -- ---- the tables
 
   each_batch : All (λ (e : ℕ × Batch). IsBatch f.products e.1) (batches_by_id f)
   each_batch = All-numbered (IsBatch f.products) 1 f.batches sound.named.batches.each
 
-  batch_same : g.closed ≡ f.closed → (e : ℕ × Batch) → stored_batch g e ≡ stored_batch f e
-  batch_same closed e =
-      ap (λ c. batch_by e (list_any (bytes_eq e.1.name) c) (batch_totals g e.1.name)) closed ∙ ap (batch_by e (is_closed f e.1.name)) (totals_same e.1.name)
+  batch_same : SessionsStand → g.closed ≡ f.closed → (e : ℕ × Batch) → stored_batch g e ≡ stored_batch f e
+  batch_same states closed e =
+      ap (λ c. batch_by e (list_any (bytes_eq e.1.name) c) (batch_totals g e.1.name)) closed ∙ ap (batch_by e (is_closed f e.1.name)) (totals_same states e.1.name)
 
-  pub batches_stay : g.closed ≡ f.closed → stored_batches g ≡ stored_batches f
+  pub batches_stay : SessionsStand → g.closed ≡ f.closed → stored_batches g ≡ stored_batches f
   unfolding stored_batches
-  batches_stay closed =
+  batches_stay states closed =
       ap (λ bs. map (stored_batch g) (enumerate_from 1 bs)) batches
       ∙ map_same (stored_batch g) (stored_batch f) (batches_by_id f)
-      (λ k d within. batch_same closed _)
+      (λ k d within. batch_same states closed _)
 
   record_same : (e : ℕ × Batch) (r : ℕ × List ℕ) → stored_record g e r ≡ stored_record f e r
   record_same e r =
@@ -182,9 +186,9 @@ module _ (f g : Facts) (sound : IsSound f) (more : KnowsMore f g) (batches : g.b
       ∙ ap (λ state. session_by e (batch_id f.batches e.1.batch) (place_in (records_named f e.1.batch) e.1.rec) state (session_cursor g e.1)) (state_kept f g more sound e.1 is)
       ∙ ap (session_by e (batch_id f.batches e.1.batch) (place_in (records_named f e.1.batch) e.1.rec) (session_state f e.1)) (cursor_same e.1 is)
 
-  pub sessions_stay : stored_sessions g ≡ stored_sessions f
+  pub sessions_stay : g.sessions ≡ f.sessions → stored_sessions g ≡ stored_sessions f
   unfolding stored_sessions
-  sessions_stay =
+  sessions_stay sessions =
       ap (λ xs. map (stored_session g) (enumerate_from 1 xs)) sessions
       ∙ map_same (stored_session g) (stored_session f) (sessions_by_id f)
       (All-weaker (λ (e : ℕ × Session). IsSession f e.1) (λ e. stored_session g e ≡ stored_session f e) session_same

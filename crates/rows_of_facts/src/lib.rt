@@ -3,4 +3,4 @@
 
 mod laws;
 
-pub use laws::rows_with_product;
+pub use laws::{rows_with_going_word, rows_with_product, rows_with_reply};

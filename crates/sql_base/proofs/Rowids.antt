@@ -1,7 +1,7 @@
 -- The same as `Updates` of the crate below, from rowids that are apart, up to order.
 use Rattle.std.proofs.Common.{IsTrue, arith, inl, inr, ◌≡◌, ℤ, List, [], ◌∷◌, filter, not, cond, Bool, true, false, ◌||◌, refl, sym, ap, subst, ◌∙◌, Less, Equal, Greater, Ordering, length, ◌≤◌, map}
 use Rattle.std.proofs.lemmas.Bool.{cases_Bool}
-use Rattle.std.proofs.lemmas.Cmp.{tied_itself}
+use Rattle.std.proofs.lemmas.Cmp.{alike_right, tied_itself}
 use Rattle.std.specs.List.{AllByRecursion}
 use Rattle.std.specs.List.Sorted.{IsPermutation}
 use Rattle.std.proofs.lemmas.List.Sorted.{IsPermutation-refl, IsPermutation-trans, IsPermutation-cons, IsPermutation-sym}
@@ -144,3 +144,18 @@ one_updated p shown put rows found table few all same_id same_put = elim (few_ca
       let after = put_apart (put (shown r)) (without_rowid id.0 rows) (ap is_int new_id) (none_taken id.0 (put (shown r)) rows new_id) (left_apart id.0 rows table) in
       (subst (IsPermutation (changed_by p (λ x. put (shown x)) rows)) is moved_to, subst AreApart is after)
 ]
+
+-- at most one row has a rowid
+pub few_apart : (p : Row → Bool) (id : Value) → ((r : Row) → p r ≡ true → value_cmp (rowid r) id ≡ Equal) → (rows : List Row) → IsAscending Apart rows → length (filter p rows) ≤ 1
+few_apart p id by [] table = omega arith
+few_apart p id by (x ∷ rows) table = elim (cases_Bool (p x)) [
+  | inl match_is ↦ rw (match_is, none_other x rows (by x match_is) table.0) (omega arith)
+  | inr no_match ↦ rw no_match (few_apart p id by rows table.1)
+]
+  where
+    none_other : (x : Row) (rows : List Row) → value_cmp (rowid x) id ≡ Equal → AllByRecursion (Apart x) rows → filter p rows ≡ []
+    none_other x [] at all = refl
+    none_other x (y ∷ rows) at all = elim (cases_Bool (p y)) [
+      | inl match_is ↦ absurd (let same = ap is_eq (alike_right value_cmp_total (rowid y) id (rowid x) (by y match_is) ∙ at) in let apart = all.0 in cc)
+      | inr no_match ↦ rw no_match (none_other x rows at all.1)
+    ]

@@ -3,6 +3,10 @@
 
 mod opening;
 mod products;
+mod replies;
+mod words;
 
 pub use opening::create;
 pub use products::commit_product;
+pub use replies::commit_reply;
+pub use words::commit_going_word;

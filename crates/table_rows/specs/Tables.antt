@@ -1,5 +1,5 @@
 -- The rows of the store's tables as plain lists, one for each table. Rows of a table stand in any order.
-use Rattle.std.specs.Prelude.{ℕ, Bool, List, [], ◌∷◌, IsPermutation}
+use Rattle.std.specs.Prelude.{◌==◌, ℕ, Bool, if◌then◌else◌, List, [], ◌∷◌, map, IsPermutation}
 use Rattle.store_data.specs.declared.cursor.Cursor.{Cursor}
 use Rattle.store_data.specs.declared.row.Enc.{Enc}
 use Rattle.store_data.specs.declared.row.Product.{Product}
@@ -131,3 +131,12 @@ with_reply e t = record t { replies = e ∷ t.replies }
 
 abbrev pub with_word : StoredWord → Tables → Tables
 with_word w t = record t { words = w ∷ t.words }
+
+-- ---- rows that change
+
+-- the session with this id stands so, has so many words, and its card stands there
+abbrev pub session_set : ℕ → SessionState → ℕ → Cursor → StoredSession → StoredSession
+session_set id state words cursor s = if s.id == id then record s { state = state; words = words; cursor = cursor } else s
+
+abbrev pub with_session_set : ℕ → SessionState → ℕ → Cursor → Tables → Tables
+with_session_set id state words cursor t = record t { sessions = map (session_set id state words cursor) t.sessions }

@@ -265,6 +265,7 @@ fn check_turns(rt: &impl Abort, alloc: Global, fault: Fault) -> Result<(), Fail>
         let mut strikes = true;
         for turns in 0..MANY_TURNS {
             strikes = at_last!(check_fault(rt, alloc, &run, Plan { turns, fault }))?;
+            assert!(rt; strikes || turns > 0);
             if !strikes {
                 break;
             }
