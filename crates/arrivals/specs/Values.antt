@@ -1,5 +1,5 @@
 -- The JSON value of a reply.
-use Rattle.std.specs.Prelude.{◌≡◌, ℕ, Bool, true, false, List, codes, ⊤}
+use Rattle.std.specs.Prelude.{◌≡◌, ℕ, true, List, codes}
 use Rattle.std.specs.List.{list_all}
 use Rattle.hex.specs.Hex.{encode_upper}
 use Rattle.serde_json.specs.Data.{Data, number, unsigned, string, object, member, no_members}
@@ -8,15 +8,15 @@ use Rattle.batch_import.specs.Kinds.{code_of as kind_code_of, name_of as kind_na
 use Rattle.job_core.specs.Refusals.{code_of, name_of}
 use Rattle.job_core.specs.declared.reply.Reply.{Reply}
 use Rattle.job_core.specs.declared.reply.Reply.TheVariants.{Product, Lot, Import, Opened, Next, Good, Spoiled, Reset, Discarded, Waiting, Withdrawn, Closed, Refused, Busy, Released, NumberReleased, Faulty}
-use Rattle.arrivals.specs.Told.{made_name}
+use Rattle.job_core.specs.declared.reply.Made.{Made}
+use Rattle.job_core.specs.declared.reply.Made.TheVariants.{Created, Known}
+
+abbrev pub made_name : Made → List ℕ
+made_name Created = codes "created"
+made_name Known = codes "known"
 
 abbrev pub num : ℕ → Data
 num n = number (unsigned n)
-
--- a boolean as JSON has it
-abbrev pub flag_text : Bool → List ℕ
-flag_text true = codes "true"
-flag_text false = codes "false"
 
 abbrev pub ended_value : List ℕ → ℕ → Data
 ended_value result s = object (member (codes "result") (string result) (member (codes "session") (num s) no_members))
@@ -51,23 +51,3 @@ value_of (Faulty fault) =
 -- of characters that need no escape in JSON: those of names
 abbrev pub IsPlain : List ℕ → Type 0
 IsPlain xs = list_all is_name_char xs ≡ true
-
--- the names of the reply are plain, and its bytes in hexadecimal
-abbrev pub ArePlain : Reply → Type 0
-ArePlain (Product p made) = IsPlain p
-ArePlain (Lot l made) = IsPlain l
-ArePlain (Import b records made rows) = IsPlain b
-ArePlain (Opened b blank command r s) = IsPlain b × IsPlain (encode_upper command) × IsPlain r
-ArePlain (Next command k s) = IsPlain (encode_upper command)
-ArePlain (Good s) = ⊤
-ArePlain (Spoiled s) = ⊤
-ArePlain (Reset s) = ⊤
-ArePlain (Discarded blank) = ⊤
-ArePlain (Waiting b r) = IsPlain b × IsPlain r
-ArePlain (Withdrawn b r) = IsPlain b × IsPlain r
-ArePlain (Closed b) = IsPlain b
-ArePlain (Refused why) = ⊤
-ArePlain (Busy s) = ⊤
-ArePlain (Released mark) = ⊤
-ArePlain (NumberReleased mark) = ⊤
-ArePlain (Faulty fault) = ⊤

@@ -1,10 +1,10 @@
 //! The texts of replies: compact JSON (RFC 8259), members in order of their names.
-ghost use Rattle.std.specs.Prelude.{◌≡◌, IfOk, OnOk, string_bytes};
+ghost use Rattle.std.specs.Prelude.{◌≡◌, IfOk, string_bytes};
 ghost use Rattle.hex.specs.Hex.{encode_upper};
 ghost use Rattle.json.specs.Print.{escape};
 ghost use Rattle.serde_json.specs.View.{view};
-ghost use Rattle.arrivals.specs.Told.{body_of, made_name, status_of};
-ghost use Rattle.arrivals.specs.Values.{ArePlain, IsPlain, ended_value, record_value, value_of};
+ghost use Rattle.arrivals.specs.Told.{body_of, status_of};
+ghost use Rattle.arrivals.specs.Values.{IsPlain, ended_value, made_name, record_value, value_of};
 
 use batch_import::RowFault;
 use job_core::{Made, Refusal, Reply};
@@ -36,8 +36,7 @@ pub fn body_of(alloc: Global, reply: &Reply) -> Result<Bytes, AllocError>
 }
 
 fn value_of(alloc: Global, reply: &Reply) -> Result<Value, AllocError>
-    ensures value { IfOk result (λ v. view v ≡ value_of reply.now) }
-    ensures plain { OnOk result (ArePlain reply.now) }
+    ensures { IfOk result (λ v. view v ≡ value_of reply.now) }
 {
     match reply {
         Reply::Product { product, made } => product_value(alloc, product, *made),
@@ -86,15 +85,13 @@ fn made_name(made: Made) -> &'static str
 }
 
 fn product_value(alloc: Global, product: &Name, made: Made) -> Result<Value, AllocError>
-    ensures value { IfOk result (λ v. view v ≡ value_of (Reply.Product product.now made)) }
-    ensures plain { OnOk result (IsPlain product.now) }
+    ensures { IfOk result (λ v. view v ≡ value_of (Reply.Product product.now made)) }
 {
     json!(in alloc; {"product": name_text(product), "result": made_name(made)})
 }
 
 fn lot_value(alloc: Global, lot: &Name, made: Made) -> Result<Value, AllocError>
-    ensures value { IfOk result (λ v. view v ≡ value_of (Reply.Lot lot.now made)) }
-    ensures plain { OnOk result (IsPlain lot.now) }
+    ensures { IfOk result (λ v. view v ≡ value_of (Reply.Lot lot.now made)) }
 {
     json!(in alloc; {"lot": name_text(lot), "result": made_name(made)})
 }
@@ -106,9 +103,8 @@ fn import_value(
     made: Made,
     rows: u32,
 ) -> Result<Value, AllocError>
-    ensures value { IfOk result
+    ensures { IfOk result
         (λ v. view v ≡ value_of (Reply.Import batch.now records made rows)) }
-    ensures plain { OnOk result (IsPlain batch.now) }
 {
     json!(in alloc; {
         "batch": name_text(batch),
@@ -126,10 +122,8 @@ fn opened_value(
     rec: &Name,
     session: u64,
 ) -> Result<Value, AllocError>
-    ensures value { IfOk result
+    ensures { IfOk result
         (λ v. view v ≡ value_of (Reply.Opened batch.now blank command.now rec.now session)) }
-    ensures plain { OnOk result
-        (ArePlain (Reply.Opened batch.now blank command.now rec.now session)) }
 {
     json!(in alloc; {
         "batch": name_text(batch),
@@ -143,8 +137,7 @@ fn opened_value(
 }
 
 fn next_value(alloc: Global, command: &[u8], index: u64, session: u64) -> Result<Value, AllocError>
-    ensures value { IfOk result (λ v. view v ≡ value_of (Reply.Next command.now index session)) }
-    ensures plain { OnOk result (IsPlain (encode_upper command.now)) }
+    ensures { IfOk result (λ v. view v ≡ value_of (Reply.Next command.now index session)) }
 {
     json!(in alloc; {
         "command": hex_of(alloc, command)?,
@@ -161,15 +154,13 @@ fn ended_value(alloc: Global, end: &str, session: u64) -> Result<Value, AllocErr
 }
 
 fn record_value(alloc: Global, batch: &Name, rec: &Name, end: &str) -> Result<Value, AllocError>
-    ensures value { IfOk result (λ v. view v ≡ record_value batch.now rec.now end.now) }
-    ensures plain { OnOk result (IsPlain batch.now × IsPlain rec.now) }
+    ensures { IfOk result (λ v. view v ≡ record_value batch.now rec.now end.now) }
 {
     json!(in alloc; {"batch": name_text(batch), "record": name_text(rec), "result": end})
 }
 
 fn closed_value(alloc: Global, batch: &Name) -> Result<Value, AllocError>
-    ensures value { IfOk result (λ v. view v ≡ value_of (Reply.Closed batch.now)) }
-    ensures plain { OnOk result (IsPlain batch.now) }
+    ensures { IfOk result (λ v. view v ≡ value_of (Reply.Closed batch.now)) }
 {
     json!(in alloc; {"batch": name_text(batch), "result": "closed"})
 }
@@ -213,8 +204,7 @@ pub fn name_text(name: &Name) -> &str
 
 // Bytes in upper case hexadecimal.
 fn hex_of(alloc: Global, bytes: &[u8]) -> Result<String, AllocError>
-    ensures text { IfOk result (λ text. string_bytes text ≡ encode_upper bytes.now) }
-    ensures plain { IsPlain (encode_upper bytes.now) }
+    ensures { IfOk result (λ text. string_bytes text ≡ encode_upper bytes.now) }
 {
     hex::encode_upper(alloc, bytes)
 }

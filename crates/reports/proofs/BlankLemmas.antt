@@ -17,7 +17,8 @@ use Rattle.job_core.specs.Facts.{Facts, Session}
 use Rattle.job_core.specs.Sound.{IsSound, charges}
 use Rattle.job_core.specs.States.{is_good, is_in, is_running, is_spoiled, lot_of, session_state}
 use Rattle.job_core.proofs.Serials.{has, has_first, has_later, length-all, serials_of}
-use Rattle.reports.specs.Accounts.{AreAllCounted, charged}
+use Rattle.reports.specs.Accounts.{AreAllCounted}
+use Rattle.reports.specs.Values.{charged}
 
 has_kept : (q : ℕ) (keeps : Bool) (l : Lot) (ls : List Lot) → has (flat_map serials_of ls) q ≡ true → has (flat_map serials_of (cond keeps (l ∷ ls) ls)) q ≡ true
 has_kept q true l ls h = has_later q l ls h

@@ -11,7 +11,8 @@ use Rattle.job_core.specs.declared.rows.BlankTotals.{BlankTotals}
 use Rattle.job_core.specs.Accounts.{blank_totals}
 use Rattle.job_core.specs.Sound.{IsSound}
 use Rattle.job_core.specs.States.{product_named}
-use Rattle.reports.specs.Accounts.{blank_account, blank_text, charged}
+use Rattle.reports.specs.Accounts.{blank_account, blank_text}
+use Rattle.reports.specs.Values.{charged}
 use Rattle.reports.specs.Report.{report_text, text_with}
 use Rattle.reports.proofs.BlankLemmas.{charged_fits}
 

@@ -1,5 +1,6 @@
 -- The accounts of a batch and of a product's blanks (this project's profile): compact JSON (RFC 8259), the members in order of their names.
-use Rattle.std.specs.Prelude.{◌≡◌, ℕ, ◌+◌, ◌-◌, List, ◌++◌, codes, decimal, Option, option_map}
+use Rattle.std.specs.Prelude.{◌≡◌, ℕ, ◌+◌, List, Option, option_map}
+use Rattle.serde_json.specs.Written.{compact_text}
 use Rattle.job_core.specs.declared.rows.BatchRow.{BatchRow}
 use Rattle.job_core.specs.declared.rows.BatchTotals.{BatchTotals}
 use Rattle.job_core.specs.declared.rows.BlankTotals.{BlankTotals}
@@ -7,15 +8,10 @@ use Rattle.job_core.specs.Accounts.{batch_totals, blank_totals}
 use Rattle.job_core.specs.Facts.{Facts}
 use Rattle.job_core.specs.Rows.{batch_row_of}
 use Rattle.job_core.specs.States.{product_named}
-use Rattle.arrivals.specs.Values.{flag_text}
+use Rattle.reports.specs.Values.{batch_value, blank_value, free}
 
--- names stand as they are, since none of their characters needs an escape
 unfoldable pub batch_text : List ℕ → BatchRow → BatchTotals → List ℕ
-batch_text b row t =
-    codes "{\"batch\":\"" ++ b ++ codes "\",\"closed\":" ++ flag_text row.is_closed ++ codes ",\"failed\":" ++ decimal t.failed
-    ++ codes ",\"good\":" ++ decimal t.good ++ codes ",\"product\":\"" ++ row.product ++ codes "\",\"records\":" ++ decimal t.records
-    ++ codes ",\"running\":" ++ decimal t.running ++ codes ",\"sessions\":" ++ decimal t.sessions ++ codes ",\"spoiled\":" ++ decimal t.spoiled
-    ++ codes ",\"waiting\":" ++ decimal t.waiting ++ codes ",\"withdrawn\":" ++ decimal t.withdrawn ++ codes "}"
+batch_text b row t = compact_text (batch_value b row t)
 
 -- the five numbers add up to the records
 abbrev pub AreAllStanding : BatchTotals → Type 0
@@ -25,18 +21,8 @@ AreAllStanding t = t.waiting + t.running + t.failed + t.withdrawn + t.good ≡ t
 abbrev pub batch_account : Facts → List ℕ → Option (List ℕ)
 batch_account f b = option_map (λ row. batch_text b row (batch_totals f b)) (batch_row_of f b)
 
--- the sum of these four
-abbrev pub charged : BlankTotals → ℕ
-charged t = t.good + t.running + t.spoiled + t.discarded
-
-abbrev pub free : BlankTotals → ℕ
-free t = t.total - charged t
-
 unfoldable pub blank_text : List ℕ → BlankTotals → List ℕ
-blank_text p t =
-    codes "{\"charged\":" ++ decimal (charged t) ++ codes ",\"discarded\":" ++ decimal t.discarded ++ codes ",\"free\":" ++ decimal (free t)
-    ++ codes ",\"good\":" ++ decimal t.good ++ codes ",\"lots\":" ++ decimal t.lots ++ codes ",\"product\":\"" ++ p
-    ++ codes "\",\"running\":" ++ decimal t.running ++ codes ",\"spoiled\":" ++ decimal t.spoiled ++ codes ",\"total\":" ++ decimal t.total ++ codes "}"
+blank_text p t = compact_text (blank_value p t)
 
 -- the account of the blanks of the product with this code, if there is one
 abbrev pub blank_account : Facts → List ℕ → Option (List ℕ)

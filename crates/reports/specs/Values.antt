@@ -1,11 +1,10 @@
 -- The JSON values of accounts.
-use Rattle.std.specs.Prelude.{ℕ, List, codes}
+use Rattle.std.specs.Prelude.{ℕ, ◌+◌, ◌-◌, List, codes}
 use Rattle.serde_json.specs.Data.{Data, boolean, string, object, member, no_members}
 use Rattle.job_core.specs.declared.rows.BatchRow.{BatchRow}
 use Rattle.job_core.specs.declared.rows.BatchTotals.{BatchTotals}
 use Rattle.job_core.specs.declared.rows.BlankTotals.{BlankTotals}
 use Rattle.arrivals.specs.Values.{num}
-use Rattle.reports.specs.Accounts.{charged, free}
 
 abbrev pub batch_value : List ℕ → BatchRow → BatchTotals → Data
 batch_value b row t =
@@ -13,6 +12,13 @@ batch_value b row t =
     (member (codes "good") (num t.good) (member (codes "product") (string row.product) (member (codes "records") (num t.records)
     (member (codes "running") (num t.running) (member (codes "sessions") (num t.sessions) (member (codes "spoiled") (num t.spoiled)
     (member (codes "waiting") (num t.waiting) (member (codes "withdrawn") (num t.withdrawn) no_members)))))))))))
+
+-- the sum of these four
+abbrev pub charged : BlankTotals → ℕ
+charged t = t.good + t.running + t.spoiled + t.discarded
+
+abbrev pub free : BlankTotals → ℕ
+free t = t.total - charged t
 
 abbrev pub blank_value : List ℕ → BlankTotals → Data
 blank_value p t =

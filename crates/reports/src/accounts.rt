@@ -1,9 +1,8 @@
 //! The texts of accounts: compact JSON (RFC 8259), members in order of their names.
-ghost use Rattle.std.specs.Prelude.{◌≡◌, ◌<◌, ◌^◌, IfOk, OnOk};
-ghost use Rattle.json.specs.Print.{escape};
+ghost use Rattle.std.specs.Prelude.{◌≡◌, ◌<◌, ◌^◌, IfOk};
 ghost use Rattle.serde_json.specs.View.{view};
-ghost use Rattle.reports.specs.Accounts.{batch_text, blank_text, charged};
-ghost use Rattle.reports.specs.Values.{batch_value, blank_value};
+ghost use Rattle.reports.specs.Accounts.{batch_text, blank_text};
+ghost use Rattle.reports.specs.Values.{batch_value, blank_value, charged};
 
 use arrivals::name_text;
 use job_core::{BatchRow, BatchTotals, BlankTotals};
@@ -43,9 +42,7 @@ fn batch_value(
     row: &BatchRow,
     totals: &BatchTotals,
 ) -> Result<Value, AllocError>
-    ensures value { IfOk result (λ v. view v ≡ batch_value batch.now row.now totals.now) }
-    ensures bare { OnOk result
-        ((escape batch.now ≡ batch.now) × (escape row.now.product ≡ row.now.product)) }
+    ensures { IfOk result (λ v. view v ≡ batch_value batch.now row.now totals.now) }
 {
     json!(in alloc; {
         "batch": name_text(batch),
@@ -64,9 +61,8 @@ fn batch_value(
 
 // The blanks of a sound store are far below 2^64.
 fn blank_value(alloc: Global, product: &Name, totals: &BlankTotals) -> Result<Value, AllocError>
-    ensures value { IfOk result
+    ensures { IfOk result
         (λ v. charged totals.now < 2 ^ 64 → view v ≡ blank_value product.now totals.now) }
-    ensures bare { OnOk result (escape product.now ≡ product.now) }
 {
     let used = totals.good.saturating_add(totals.running);
     let spent = totals.spoiled.saturating_add(totals.discarded);

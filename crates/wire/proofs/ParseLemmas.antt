@@ -1,5 +1,5 @@
 -- Replies, read back from their own texts.
-use Rattle.std.proofs.Common.{◌≡◌, ◌<◌, ◌≤◌, ◌+◌, ◌-◌, ◌^◌, ℕ, zero, suc, Bool, true, false, not, List, [], ◌∷◌, ◌++◌, length, drop, get_or, Some, inl, inr, refl, sym, ap, ◌∙◌, arith, append-nil, length-append, lt-ltb, decimal}
+use Rattle.std.proofs.Common.{◌≡◌, ◌<◌, ◌≤◌, ◌+◌, ◌-◌, ◌^◌, ℕ, zero, suc, Bool, true, false, not, List, [], ◌∷◌, ◌++◌, length, drop, get_or, Some, inl, inr, refl, sym, ap, ◌∙◌, arith, append-nil, length-append, lt-ltb, decimal, append_assoc}
 use Rattle.std.specs.Prelude.{◌==◌, ◌≢◌, slice_index, bytes_eq, nat_lt, option_map, option_and_then, Option, IsTrue, IsUtf8}
 use Rattle.std.specs.List.{list_all}
 use Rattle.std.specs.Str.{IsAscii}
@@ -29,6 +29,7 @@ use Rattle.serde_json.specs.Read.{max_depth, of_json, read}
 use Rattle.serde_json.specs.Written.{compact_text, outline}
 use Rattle.serde_json.proofs.Numbers.{number_of-decimal}
 use Rattle.serde_json.proofs.Texts.{print-outline}
+use Rattle.serde_json.proofs.OnLiterals.{serde_json_on_literals}
 use Rattle.batch_import.specs.Kinds.{code_of as kind_code_of, name_of as kind_name_of, kind_of_code}
 use Rattle.batch_import.specs.declared.fault.Kind.{Kind}
 use Rattle.batch_import.specs.declared.fault.Kind.TheVariants as kind
@@ -39,10 +40,9 @@ use Rattle.job_core.specs.declared.reply.Made.{Made}
 use Rattle.job_core.specs.declared.reply.Made.TheVariants.{Created, Known}
 use Rattle.job_core.specs.declared.reply.Reply.{Reply}
 use Rattle.job_core.specs.declared.reply.Reply.TheVariants.{Product, Lot, Import, Opened, Next, Good, Spoiled, Reset, Discarded, Waiting, Withdrawn, Closed, Refused, Busy, Released, NumberReleased, Faulty}
-use Rattle.arrivals.specs.Told.{Told, body_of, made_name, status_of}
-use Rattle.arrivals.specs.Values.{ArePlain, IsPlain, value_of}
-use Rattle.arrivals.proofs.Escapes.{hex_plain, name_plain, plain_ascii}
-use Rattle.arrivals.proofs.Texts.{text_is_body}
+use Rattle.arrivals.specs.Told.{Told, body_of, status_of}
+use Rattle.arrivals.specs.Values.{IsPlain, made_name, value_of}
+use Rattle.arrivals.proofs.Escapes.{escape_plain, hex_plain, name_plain, plain_ascii}
 use Rattle.store_data.specs.Name.{is_name}
 use Rattle.heads.specs.declared.reply.Content.TheVariants.{Json}
 use Rattle.wire.specs.ReplyReading.{HasNoBrace, reply_in}
@@ -288,58 +288,53 @@ unfolding are_low is_low
 kind_is_low kind.MarksDiffer = refl
 kind_is_low _ = refl
 
+made_plain : (m : Made) → IsPlain (made_name m)
+made_plain Created = refl
+made_plain Known = refl
+
+refusal_plain : (r : Refusal) → IsPlain (name_of r)
+refusal_plain refusal.ProductDiffers = refl
+refusal_plain _ = refl
+
+kind_plain : (k : Kind) → IsPlain (kind_name_of k)
+kind_plain kind.MarksDiffer = refl
+kind_plain _ = refl
+
 body_is_low : (r : Reply) → IsReply r → are_low (body_of r) ≡ true
-unfolding are_low is_low body_of
-body_is_low (Product p made) h = simp (list_all-append, name_is_low p h, made_is_low made)
-body_is_low (Lot l made) h = simp (list_all-append, name_is_low l h, made_is_low made)
+unfolding are_low is_low body_of serde_json_on_literals
+body_is_low (Product p made) h = simp (escape_plain p (name_plain p h), escape_plain (made_name made) (made_plain made), append_assoc) (simp (list_all-append, name_is_low p h, made_is_low made))
+body_is_low (Lot l made) h = simp (escape_plain l (name_plain l h), escape_plain (made_name made) (made_plain made), append_assoc) (simp (list_all-append, name_is_low l h, made_is_low made))
 body_is_low (Import b records made rows) h =
     let first : records < 2 ^ 64 = omega (arith, h.1) in
     let second : rows < 2 ^ 64 = omega (arith, h.2) in
-    simp (list_all-append, name_is_low b h.0, decimal_is_low records first, made_is_low made, decimal_is_low rows second)
+    simp (escape_plain b (name_plain b h.0), escape_plain (made_name made) (made_plain made), append_assoc) (simp (list_all-append, name_is_low b h.0, decimal_is_low records first, made_is_low made, decimal_is_low rows second))
 body_is_low (Opened b blank command r s) h =
-    simp (list_all-append, name_is_low b h.0, decimal_is_low blank h.1, plain_is_low (encode_upper command) (hex_plain command h.2), name_is_low r h.3, decimal_is_low s h.4)
-body_is_low (Next command k s) h = simp (list_all-append, plain_is_low (encode_upper command) (hex_plain command h.0), decimal_is_low k h.1, decimal_is_low s h.2)
+    let none : 0 < 2 ^ 64 = omega arith in
+    simp (escape_plain b (name_plain b h.0), escape_plain (encode_upper command) (hex_plain command h.2), escape_plain r (name_plain r h.3), append_assoc) (simp (list_all-append, name_is_low b h.0, decimal_is_low blank h.1, decimal_is_low 0 none, plain_is_low (encode_upper command) (hex_plain command h.2), name_is_low r h.3, decimal_is_low s h.4))
+body_is_low (Next command k s) h = simp (escape_plain (encode_upper command) (hex_plain command h.0), append_assoc) (simp (list_all-append, plain_is_low (encode_upper command) (hex_plain command h.0), decimal_is_low k h.1, decimal_is_low s h.2))
 body_is_low (Good s) h = simp (list_all-append, decimal_is_low s h)
 body_is_low (Spoiled s) h = simp (list_all-append, decimal_is_low s h)
 body_is_low (Reset s) h = simp (list_all-append, decimal_is_low s h)
 body_is_low (Discarded blank) h = simp (list_all-append, decimal_is_low blank h)
-body_is_low (Waiting b r) h = simp (list_all-append, name_is_low b h.0, name_is_low r h.1)
-body_is_low (Withdrawn b r) h = simp (list_all-append, name_is_low b h.0, name_is_low r h.1)
-body_is_low (Closed b) h = simp (list_all-append, name_is_low b h)
-body_is_low (Refused why) h = simp (list_all-append, decimal_is_low (code_of why) (code_fits why), refusal_is_low why)
-body_is_low (Busy s) h = simp (list_all-append, decimal_is_low s h)
+body_is_low (Waiting b r) h = simp (escape_plain b (name_plain b h.0), escape_plain r (name_plain r h.1), append_assoc) (simp (list_all-append, name_is_low b h.0, name_is_low r h.1))
+body_is_low (Withdrawn b r) h = simp (escape_plain b (name_plain b h.0), escape_plain r (name_plain r h.1), append_assoc) (simp (list_all-append, name_is_low b h.0, name_is_low r h.1))
+body_is_low (Closed b) h = simp (escape_plain b (name_plain b h), append_assoc) (simp (list_all-append, name_is_low b h))
+body_is_low (Refused why) h = simp (escape_plain (name_of why) (refusal_plain why), append_assoc) (simp (list_all-append, decimal_is_low (code_of why) (code_fits why), refusal_is_low why))
+body_is_low (Busy s) h = let code : 61 < 2 ^ 64 = omega arith in simp (list_all-append, decimal_is_low 61 code, decimal_is_low s h)
 body_is_low (Released mark) h = simp (list_all-append, decimal_is_low mark h)
-body_is_low (NumberReleased mark) h = simp (list_all-append, decimal_is_low mark h)
+body_is_low (NumberReleased mark) h = let code : 73 < 2 ^ 64 = omega arith in simp (list_all-append, decimal_is_low 73 code, decimal_is_low mark h)
 body_is_low (Faulty fault) h =
     let row : fault.row < 2 ^ 64 = omega (arith, h) in
-    simp (list_all-append, decimal_is_low (kind_code_of fault.kind) (kind_code_fits fault.kind), kind_is_low fault.kind, decimal_is_low fault.row row)
+    simp (escape_plain (kind_name_of fault.kind) (kind_plain fault.kind), append_assoc) (simp (list_all-append, decimal_is_low (kind_code_of fault.kind) (kind_code_fits fault.kind), kind_is_low fault.kind, decimal_is_low fault.row row))
 
 pub body_is_utf8 : (r : Reply) → IsReply r → IsUtf8 (body_of r)
 body_is_utf8 r h = IsUtf8-from_ascii (body_of r) (ascii_from_low (body_of r) (body_is_low r h))
 
--- ---- the names and bytes of a reply need no escape
-
-are_plain : (r : Reply) → IsReply r → ArePlain r
-are_plain (Product p made) h = name_plain p h
-are_plain (Lot l made) h = name_plain l h
-are_plain (Import b records made rows) h = name_plain b h.0
-are_plain (Opened b blank command r s) h = (name_plain b h.0, hex_plain command h.2, name_plain r h.3)
-are_plain (Next command k s) h = hex_plain command h.0
-are_plain (Good s) h = tt
-are_plain (Spoiled s) h = tt
-are_plain (Reset s) h = tt
-are_plain (Discarded blank) h = tt
-are_plain (Waiting b r) h = (name_plain b h.0, name_plain r h.1)
-are_plain (Withdrawn b r) h = (name_plain b h.0, name_plain r h.1)
-are_plain (Closed b) h = name_plain b h
-are_plain (Refused why) h = tt
-are_plain (Busy s) h = tt
-are_plain (Released mark) h = tt
-are_plain (NumberReleased mark) h = tt
-are_plain (Faulty fault) h = tt
+-- ---- the body is read
 
 pub body_is_read : (r : Reply) → IsReply r → read (body_of r) ≡ Some (value_of r)
-body_is_read r h = ap read (sym (text_is_body r (are_plain r h))) ∙ value_is_read r h
+unfolding body_of
+body_is_read r h = value_is_read r h
 
 -- ---- what is found of the bytes of a reply
 

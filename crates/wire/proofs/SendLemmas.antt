@@ -1,16 +1,15 @@
 -- The text of a request's JSON value.
-use Rattle.std.proofs.Common.{◌≡◌, ◌<◌, ◌/◌, ◌%◌, ℕ, zero, suc, true, false, List, [], ◌∷◌, refl, sym, ap, ◌∙◌, append_assoc, arith}
+use Rattle.std.proofs.Common.{◌≡◌, ◌<◌, ◌/◌, ◌%◌, ℕ, zero, suc, false, List, [], ◌∷◌, refl, sym, ap, ◌∙◌, arith}
 use Rattle.serde_json.specs.Written.{compact_text, has_float}
-use Rattle.serde_json.proofs.OnLiterals.{serde_json_on_literals}
 use Rattle.hex.specs.Hex.{IsBytes}
 use Rattle.job_core.specs.declared.request.Call.{Call}
 use Rattle.job_core.specs.declared.request.Call.TheVariants.{Job, Release}
 use Rattle.job_core.specs.declared.request.Request.TheVariants as request
 use Rattle.arrivals.specs.Values.{IsPlain}
-use Rattle.arrivals.proofs.Escapes.{escape_plain, hex_plain, name_plain}
+use Rattle.arrivals.proofs.Escapes.{hex_plain}
 use Rattle.asks.specs.Asks.{import_tail}
 use Rattle.asks.specs.Posts.{post_with}
-use Rattle.wire.specs.Sending.{AreNames, IsNoImport, IsSendable, body_of, sending_of, tail_of, value_of, word_text}
+use Rattle.wire.specs.Sending.{IsNoImport, body_of, sending_of, tail_of, value_of, word_text}
 
 pub no_float : (r : Call) → has_float (value_of r) ≡ false
 no_float (Job (request.Product p)) = refl
@@ -34,24 +33,20 @@ word_is_plain sw h = hex_plain (sw / 256 ∷ sw % 256 ∷ []) (are_bytes sw h)
     are_bytes n small (suc zero) = omega arith
     are_bytes n small (suc (suc k)) = omega arith
 
-pub text_is_body : (r : Call) → AreNames r → IsSendable r → IsNoImport r → compact_text (value_of r) ≡ body_of r
-unfolding body_of serde_json_on_literals
-text_is_body (Job (request.Product p)) h s other =
-    elim p.check as (λ b. compact_text (value_of (Job (request.Product (record { code = p.code; max = p.max; low = p.low; check = b })))) ≡ body_of (Job (request.Product (record { code = p.code; max = p.max; low = p.low; check = b })))) [
-      | true ↦ simp (escape_plain p.code (name_plain p.code h), append_assoc)
-      | false ↦ simp (escape_plain p.code (name_plain p.code h), append_assoc)
-    ]
-text_is_body (Job (request.Lot l)) h s other = simp (escape_plain l.name (name_plain l.name h.0), escape_plain l.product (name_plain l.product h.1), append_assoc)
-text_is_body (Job (request.Import b p raw)) h s other = absurd (other b p raw refl)
-text_is_body (Job (request.Open b blank)) h s other = simp (escape_plain b (name_plain b h), append_assoc)
-text_is_body (Job (request.Answer n k sw)) h s other = simp (escape_plain (word_text sw) (word_is_plain sw (omega (arith, s.3))), append_assoc)
-text_is_body (Job (request.Abort n)) h s other = refl
-text_is_body (Job request.Reset) h s other = refl
-text_is_body (Job (request.Discard blank)) h s other = refl
-text_is_body (Job (request.Remake b r)) h s other = simp (escape_plain b (name_plain b h.0), escape_plain r (name_plain r h.1), append_assoc)
-text_is_body (Job (request.Withdraw b r)) h s other = simp (escape_plain b (name_plain b h.0), escape_plain r (name_plain r h.1), append_assoc)
-text_is_body (Job (request.Close b)) h s other = simp (escape_plain b (name_plain b h), append_assoc)
-text_is_body (Release upto) h s other = refl
+pub text_is_body : (r : Call) → IsNoImport r → compact_text (value_of r) ≡ body_of r
+unfolding body_of
+text_is_body (Job (request.Product p)) other = refl
+text_is_body (Job (request.Lot l)) other = refl
+text_is_body (Job (request.Import b p raw)) other = absurd (other b p raw refl)
+text_is_body (Job (request.Open b blank)) other = refl
+text_is_body (Job (request.Answer n k sw)) other = refl
+text_is_body (Job (request.Abort n)) other = refl
+text_is_body (Job request.Reset) other = refl
+text_is_body (Job (request.Discard blank)) other = refl
+text_is_body (Job (request.Remake b r)) other = refl
+text_is_body (Job (request.Withdraw b r)) other = refl
+text_is_body (Job (request.Close b)) other = refl
+text_is_body (Release upto) other = refl
 
 pub no_tail : (r : Call) → IsNoImport r → tail_of r ≡ []
 no_tail (Job (request.Product p)) other = refl

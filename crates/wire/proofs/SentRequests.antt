@@ -1,5 +1,5 @@
 -- The body of a request that is sent is read as that request.
-use Rattle.std.proofs.Common.{◌≡◌, ◌<◌, ◌≤◌, ◌+◌, ◌-◌, ◌*◌, ◌^◌, ◌/◌, ◌%◌, ◌==◌, ℕ, zero, suc, Bool, true, false, cond, List, length, Some, None, inl, inr, refl, sym, ap, ◌∙◌, arith, length-append}
+use Rattle.std.proofs.Common.{◌≡◌, ◌<◌, ◌≤◌, ◌+◌, ◌-◌, ◌*◌, ◌^◌, ◌/◌, ◌%◌, ◌==◌, ℕ, zero, suc, Bool, true, false, cond, List, length, Some, None, inl, inr, refl, sym, ap, ◌∙◌, arith, length-append, append_assoc}
 use Rattle.std.specs.Prelude.{◌&&◌, nat_le, slice_index, option_map, option_and_then, IsUtf8, IsTrue}
 use Rattle.std.specs.Char.{digit_value, is_ascii_hexdigit}
 use Rattle.std.specs.Str.Parse.{digits_value}
@@ -10,11 +10,13 @@ use Rattle.json.proofs.Printed.Decimals.{IsNumber-decimal}
 use Rattle.serde_json.specs.Read.{read}
 use Rattle.serde_json.specs.Written.{compact_text}
 use Rattle.serde_json.proofs.Numbers.{number_of-decimal}
+use Rattle.serde_json.proofs.OnLiterals.{serde_json_on_literals}
 use Rattle.store_data.specs.Name.{is_name}
 use Rattle.job_core.specs.declared.request.Call.{Call}
 use Rattle.job_core.specs.declared.request.Call.TheVariants.{Job, Release}
 use Rattle.job_core.specs.declared.request.Request.TheVariants as request
-use Rattle.arrivals.specs.Values.{flag_text}
+use Rattle.serde_json.specs.Data.{boolean}
+use Rattle.arrivals.proofs.Escapes.{escape_plain, name_plain}
 use Rattle.text_io.specs.Inputs.{most_input}
 use Rattle.asks.specs.Members.{passing, name_at, text_at}
 use Rattle.asks.specs.Requests.{abort_in, answer_in, call_by_word, call_in, call_of_value, close_in, discard_in, flag_at, is_lot, is_within, is_word, lot_in, number_within, open_in, product_in, release_in, remake_in, request_by_word, withdraw_in, word_in, with_two, with_three, with_four}
@@ -22,7 +24,7 @@ use Rattle.asks.proofs.PostLemmas.{decimal_is_short, name_is_short}
 use Rattle.asks.proofs.RequestLemmas.{value_in-read}
 use Rattle.wire.specs.Sending.{AreNames, IsNoImport, IsSendable, body_of, value_of, word_text}
 use Rattle.wire.proofs.ParseLemmas.{read_whole}
-use Rattle.wire.proofs.SendLemmas.{text_is_body}
+use Rattle.wire.proofs.SendLemmas.{text_is_body, word_is_plain}
 
 -- ---- words
 
@@ -134,29 +136,30 @@ value_is_read (Release upto) s other = let few : upto < 2 ^ 64 = omega (arith, s
 
 -- ---- sizes
 
-flag_is_short : (b : Bool) → length (flag_text b) ≤ 5
+flag_is_short : (b : Bool) → length (compact_text (boolean b)) ≤ 5
+unfolding serde_json_on_literals
 flag_is_short true = omega arith
 flag_is_short false = omega arith
 
 pub body_is_short : (r : Call) → AreNames r → IsSendable r → IsNoImport r → length (body_of r) ≤ most_input
-unfolding body_of encode_with
+unfolding body_of encode_with serde_json_on_literals
 body_is_short (Job (request.Product p)) h s other =
-    simp length-append (omega (arith, flag_is_short p.check, decimal_is_short p.low (omega (arith, s.low)), decimal_is_short p.max (omega (arith, s.most)), name_is_short p.code h))
+    simp (escape_plain p.code (name_plain p.code h), append_assoc) (simp length-append (omega (arith, flag_is_short p.check, decimal_is_short p.low (omega (arith, s.low)), decimal_is_short p.max (omega (arith, s.most)), name_is_short p.code h)))
 body_is_short (Job (request.Lot l)) h s other =
-    simp length-append (omega (arith, decimal_is_short l.count (omega (arith, s.most)), decimal_is_short l.first (omega (arith, s.range)), name_is_short l.name h.0, name_is_short l.product h.1))
+    simp (escape_plain l.name (name_plain l.name h.0), escape_plain l.product (name_plain l.product h.1), append_assoc) (simp length-append (omega (arith, decimal_is_short l.count (omega (arith, s.most)), decimal_is_short l.first (omega (arith, s.range)), name_is_short l.name h.0, name_is_short l.product h.1)))
 body_is_short (Job (request.Import b p raw)) h s other = absurd (other b p raw refl)
-body_is_short (Job (request.Open b blank)) h s other = simp length-append (omega (arith, name_is_short b h, decimal_is_short blank (omega (arith, s))))
-body_is_short (Job (request.Answer n k sw)) h s other = simp length-append (omega (arith, decimal_is_short k (omega (arith, s.2)), decimal_is_short n (omega (arith, s.1))))
+body_is_short (Job (request.Open b blank)) h s other = simp (escape_plain b (name_plain b h), append_assoc) (simp length-append (omega (arith, name_is_short b h, decimal_is_short blank (omega (arith, s)))))
+body_is_short (Job (request.Answer n k sw)) h s other = simp (escape_plain (word_text sw) (word_is_plain sw (omega (arith, s.3))), append_assoc) (simp length-append (omega (arith, decimal_is_short k (omega (arith, s.2)), decimal_is_short n (omega (arith, s.1)))))
 body_is_short (Job (request.Abort n)) h s other = simp length-append (omega (arith, decimal_is_short n (omega (arith, s.1))))
 body_is_short (Job request.Reset) h s other = omega arith
 body_is_short (Job (request.Discard blank)) h s other = simp length-append (omega (arith, decimal_is_short blank (omega (arith, s))))
-body_is_short (Job (request.Remake b r)) h s other = simp length-append (omega (arith, name_is_short b h.0, name_is_short r h.1))
-body_is_short (Job (request.Withdraw b r)) h s other = simp length-append (omega (arith, name_is_short b h.0, name_is_short r h.1))
-body_is_short (Job (request.Close b)) h s other = simp length-append (omega (arith, name_is_short b h))
+body_is_short (Job (request.Remake b r)) h s other = simp (escape_plain b (name_plain b h.0), escape_plain r (name_plain r h.1), append_assoc) (simp length-append (omega (arith, name_is_short b h.0, name_is_short r h.1)))
+body_is_short (Job (request.Withdraw b r)) h s other = simp (escape_plain b (name_plain b h.0), escape_plain r (name_plain r h.1), append_assoc) (simp length-append (omega (arith, name_is_short b h.0, name_is_short r h.1)))
+body_is_short (Job (request.Close b)) h s other = simp (escape_plain b (name_plain b h), append_assoc) (simp length-append (omega (arith, name_is_short b h)))
 body_is_short (Release upto) h s other = simp length-append (omega (arith, decimal_is_short upto (omega (arith, s.1))))
 
 pub call_is_read : (r : Call) → AreNames r → IsSendable r → IsNoImport r → IsUtf8 (body_of r) → call_in (body_of r) ≡ Some r
 unfolding call_in
 call_is_read r h s other text =
-    let body : read (body_of r) ≡ Some (value_of r) = ap read (sym (text_is_body r h s other)) ∙ value_is_read r s other in
+    let body : read (body_of r) ≡ Some (value_of r) = ap read (sym (text_is_body r other)) ∙ value_is_read r s other in
     ap (option_and_then call_of_value) (value_in-read (body_of r) (value_of r) text body) ∙ call_is_found r h s other

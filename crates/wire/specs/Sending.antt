@@ -1,8 +1,9 @@
 -- The texts of requests: HTTP/1.1 (RFC 9112), with the lines of this project's profile, and compact JSON (RFC 8259) with the members in order of their names.
-use Rattle.std.specs.Prelude.{◌≡◌, ◌≤◌, ◌<◌, ◌^◌, ◌/◌, ◌%◌, ℕ, List, [], ◌∷◌, ◌++◌, length, codes, decimal, ⊤}
+use Rattle.std.specs.Prelude.{◌≡◌, ◌≤◌, ◌<◌, ◌^◌, ◌/◌, ◌%◌, ℕ, List, [], ◌∷◌, length, codes, ⊤}
 use Rattle.hex.specs.Hex.{encode_upper}
 use Rattle.serde_json.specs.Data.{Data, boolean, null, string, object, member, no_members}
-use Rattle.arrivals.specs.Values.{flag_text, num}
+use Rattle.serde_json.specs.Written.{compact_text}
+use Rattle.arrivals.specs.Values.{num}
 use Rattle.job_core.specs.Sound.{IsName}
 use Rattle.job_core.specs.Requests.{IsRequest}
 use Rattle.job_core.specs.declared.request.Call.{Call}
@@ -37,50 +38,6 @@ IsSendable (Release upto) = (1 ≤ upto) × (upto < 10 ^ 18)
 abbrev pub word_text : ℕ → List ℕ
 word_text sw = encode_upper (sw / 256 ∷ sw % 256 ∷ [])
 
--- names stand as they are, since none of their characters needs an escape; an import's body is its file
-unfoldable pub body_of : Call → List ℕ
-body_of (Job (request.Product p)) =
-    codes "{\"check\":" ++ flag_text p.check ++ codes ",\"do\":\"product\",\"low\":" ++ decimal p.low
-    ++ codes ",\"max\":" ++ decimal p.max ++ codes ",\"product\":\"" ++ p.code ++ codes "\"}"
-body_of (Job (request.Lot l)) =
-    codes "{\"count\":" ++ decimal l.count ++ codes ",\"do\":\"lot\",\"first\":" ++ decimal l.first
-    ++ codes ",\"lot\":\"" ++ l.name ++ codes "\",\"product\":\"" ++ l.product ++ codes "\"}"
-body_of (Job (request.Import b p raw)) = raw
-body_of (Job (request.Open b blank)) = codes "{\"batch\":\"" ++ b ++ codes "\",\"blank\":" ++ decimal blank ++ codes ",\"do\":\"open\"}"
-body_of (Job (request.Answer s k sw)) =
-    codes "{\"do\":\"answer\",\"index\":" ++ decimal k ++ codes ",\"session\":" ++ decimal s ++ codes ",\"sw\":\"" ++ word_text sw ++ codes "\"}"
-body_of (Job (request.Abort s)) = codes "{\"do\":\"abort\",\"session\":" ++ decimal s ++ codes "}"
-body_of (Job request.Reset) = codes "{\"do\":\"reset\"}"
-body_of (Job (request.Discard blank)) = codes "{\"blank\":" ++ decimal blank ++ codes ",\"do\":\"discard\"}"
-body_of (Job (request.Remake b r)) = codes "{\"batch\":\"" ++ b ++ codes "\",\"do\":\"remake\",\"record\":\"" ++ r ++ codes "\"}"
-body_of (Job (request.Withdraw b r)) = codes "{\"batch\":\"" ++ b ++ codes "\",\"do\":\"withdraw\",\"record\":\"" ++ r ++ codes "\"}"
-body_of (Job (request.Close b)) = codes "{\"batch\":\"" ++ b ++ codes "\",\"do\":\"close\"}"
-body_of (Release upto) = codes "{\"do\":\"release\",\"upto\":" ++ decimal upto ++ codes "}"
-
--- ---- whole texts
-
-abbrev pub tail_of : Call → List ℕ
-tail_of (Job (request.Import b p raw)) = import_tail b p
-tail_of (Job (request.Product p)) = []
-tail_of (Job (request.Lot l)) = []
-tail_of (Job (request.Open b blank)) = []
-tail_of (Job (request.Answer s k sw)) = []
-tail_of (Job (request.Abort s)) = []
-tail_of (Job request.Reset) = []
-tail_of (Job (request.Discard blank)) = []
-tail_of (Job (request.Remake b r)) = []
-tail_of (Job (request.Withdraw b r)) = []
-tail_of (Job (request.Close b)) = []
-tail_of (Release upto) = []
-
--- the message that asks for a call
-abbrev pub sending_of : List ℕ → ℕ → Call → List ℕ
-sending_of client number r = post_with client number (tail_of r) (body_of r)
-
--- what a repeat of it has to have alike
-abbrev pub ask_of : Call → List ℕ
-ask_of r = ask_with (tail_of r) (body_of r)
-
 -- ---- the JSON of a call
 
 -- a word, and the names that it is for
@@ -106,6 +63,35 @@ value_of (Job (request.Remake b r)) = record_request b (codes "remake") r
 value_of (Job (request.Withdraw b r)) = record_request b (codes "withdraw") r
 value_of (Job (request.Close b)) = object (member (codes "batch") (string b) (member (codes "do") (string (codes "close")) no_members))
 value_of (Release upto) = object (member (codes "do") (string (codes "release")) (member (codes "upto") (num upto) no_members))
+
+-- compact JSON (RFC 8259); an import's body is its file
+unfoldable pub body_of : Call → List ℕ
+body_of (Job (request.Import b p raw)) = raw
+body_of call = compact_text (value_of call)
+
+-- ---- whole texts
+
+abbrev pub tail_of : Call → List ℕ
+tail_of (Job (request.Import b p raw)) = import_tail b p
+tail_of (Job (request.Product p)) = []
+tail_of (Job (request.Lot l)) = []
+tail_of (Job (request.Open b blank)) = []
+tail_of (Job (request.Answer s k sw)) = []
+tail_of (Job (request.Abort s)) = []
+tail_of (Job request.Reset) = []
+tail_of (Job (request.Discard blank)) = []
+tail_of (Job (request.Remake b r)) = []
+tail_of (Job (request.Withdraw b r)) = []
+tail_of (Job (request.Close b)) = []
+tail_of (Release upto) = []
+
+-- the message that asks for a call
+abbrev pub sending_of : List ℕ → ℕ → Call → List ℕ
+sending_of client number r = post_with client number (tail_of r) (body_of r)
+
+-- what a repeat of it has to have alike
+abbrev pub ask_of : Call → List ℕ
+ask_of r = ask_with (tail_of r) (body_of r)
 
 -- its names are names
 abbrev pub AreNames : Call → Type 0

@@ -1,12 +1,12 @@
 use Rattle.std.proofs.Common.{◌≡◌, ◌∙◌, ℕ, Vec, Global, false, ap}
 use Rattle.serde_json.specs.View.{view}
 use Rattle.serde_json.specs.Written.{compact_text, has_float}
-use Rattle.reports.proofs.TextLemmas.{blank_text_of}
+use Rattle.reports.specs.Accounts.{blank_text}
 use Rattle.reports.proofs.accounts.blank_text.Goals as goal
 
 pub returns : goal.returns
+unfolding blank_text
 returns c = λ few.
-    let value = c.in_ok-blank_value.ensures.value few in
+    let value = c.in_ok-blank_value.ensures few in
     let no_floats : has_float (view c.in_ok-blank_value.field-0) ≡ false = ap has_float value in
-    let text = c.in_ok-text.ensures.text no_floats ∙ ap compact_text value ∙ blank_text_of c.args.product.now c.args.totals.now c.in_ok-blank_value.ensures.bare in
-    c.from_vec.ensures ∙ ap (λ (v : Vec ℕ Global). v.items) c.into_bytes.ensures.value ∙ text
+    c.from_vec.ensures ∙ ap (λ (v : Vec ℕ Global). v.items) c.into_bytes.ensures.value ∙ c.in_ok-text.ensures.text no_floats ∙ ap compact_text value

@@ -14,7 +14,7 @@ pub returns : goal.returns
 returns c = λ r value names sendable other.
     let sent = c.as_bytes.result.now in
     let no_floats : has_float (view c.args.value.now) ≡ false = ap has_float value ∙ no_float r in
-    let body : string_bytes c.in_ok-body.body ≡ body_of r = c.in_ok-body.ensures.text no_floats ∙ ap compact_text value ∙ text_is_body r names sendable other in
+    let body : string_bytes c.in_ok-body.body ≡ body_of r = c.in_ok-body.ensures.text no_floats ∙ ap compact_text value ∙ text_is_body r other in
     let is : sent ≡ body_of r = c.as_bytes.ensures.value ∙ body in
     let valid : IsUtf8 sent = subst IsUtf8 (sym c.as_bytes.ensures.value) (IsUtf8-string_bytes c.in_ok-body.body) in
     let fits : length sent ≤ most_input = subst (λ (x : List ℕ). length x ≤ most_input) (sym is) (body_is_short r names sendable other) in
