@@ -17,7 +17,7 @@ use Rattle.job_core.specs.Sound.{AreNamedOnce}
 use Rattle.job_core.specs.States.{product_named}
 use Rattle.step_laws.proofs.BlankSums.{named_once}
 use Rattle.sql_base.proofs.Selecting.{passes, selected, shown}
-use Rattle.sql_base.proofs.Tests.{same_text}
+use Rattle.sql_base.proofs.Tests.{alone, same_text}
 use Rattle.sql_tables.specs.Tables.{our_schema}
 use Rattle.table_rows.specs.Tables.{Tables}
 use Rattle.sql_rows.specs.Encoding.{flag, mark_row, number, product_row}
@@ -26,10 +26,6 @@ use Rattle.row_reads.specs.Decoding.{IsFirst, first_number, flag_in, product_in}
 use Rattle.row_reads.specs.Texts.{by_first_column, mark_columns, mark_text, product_columns, product_text}
 use Rattle.row_reads.proofs.Looking.{find_passes, looked_up, one_answered}
 use Rattle.row_reads.proofs.Meanings.{mark_is, mark_plain, mark_unlisted, product_is, product_plain, product_unlisted}
-
-alone : (b : Bool) → (b && true) ≡ b
-alone true = refl
-alone false = refl
 
 -- the first column of a row seen without its rowid is this text
 abbrev has_text : List ℕ → Row → Bool

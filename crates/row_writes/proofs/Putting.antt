@@ -1,13 +1,9 @@
 -- What each INSERT does to the rows.
-use Rattle.std.proofs.Common.{◌≡◌, ℕ, ◌==◌, inl, inr, List, [], ◌∷◌, drop, length, map, pos, take, Ok, refl}
-use Rattle.std.proofs.lemmas.Bool.{cases_Bool}
+use Rattle.std.proofs.Common.{◌≡◌, ℕ, [], ◌∷◌, drop, map, pos, take, Ok, refl}
 use Rattle.sqlite.specs.declared.types.Value.TheVariants.{Null, Text}
 use Rattle.sqlite.specs.Cast.{cast_row}
 use Rattle.sqlite.specs.Order.{Row}
 use Rattle.sqlite.specs.State.{Executes, State}
-use Rattle.sqlite_rules.specs.Action.{works}
-use Rattle.sqlite_schema.specs.declared.schema.Keys.TheVariants.{Enforced}
-use Rattle.sqlite_schema.specs.Names.{same_name}
 use Rattle.store_data.specs.declared.row.Product.{Product}
 use Rattle.job_core.specs.declared.facts.Lot.{Lot}
 use Rattle.job_core.specs.Contents.{Entry}
@@ -19,13 +15,9 @@ use Rattle.table_rows.specs.Tables.{StoredLot, StoredRemake, StoredWord, with_lo
 use Rattle.sql_rows.specs.Encoding.{flag, lot_row, number, product_row, remake_row, reply_row, word_row}
 use Rattle.sql_rows.specs.Image.{Moves, filled, unnumbered}
 use Rattle.sql_rows.proofs.Filling.{refilled, row_put}
+use Rattle.sql_tables.proofs.Version.{none_acts}
 use Rattle.row_writes.specs.Texts.{add_lot_terms, add_lot_text, add_remake_terms, add_remake_text, add_product_terms, add_product_text, add_reply_terms, add_reply_text, add_word_terms, add_word_text}
 use Rattle.row_writes.proofs.Meanings.{add_lot_is, add_lot_plain, add_remake_is, add_remake_plain, add_product_is, add_product_plain, add_reply_is, add_reply_plain, add_word_is, add_word_plain}
-
--- no foreign key of ours acts on another table
-pub no_works : (tree : ℕ) (olds news : List Row) → works our_schema Enforced 0 tree olds news ≡ []
-unfolding same_name
-no_works tree olds news = elim (cases_Bool (length news == 0)) [ inl e ↦ rw e refl | inr e ↦ rw e refl ]
 
 product_cast : (p : Product) → cast_row product_table (Null ∷ product_row p) ≡ Null ∷ product_row p
 product_cast p = rw (cast_null, cast_int (pos p.max), cast_int (pos p.low), cast_int (pos (flag p.check))) refl
@@ -34,7 +26,7 @@ product_inserted : (old new : State) (p : Product) (count : ℕ) → old.now.sch
     → Inserted our_schema product_table (Null ∷ product_row p) old new
 product_inserted old new p count ours =
     inserted add_product_text (product_row p) old new our_schema ours 1 product_table add_product_terms 5 add_product_is add_product_plain refl refl refl
-    (Null ∷ product_row p) (Null ∷ product_row p) refl (product_cast p) (no_works 1) count
+    (Null ∷ product_row p) (Null ∷ product_row p) refl (product_cast p) (none_acts 1) count
 
 pub product_added : (old new : State) (p : Product) (count : ℕ) → Executes add_product_text (product_row p) old new (Ok count) → Moves (with_product p) old.now new.now
 product_added old new p count ran t image =
@@ -50,7 +42,7 @@ reply_inserted : (old new : State) (e : Entry) (count : ℕ) → old.now.schema 
     → Inserted our_schema reply_table (Null ∷ reply_row e) old new
 reply_inserted old new e count ours =
     inserted add_reply_text (reply_row e) old new our_schema ours 10 reply_table add_reply_terms 6 add_reply_is add_reply_plain refl refl refl
-    (Null ∷ reply_row e) (Null ∷ reply_row e) refl (reply_cast e) (no_works 19) count
+    (Null ∷ reply_row e) (Null ∷ reply_row e) refl (reply_cast e) (none_acts 19) count
 
 pub reply_added : (old new : State) (e : Entry) (count : ℕ) → Executes add_reply_text (reply_row e) old new (Ok count) → Moves (with_reply e) old.now new.now
 reply_added old new e count ran t image =
@@ -66,7 +58,7 @@ word_inserted : (old new : State) (w : StoredWord) (count : ℕ) → old.now.sch
     → Inserted our_schema word_table (Null ∷ word_row w) old new
 word_inserted old new w count ours =
     inserted add_word_text (word_row w) old new our_schema ours 7 word_table add_word_terms 4 add_word_is add_word_plain refl refl refl
-    (Null ∷ word_row w) (Null ∷ word_row w) refl (word_cast w) (no_works 14) count
+    (Null ∷ word_row w) (Null ∷ word_row w) refl (word_cast w) (none_acts 14) count
 
 pub word_added : (old new : State) (w : StoredWord) (count : ℕ) → Executes add_word_text (word_row w) old new (Ok count) → Moves (with_word w) old.now new.now
 word_added old new w count ran t image =
@@ -89,7 +81,7 @@ lot_inserted : (old new : State) (l : Lot) (count : ℕ) → old.now.schema ≡ 
     → Inserted our_schema lot_table (Null ∷ lot_row (new_lot l)) old new
 lot_inserted old new l count ours =
     inserted add_lot_text (lot_values l) old new our_schema ours 2 lot_table add_lot_terms 6 add_lot_is add_lot_plain refl refl refl
-    (Null ∷ lot_row (new_lot l)) (Null ∷ lot_row (new_lot l)) refl (lot_cast l) (no_works 3) count
+    (Null ∷ lot_row (new_lot l)) (Null ∷ lot_row (new_lot l)) refl (lot_cast l) (none_acts 3) count
 
 pub lot_added : (old new : State) (l : Lot) (count : ℕ) → Executes add_lot_text (lot_values l) old new (Ok count) → Moves (with_lot (new_lot l)) old.now new.now
 lot_added old new l count ran t image =
@@ -106,7 +98,7 @@ remake_inserted : (old new : State) (r : StoredRemake) (count : ℕ) → old.now
     → Inserted our_schema remake_table (Null ∷ remake_row r) old new
 remake_inserted old new r count ours =
     inserted add_remake_text (remake_row r) old new our_schema ours 9 remake_table add_remake_terms 4 add_remake_is add_remake_plain refl refl refl
-    (Null ∷ remake_row r) (Null ∷ remake_row r) refl (remake_cast r) (no_works 17) count
+    (Null ∷ remake_row r) (Null ∷ remake_row r) refl (remake_cast r) (none_acts 17) count
 
 pub remake_added : (old new : State) (r : StoredRemake) (count : ℕ) → Executes add_remake_text (remake_row r) old new (Ok count) → Moves (with_remake r) old.now new.now
 remake_added old new r count ran t image =

@@ -1,5 +1,5 @@
 -- What the UPDATE of a session does to the rows.
-use Rattle.std.proofs.Common.{◌≡◌, ℕ, ℤ, pos, List, [], ◌∷◌, length, map, take, drop, filter, ◌==◌, ◌&&◌, ◌≤◌, cond, Bool, true, false, Ok, Equal, refl, sym, ap, subst, ◌∙◌}
+use Rattle.std.proofs.Common.{◌≡◌, ℕ, ℤ, pos, List, [], ◌∷◌, length, map, take, drop, filter, ◌==◌, ◌≤◌, cond, Bool, true, false, Ok, Equal, refl, sym, ap, subst, ◌∙◌}
 use Rattle.std.specs.List.Sorted.{IsPermutation}
 use Rattle.std.proofs.lemmas.List.Sorted.{IsPermutation-map, IsPermutation-trans}
 use Rattle.sqlite.specs.declared.types.Value.TheVariants.{Int}
@@ -19,7 +19,7 @@ use Rattle.sql_base.specs.Effects.{Updated}
 use Rattle.sql_base.specs.Rowids.{AreApart}
 use Rattle.sql_base.proofs.Rowids.{few_apart, one_updated}
 use Rattle.sql_base.proofs.Selecting.{map_map, map_same, passes, shown}
-use Rattle.sql_base.proofs.Tests.{equals, same_int}
+use Rattle.sql_base.proofs.Tests.{alone, equals, same_int}
 use Rattle.sql_base.proofs.Updating.{updated}
 use Rattle.sql_base.proofs.Values.{cast_int, cast_null}
 use Rattle.sql_tables.specs.Tables.{our_schema, session_table}
@@ -29,12 +29,7 @@ use Rattle.sql_rows.specs.Image.{IsFilled, Moves, by_rowid, filled}
 use Rattle.sql_rows.proofs.Filling.{refilled}
 use Rattle.row_writes.specs.Texts.{by_id, set_session_columns, set_session_text}
 use Rattle.row_writes.proofs.Meanings.{set_session_is, set_session_plain}
-use Rattle.row_writes.proofs.Putting.{no_works}
-
--- one term of WHERE
-alone : (b : Bool) → (b && true) ≡ b
-alone true = refl
-alone false = refl
+use Rattle.sql_tables.proofs.Version.{none_acts}
 
 module _ (id : ℕ) (state : SessionState) (words : ℕ) (cursor : Cursor) where
   abbrev pub set_session_values : Row
@@ -104,7 +99,7 @@ module _ (id : ℕ) (state : SessionState) (words : ℕ) (cursor : Cursor) where
 
   pub session_changed : (old new : State) (count : ℕ) → Executes set_session_text set_session_values old new (Ok count) → Moves (with_session_set id state words cursor) old.now new.now
   session_changed old new count ran t image =
-      let it = updated set_session_text set_session_values old new our_schema image.ours 6 session_table by_id set_session_columns set_session_is set_session_plain refl (no_works 12) count ran in
+      let it = updated set_session_text set_session_values old new our_schema image.ours 6 session_table by_id set_session_columns set_session_is set_session_plain refl (none_acts 12) count ran in
       refilled (take 6 (filled t)) (drop 7 (filled t)) session_table refl refl t (with_session_set id state words cursor t) old new
       (by_rowid session_table (map session_row t.sessions)) (by_rowid session_table (map session_row (map set t.sessions))) refl refl refl refl it.kept it.others
       (row_set t.sessions old new it) image

@@ -39,7 +39,7 @@ went (inr on) = on
 pub same_value : {B E : Type 0} {a b : B} → ◌≡◌ {A = Result B E} (Ok a) (Ok b) → a ≡ b
 same_value e = cc
 
-swap_two : {X : Type 0} (a b : X) (xs : List X) → IsPermutation (a ∷ b ∷ xs) (b ∷ a ∷ xs)
+pub swap_two : {X : Type 0} (a b : X) (xs : List X) → IsPermutation (a ∷ b ∷ xs) (b ∷ a ∷ xs)
 swap_two a b xs = record { moves = (0, 1) ∷ []; below = (omega arith, omega arith, tt); is = refl }
 
 put_case : (o : Ordering) (r x : Row) (xs put : List Row) → is_eq o ≡ false → IsPermutation (r ∷ xs) put → IsPermutation (r ∷ x ∷ xs) (match_ordering o (x ∷ put) (r ∷ xs) (r ∷ x ∷ xs))

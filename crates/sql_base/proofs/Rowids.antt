@@ -15,15 +15,12 @@ use Rattle.sqlite.specs.Tree.{rowid, has_rowid, put_row, without_rowid, IsAscend
 use Rattle.sqlite.specs.View.{is_int}
 use Rattle.sqlite.specs.Edit.{is_taken}
 use Rattle.sqlite_keyed.proofs.ListLemmas.{ascending-filter}
-use Rattle.sql_base.proofs.Inserting.{put_fresh}
+use Rattle.sql_base.proofs.Inserting.{put_fresh, swap_two}
 use Rattle.sql_base.proofs.Replacing.{changed_where, none_changed, changed_by, KeepsRowid, few_cases, nothing_found, changed_none, changed_one, int_of, of_the_match}
 use Rattle.sqlite.specs.Edit.{put_all, without_all, id_in}
 use Rattle.sqlite_rules.specs.Calls.{ids_of}
 use Rattle.sqlite.proofs.Callers.{one_permutation}
 use Rattle.sql_base.specs.Rowids.{Apart, AreApart}
-
-swap_two : {X : Type 0} (a b : X) (xs : List X) → IsPermutation (a ∷ b ∷ xs) (b ∷ a ∷ xs)
-swap_two a b xs = record { moves = (0, 1) ∷ []; below = (omega arith, omega arith, tt); is = refl }
 
 turned : (o : Ordering) → is_eq (ordering_reverse o) ≡ is_eq o
 turned Less = refl
