@@ -1,12 +1,14 @@
 -- The rows of the store's tables as plain lists, one for each table. Rows of a table stand in any order.
-use Rattle.std.specs.Prelude.{◌==◌, ℕ, Bool, if◌then◌else◌, List, [], ◌∷◌, map, IsPermutation}
+use Rattle.std.specs.Prelude.{◌≡◌, ◌==◌, ◌&&◌, ℕ, Bool, true, false, not, nat_le, if◌then◌else◌, List, [], ◌∷◌, map, filter, bytes_eq, AllPairs, IsPermutation}
 use Rattle.store_data.specs.declared.cursor.Cursor.{Cursor}
 use Rattle.store_data.specs.declared.row.Enc.{Enc}
 use Rattle.store_data.specs.declared.row.Product.{Product}
 use Rattle.job_core.specs.declared.facts.Lot.{Lot}
 use Rattle.job_core.specs.declared.facts.RecordState.{RecordState}
 use Rattle.job_core.specs.declared.facts.SessionState.{SessionState}
-use Rattle.job_core.specs.Contents.{Entry, Mark}
+use Rattle.job_core.specs.declared.facts.SessionState.TheVariants as session
+use Rattle.job_core.specs.declared.rows.BatchTotals.{BatchTotals}
+use Rattle.job_core.specs.Contents.{Entry, Mark, has_mark}
 
 -- a row of `lot`: with how many of its blanks are discarded
 pub record StoredLot : Type 0 where
@@ -121,24 +123,84 @@ pub record HaveSameRows (t u : Tables) : Type 0 where
   pub replies : IsPermutation t.replies u.replies
   pub marks : IsPermutation t.marks u.marks
 
+-- at most one of them passes
+abbrev pub PassesOnce : {X : Type 0} → (X → Bool) → List X → Type 0
+PassesOnce passes xs = AllPairs (λ x y. passes x ≡ true → passes y ≡ false) xs
+
 -- ---- one more row
 
 abbrev pub with_product : Product → Tables → Tables
 with_product p t = record t { products = p ∷ t.products }
 
-abbrev pub with_reply : Entry → Tables → Tables
-with_reply e t = record t { replies = e ∷ t.replies }
-
 abbrev pub with_lot : StoredLot → Tables → Tables
 with_lot l t = record t { lots = l ∷ t.lots }
 
-abbrev pub with_remake : StoredRemake → Tables → Tables
-with_remake r t = record t { remakes = r ∷ t.remakes }
+abbrev pub with_batch : StoredBatch → Tables → Tables
+with_batch b t = record t { batches = b ∷ t.batches }
+
+abbrev pub with_record : StoredRecord → Tables → Tables
+with_record r t = record t { records = r ∷ t.records }
+
+abbrev pub with_grouping : StoredGrouping → Tables → Tables
+with_grouping g t = record t { groupings = g ∷ t.groupings }
+
+abbrev pub with_session : StoredSession → Tables → Tables
+with_session s t = record t { sessions = s ∷ t.sessions }
 
 abbrev pub with_word : StoredWord → Tables → Tables
 with_word w t = record t { words = w ∷ t.words }
 
+abbrev pub with_blank : StoredBlank → Tables → Tables
+with_blank b t = record t { blanks = b ∷ t.blanks }
+
+abbrev pub with_remake : StoredRemake → Tables → Tables
+with_remake r t = record t { remakes = r ∷ t.remakes }
+
+abbrev pub with_reply : Entry → Tables → Tables
+with_reply e t = record t { replies = e ∷ t.replies }
+
+abbrev pub with_mark : Mark → Tables → Tables
+with_mark m t = record t { marks = m ∷ t.marks }
+
 -- ---- rows that change
+
+-- the lot of this name has so many discarded blanks
+abbrev pub lot_set : List ℕ → ℕ → StoredLot → StoredLot
+lot_set name discarded l = if bytes_eq l.lot.name name then record l { discarded = discarded } else l
+
+abbrev pub with_lot_set : List ℕ → ℕ → Tables → Tables
+with_lot_set name discarded t = record t { lots = map (lot_set name discarded) t.lots }
+
+-- the batch with this id has these counters
+abbrev pub totals_set : ℕ → BatchTotals → StoredBatch → StoredBatch
+totals_set id totals b =
+    if b.id == id then record b {
+      waiting = totals.waiting;
+      running = totals.running;
+      failed = totals.failed;
+      withdrawn = totals.withdrawn;
+      good = totals.good;
+      sessions = totals.sessions;
+      spoiled = totals.spoiled;
+    } else b
+
+abbrev pub with_totals_set : ℕ → BatchTotals → Tables → Tables
+with_totals_set id totals t = record t { batches = map (totals_set id totals) t.batches }
+
+-- the batch of this name is closed
+abbrev pub closed_set : List ℕ → StoredBatch → StoredBatch
+closed_set name b = if bytes_eq b.name name then record b { closed = true } else b
+
+abbrev pub with_closed_set : List ℕ → Tables → Tables
+with_closed_set name t = record t { batches = map (closed_set name) t.batches }
+
+-- the record at this place of this batch stands so, with so many spoiled sessions, and was remade so often
+abbrev pub record_set : ℕ → ℕ → RecordState → ℕ → ℕ → StoredRecord → StoredRecord
+record_set batch place state spoiled remakes r =
+    if (r.batch == batch) && (r.place == place) then record r { state = state; spoiled = spoiled; remakes = remakes } else r
+
+abbrev pub with_record_set : ℕ → ℕ → RecordState → ℕ → ℕ → Tables → Tables
+with_record_set batch place state spoiled remakes t = record t { records = map (record_set batch place state spoiled remakes) t.records }
 
 -- the session with this id stands so, has so many words, and its card stands there
 abbrev pub session_set : ℕ → SessionState → ℕ → Cursor → StoredSession → StoredSession
@@ -146,3 +208,22 @@ session_set id state words cursor s = if s.id == id then record s { state = stat
 
 abbrev pub with_session_set : ℕ → SessionState → ℕ → Cursor → Tables → Tables
 with_session_set id state words cursor t = record t { sessions = map (session_set id state words cursor) t.sessions }
+
+-- the session with this id was ended, and so is spoiled
+abbrev pub end_set : ℕ → StoredSession → StoredSession
+end_set id s = if s.id == id then record s { state = session.Spoiled; ended = true } else s
+
+abbrev pub with_end_set : ℕ → Tables → Tables
+with_end_set id t = record t { sessions = map (end_set id) t.sessions }
+
+-- ---- rows that go
+
+-- it is kept under a number of this client's, up to this one
+abbrev pub is_released : List ℕ → ℕ → Entry → Bool
+is_released client upto e = bytes_eq e.client client && nat_le e.number upto
+
+abbrev pub without_replies : List ℕ → ℕ → Tables → Tables
+without_replies client upto t = record t { replies = filter (λ (e : Entry). not (is_released client upto e)) t.replies }
+
+abbrev pub without_mark : List ℕ → Tables → Tables
+without_mark client t = record t { marks = filter (λ (m : Mark). not (has_mark client m)) t.marks }
