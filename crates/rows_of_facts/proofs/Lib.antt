@@ -1,5 +1,8 @@
 pub mod Lists
+pub mod Found
 pub mod Staying
 pub mod Products
+pub mod Lots
+pub mod Closing
 pub mod Words
 mod Worked
