@@ -1,8 +1,10 @@
 pub mod Lists
+pub mod Lookups
 pub mod Found
 pub mod Staying
 pub mod Products
 pub mod Lots
 pub mod Closing
+pub mod Releases
 pub mod Words
 mod Worked
