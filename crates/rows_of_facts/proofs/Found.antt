@@ -20,7 +20,7 @@ module _ {X : Type 0} (p : X → Bool) where
         let same : y ≡ x = same_Some y x (sym (cond-true (p y) (Some y) (find p xs) hit) ∙ is) in (
           ap p (sym same) ∙ hit,
           All-cons (λ z. p z ≡ true → z ≡ x) y xs (λ passes. same)
-          (λ k d within also. absurd (both_ways (p (get_or xs k d)) (once 0 (suc k) d (omega arith) (omega arith) hit) also)),
+              (λ k d within also. absurd (both_ways (p (get_or xs k d)) (once 0 (suc k) d (omega arith) (omega arith) hit) also)),
         )
     | inr miss ↦
         let rest = found_alone xs x (λ i j d before within. once (suc i) (suc j) d (omega arith) (omega arith)) (sym (cond-false (p y) (Some y) (find p xs) miss) ∙ is) in

@@ -4,6 +4,7 @@ use Rattle.std.specs.Prelude.{AllPairs, IsSome, bytes_eq}
 use Rattle.std.proofs.lemmas.Bool.{both_ways, cases_Bool, false_from_ne_true}
 use Rattle.std.proofs.lemmas.List.{map-append}
 use Rattle.std.proofs.lemmas.List.Elements.{All-weaker}
+use Rattle.std.proofs.lemmas.List.Folds.{list_any_none}
 use Rattle.std.proofs.lemmas.List.Sums.{sum_by_push}
 use Rattle.std.proofs.lemmas.Simd.{map-map}
 use Rattle.store_data.proofs.GroupLemmas.{bytes_eq-same}
@@ -13,14 +14,14 @@ use Rattle.job_core.specs.Contents.{Contents}
 use Rattle.job_core.specs.Facts.{Facts, Session, with_discard, with_lot}
 use Rattle.job_core.specs.Sound.{AreApart, IsOfLot, IsSession, IsSound, IsSoundChange, changed}
 use Rattle.job_core.specs.States.{is_in, lot_named, lot_of}
-use Rattle.job_core.proofs.Lists.{All-right, find-All, find_kept, map_same}
+use Rattle.job_core.proofs.Lists.{All-right, count_by_none, find-All, find_kept, map_same}
 use Rattle.step_laws.specs.Later.{KnowsMore}
 use Rattle.step_laws.specs.Records.{StandsSame}
 use Rattle.step_laws.specs.Sums.{discarded_in}
 use Rattle.step_laws.proofs.BlankSums.{apart_once, named_once}
 use Rattle.step_laws.proofs.ChangeStands.{others_same}
 use Rattle.step_laws.proofs.Kept.{lot_knows, no_more, one_more}
-use Rattle.step_laws.proofs.Permuted.{PassAlone, none_pass}
+use Rattle.step_laws.proofs.Permuted.{PassAlone}
 use Rattle.table_rows.specs.After.{new_lot, rows_after}
 use Rattle.table_rows.specs.Tables.{HaveSameRows, StoredBlank, StoredLot, lot_set}
 use Rattle.table_rows.specs.declared.before.Before.{Before}
@@ -55,7 +56,9 @@ module _ (f : Facts) (l : Lot) (sound : IsSound f) (after : IsSound (with_lot f 
       apart_once blank m.0 l (find-All (is_in blank) (λ n. AreApart n l) f.lots m.0 (to_last AreApart f.lots l after.named.lots.apart) m.1) inside.0
 
   none_discarded : discarded_in f l ≡ 0
-  none_discarded = none_pass (λ blank. is_in blank l) f.discarded (All-weaker HasLot (λ blank. is_in blank l ≡ false) not_new f.discarded discarded_there)
+  none_discarded =
+      count_by_none (λ blank. is_in blank l) f.discarded
+      (list_any_none (λ blank. is_in blank l) f.discarded (All-weaker HasLot (λ blank. is_in blank l ≡ false) not_new f.discarded discarded_there))
 
   lots_more : stored_lots with_new ≡ stored_lots f ++ new_lot l ∷ []
   unfolding stored_lots
@@ -141,7 +144,7 @@ module _ (f : Facts) (blank : ℕ) (name : List ℕ) (sound : IsSound f) (of_lot
         ∙ sym (ap (λ b. cond b (record { lot = m; discarded = discarded_in f l + 1 }) (stored_lot f m)) hit)
     | inr miss ↦
         let outside : is_in blank m ≡ false = false_from_ne_true (is_in blank m) (λ inside.
-            both_ways (bytes_eq m.name name) miss (ap (λ (k : Lot). bytes_eq k.name name) (by_blank inside) ∙ of_lot_named)) in
+        both_ways (bytes_eq m.name name) miss (ap (λ (k : Lot). bytes_eq k.name name) (by_blank inside) ∙ of_lot_named)) in
         let none : cond {A = ℕ} (is_in blank m) 1 0 ≡ 0 = ap (λ b. cond {A = ℕ} b 1 0) outside in
         let count : discarded_in with_out m ≡ discarded_in f m = omega (arith, one_more_in m, none) in
         ap (λ n. record { lot = m; discarded = n }) count

@@ -43,7 +43,7 @@ module _ (client : List ℕ) (upto : ℕ) where
             ∙ elim (cases_Bool (bytes_eq m.client n)) [
               | inl hit ↦
                   let apart : bytes_eq client n ≡ false = false_from_ne_true (bytes_eq client n) (λ same.
-                      both_ways (has_mark client m) other (ap (bytes_eq m.client) (same-bytes_eq client n same) ∙ hit)) in
+                  both_ways (has_mark client m) other (ap (bytes_eq m.client) (same-bytes_eq client n same) ∙ hit)) in
                   ap (λ b. upto_of (cond b (Some m) (find (has_mark n) (left ++ new ∷ [])))) hit
                   ∙ sym (ap (λ b. cond b upto (upto_of (cond (bytes_eq m.client n) (Some m) rest))) apart ∙ ap (λ b. upto_of (cond b (Some m) rest)) hit)
               | inr miss ↦
@@ -63,7 +63,7 @@ module _ (client : List ℕ) (upto : ℕ) where
             ap (λ b. nat_lt (cond b upto (mark_of marks e.client)) e.number) hit ∙ over ∙ sym (ap (λ b. not (b && nat_le e.number upto)) own)
         | inr miss ↦
             let other : bytes_eq e.client client ≡ false = false_from_ne_true (bytes_eq e.client client) (λ same.
-                both_ways (bytes_eq client e.client) miss (ap (bytes_eq client) (same-bytes_eq e.client client same) ∙ bytes_eq-same client)) in
+            both_ways (bytes_eq client e.client) miss (ap (bytes_eq client) (same-bytes_eq e.client client same) ∙ bytes_eq-same client)) in
             ap (λ b. nat_lt (cond b upto (mark_of marks e.client)) e.number) miss ∙ was ∙ sym (ap (λ b. not (b && nat_le e.number upto)) other)
       ]
 
