@@ -9,5 +9,6 @@ pub mod Ending
 pub mod Creating
 pub mod Rowids
 pub mod Changing
+pub mod Typed
 pub mod Ordering
 pub mod Querying
