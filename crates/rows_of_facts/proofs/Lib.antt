@@ -1,6 +1,8 @@
 pub mod Lists
+pub mod Places
 pub mod Lookups
 pub mod Staying
+pub mod Totals
 pub mod Products
 pub mod Words
 mod Worked

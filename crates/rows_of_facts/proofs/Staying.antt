@@ -27,7 +27,7 @@ use Rattle.rows_of_facts.proofs.Lists.{All-numbered, flat_map_same}
 
 -- ---- what an account is made of
 
-abbrev totals_by : List RecordState → List SessionState → BatchTotals
+abbrev pub totals_by : List RecordState → List SessionState → BatchTotals
 totals_by records sessions = record {
   records = length records;
   waiting = count_records records rec.Waiting;
@@ -39,11 +39,11 @@ totals_by records sessions = record {
   spoiled = count_sessions sessions session.Spoiled;
 }
 
-totals_are : (f : Facts) (b : List ℕ) → batch_totals f b ≡ totals_by (record_states f b) (session_states f b)
+pub totals_are : (f : Facts) (b : List ℕ) → batch_totals f b ≡ totals_by (record_states f b) (session_states f b)
 unfolding batch_totals
 totals_are f b = refl
 
-abbrev batch_by : ℕ × Batch → Bool → BatchTotals → StoredBatch
+abbrev pub batch_by : ℕ × Batch → Bool → BatchTotals → StoredBatch
 batch_by e closed totals = record {
   id = e.0;
   name = e.1.name;
