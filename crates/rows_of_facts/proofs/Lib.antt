@@ -5,6 +5,6 @@ pub mod Staying
 pub mod Products
 pub mod Lots
 pub mod Closing
-pub mod Releases
+pub mod Releasing
 pub mod Words
 mod Worked
