@@ -1,3 +1,4 @@
 pub mod Filling
+pub mod Changing
 pub mod SameRows
 pub mod Newly
