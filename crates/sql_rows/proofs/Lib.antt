@@ -1,3 +1,4 @@
 pub mod Filling
 pub mod SameRows
 pub mod Newly
+pub mod OneImage
