@@ -1,2 +1,4 @@
 pub mod Texts
+pub mod NameTexts
 pub mod Decoding
+pub mod Keys

@@ -3,6 +3,9 @@
 
 mod marks;
 mod products;
+mod replies;
+mod values;
 
 pub use marks::mark;
 pub use products::product;
+pub use replies::kept;

@@ -1,0 +1,4 @@
+pub mod Finding
+pub mod BatchRows
+pub mod RecordRows
+pub mod SessionRows

@@ -1,0 +1,10 @@
+//! What the rows of an image answer to a look-up by key.
+#![tactic(auto)]
+
+mod batches;
+mod records;
+mod sessions;
+
+pub use batches::{batches_by_id, batches_by_name, totals_by_rows};
+pub use records::{records_by_name, records_by_place};
+pub use sessions::{running_sessions_by_machine, sessions_by_number};
