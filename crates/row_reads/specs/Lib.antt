@@ -1,2 +1,4 @@
 pub mod Texts
 pub mod Decoding
+pub mod CardTexts
+pub mod CardDecoding
