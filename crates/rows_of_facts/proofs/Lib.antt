@@ -1,4 +1,5 @@
 pub mod Lists
+pub mod Lookups
 pub mod Staying
 pub mod Products
 pub mod Words
