@@ -1,10 +1,10 @@
 -- What is answered of records, groupings and sessions.
-use Rattle.std.proofs.Common.{◌≡◌, ℕ, ◌==◌, ◌&&◌, Bool, true, false, List, [], ◌∷◌, map, Option, refl, ap, ◌∙◌}
+use Rattle.std.proofs.Common.{◌≡◌, ℕ, ◌==◌, ◌&&◌, Bool, true, List, [], ◌∷◌, map, Option, refl, ◌∙◌}
 use Rattle.std.specs.Prelude.{filter, find, option_map}
 use Rattle.std.specs.List.Sorted.{IsPermutation}
 use Rattle.sqlite.specs.Collation.TheVariants.{Binary}
 use Rattle.sqlite.specs.Ops.{binary, is_true}
-use Rattle.sqlite.specs.Order.{Row, column}
+use Rattle.sqlite.specs.Order.{Row}
 use Rattle.sqlite.specs.State.{Shown, State}
 use Rattle.sqlite_sql.specs.declared.ops.BinaryOp.TheVariants.{Compare}
 use Rattle.sqlite_sql.specs.declared.ops.CompareOp.TheVariants.{Eq}
@@ -21,7 +21,7 @@ use Rattle.row_reads.specs.CardDecoding.{session_at, session_in, session_state_o
 use Rattle.row_reads.specs.CardTexts.{by_id, session_columns, session_text}
 use Rattle.row_reads.specs.Decoding.{IsFirst}
 use Rattle.row_reads.proofs.CardMeanings.{session_is, session_plain, session_unlisted}
-use Rattle.row_reads.proofs.Finding.{all_found, looked_up_whole, one_found}
+use Rattle.row_reads.proofs.Finding.{looked_up_whole, one_found}
 
 number_key : (key n : ℕ) → (is_true (binary (Compare Eq Binary) (number n) (number key)) && true) ≡ (n == key)
 number_key key n = alone (is_true (binary (Compare Eq Binary) (number n) (number key))) ∙ same_int n key
