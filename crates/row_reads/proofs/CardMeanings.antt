@@ -1,23 +1,15 @@
--- What the resolver reads in each text about records, groupings and sessions.
-use Rattle.std.proofs.Common.{◌≡◌, [], ◌∷◌, codes, false, refl}
-use Rattle.sqlite.specs.Command.TheVariants.{Select}
-use Rattle.sqlite.specs.Listing.{reads_listing, understood}
-use Rattle.sqlite.proofs.Callers.{IsPlain, command_of}
+-- What the resolver reads in the texts that read records, groupings and sessions.
+use Rattle.std.proofs.Common.{[], ◌∷◌, codes, refl}
+use Rattle.sqlite.specs.Listing.{understood}
 use Rattle.sqlite_tied.specs.Compute.{everything}
-use Rattle.sql_base.specs.Queries.{from_tree}
-use Rattle.sql_tables.specs.Tables.{our_schema}
 use Rattle.row_reads.specs.CardTexts.{by_id, session_columns, session_text}
+use Rattle.row_reads.proofs.Asking.{Asks}
 
-pub session_is : command_of (understood our_schema session_text)
-    ≡ Select (record { lets = []; body = from_tree 12 by_id session_columns })
-    (codes "machine" ∷ codes "batch" ∷ codes "place" ∷ codes "state" ∷ codes "words" ∷ codes "app" ∷ codes "segment" ∷ codes "at_offset" ∷ codes "block" ∷ [])
+pub session_asks : Asks session_text 12 by_id session_columns
 unfolding understood everything
-session_is = refl
-
-pub session_plain : IsPlain (understood our_schema session_text)
-unfolding understood everything
-session_plain = (refl, refl)
-
-pub session_unlisted : reads_listing our_schema session_text ≡ false
-unfolding understood everything
-session_unlisted = refl
+session_asks = record {
+  names = codes "machine" ∷ codes "batch" ∷ codes "place" ∷ codes "state" ∷ codes "words" ∷ codes "app" ∷ codes "segment" ∷ codes "at_offset" ∷ codes "block" ∷ [];
+  is = refl;
+  plain = (refl, refl);
+  unlisted = refl;
+}

@@ -1,7 +1,5 @@
 -- What the values of an answered row tell of records, groupings and sessions.
-use Rattle.std.specs.Prelude.{◌<◌, ◌^◌, ℕ, zero, suc, List, []}
-use Rattle.sqlite.specs.declared.types.Value.{Value}
-use Rattle.sqlite.specs.declared.types.Value.TheVariants.{Text}
+use Rattle.std.specs.Prelude.{◌<◌, ◌^◌, ℕ, zero, suc}
 use Rattle.sqlite.specs.Order.{Row, column}
 use Rattle.store_data.specs.declared.cursor.Cursor.{Cursor}
 use Rattle.store_data.specs.Cursor.{IsCursor}
@@ -9,11 +7,7 @@ use Rattle.job_core.specs.declared.facts.SessionState.{SessionState}
 use Rattle.job_core.specs.declared.facts.SessionState.TheVariants as session
 use Rattle.row_reads.specs.declared.sessions.SessionAt.{SessionAt}
 use Rattle.table_rows.specs.Tables.{StoredSession}
-use Rattle.row_reads.specs.Decoding.{nat_in}
-
-abbrev pub text_in : Value → List ℕ
-text_in (Text t) = t
-text_in _ = []
+use Rattle.row_reads.specs.Decoding.{nat_in, text_in}
 
 -- ---- sessions
 

@@ -1,11 +1,13 @@
 //! What each statement that reads answers of the rows of our tables.
 #![tactic(auto)]
 
-mod columns;
 mod marks;
 mod products;
+mod replies;
 mod sessions;
+mod values;
 
 pub use marks::mark;
 pub use products::product;
+pub use replies::kept;
 pub use sessions::{SessionAt, session};

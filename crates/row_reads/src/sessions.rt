@@ -1,5 +1,5 @@
 //! Sessions are read.
-ghost use Rattle.std.specs.Prelude.{◌≡◌, ◌==◌, ◌<◌, ◌^◌, ◌&&◌, false, bytes_eq, find, option_map, IfOk, IfSome, IsTrue, map};
+ghost use Rattle.std.specs.Prelude.{◌≡◌, ◌==◌, ◌<◌, ◌^◌, false, find, option_map, IfOk, IfSome, IsTrue, map};
 ghost use Rattle.sqlite.specs.Held.{state};
 ghost use Rattle.sqlite.specs.State.{HasCleanDisk, Survives};
 ghost use Rattle.store_data.specs.Cursor.{IsCursor};
@@ -9,7 +9,7 @@ ghost use Rattle.sql_base.specs.Ends.{IsKept};
 ghost use Rattle.sql_rows.specs.Image.{IsImage};
 ghost use Rattle.table_rows.specs.Tables.{PassesOnce, StoredSession, Tables};
 
-use crate::columns::{name_in, number_in};
+use crate::values::{name_at, number_at};
 use job_core::SessionState;
 use sql_base::{int, rows_of};
 use sqlite::{Alter, Connection, Error, Row};
@@ -80,12 +80,12 @@ fn session_in(row: &Row) -> Result<SessionAt, Error>
     ensures value { IfOk result (λ s. s ≡ session_in row.now) }
     ensures ranged { IfOk result IsSessionAt }
 {
-    let machine = name_in(row, 0)?;
-    let batch = number_in(row, 1)?;
-    let place = number_in(row, 2)?;
-    let code = number_in(row, 3)?;
+    let machine = name_at(row, 0)?;
+    let batch = number_at(row, 1)?;
+    let place = number_at(row, 2)?;
+    let code = number_at(row, 3)?;
     let stands = session_state(code)?;
-    let words = number_in(row, 4)?;
+    let words = number_at(row, 4)?;
     let cursor = cursor_in(row)?;
     Ok(SessionAt {
         machine,

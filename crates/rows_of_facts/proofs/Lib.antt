@@ -1,6 +1,10 @@
 pub mod Lists
 pub mod Lookups
+pub mod Found
 pub mod Staying
 pub mod Products
+pub mod Lots
+pub mod Closing
+pub mod Releasing
 pub mod Words
 mod Worked

@@ -43,7 +43,7 @@ totals_are : (f : Facts) (b : List ℕ) → batch_totals f b ≡ totals_by (reco
 unfolding batch_totals
 totals_are f b = refl
 
-abbrev batch_by : ℕ × Batch → Bool → BatchTotals → StoredBatch
+abbrev pub batch_by : ℕ × Batch → Bool → BatchTotals → StoredBatch
 batch_by e closed totals = record {
   id = e.0;
   name = e.1.name;

@@ -4,7 +4,7 @@ use Rattle.sql_base.proofs.Querying.{shown_open}
 use Rattle.sql_base.proofs.Selecting.{if_ok}
 use Rattle.row_reads.specs.CardDecoding.{session_in}
 use Rattle.row_reads.specs.Decoding.{IsFirst}
-use Rattle.row_reads.proofs.CardAnswering.{session_found}
+use Rattle.row_reads.proofs.CardAnswers.{session_found}
 use Rattle.row_reads.proofs.sessions.session.Goals as goal
 
 pub returns-clause-found : goal.returns-clause-found

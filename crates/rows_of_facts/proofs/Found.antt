@@ -1,0 +1,34 @@
+-- Look-ups by a test that one passes at most.
+use Rattle.std.proofs.Common.{◌≡◌, suc, Bool, true, List, [], ◌∷◌, ◌++◌, length, get_or, All, Option, Some, None, inl, inr, refl, sym, ap, subst, ◌∙◌, arith}
+use Rattle.std.specs.Prelude.{AllPairs, IsSome, find}
+use Rattle.std.proofs.lemmas.Bool.{both_ways, cases_Bool, cond-false, cond-true, false≢true}
+use Rattle.std.proofs.lemmas.List.{get_or_append_left, get_or_push, length_push}
+use Rattle.std.proofs.lemmas.List.Elements.{All-cons}
+use Rattle.std.proofs.lemmas.Option.{none-some, same_Some}
+use Rattle.step_laws.proofs.Permuted.{PassAlone}
+
+pub some_there : {X : Type 0} (o : Option X) → IsSome o → (x : X) × (o ≡ Some x)
+some_there None is = absurd (false≢true is)
+some_there (Some x) is = (x, refl)
+
+module _ {X : Type 0} (p : X → Bool) where
+  -- the one that is found passes, and no other does
+  pub found_alone : (xs : List X) (x : X) → AllPairs (PassAlone p) xs → find p xs ≡ Some x → (p x ≡ true) × All (λ y. p y ≡ true → y ≡ x) xs
+  found_alone [] x once is = absurd (none-some x is)
+  found_alone (y ∷ xs) x once is = elim (cases_Bool (p y)) [
+    | inl hit ↦
+        let same : y ≡ x = same_Some y x (sym (cond-true (p y) (Some y) (find p xs) hit) ∙ is) in (
+          ap p (sym same) ∙ hit,
+          All-cons (λ z. p z ≡ true → z ≡ x) y xs (λ passes. same)
+              (λ k d within also. absurd (both_ways (p (get_or xs k d)) (once 0 (suc k) d (omega arith) (omega arith) hit) also)),
+        )
+    | inr miss ↦
+        let rest = found_alone xs x (λ i j d before within. once (suc i) (suc j) d (omega arith) (omega arith)) (sym (cond-false (p y) (Some y) (find p xs) miss) ∙ is) in
+        (rest.0, All-cons (λ z. p z ≡ true → z ≡ x) y xs (λ hit. absurd (both_ways (p y) miss hit)) rest.1)
+  ]
+
+-- how each of the others stands to the last
+pub to_last : {X : Type 0} (R : X → X → Type 0) (xs : List X) (x : X) → AllPairs R (xs ++ x ∷ []) → All (λ y. R y x) xs
+to_last R xs x pairs k d within =
+    let there = pairs k (length xs) d within (omega (arith, length_push xs x)) in
+    subst (λ y. R y x) (get_or_append_left xs (x ∷ []) d k within) (subst (R (get_or (xs ++ x ∷ []) k d)) (get_or_push xs x d (length xs) refl) there)
