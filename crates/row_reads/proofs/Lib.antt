@@ -4,3 +4,5 @@ pub mod Meanings
 pub mod Answering
 pub mod NameMeanings
 pub mod NameAnswers
+pub mod CardMeanings
+pub mod CardAnswers

@@ -1,4 +1,6 @@
 pub mod Texts
 pub mod NameTexts
+pub mod CardTexts
 pub mod Decoding
+pub mod CardDecoding
 pub mod Keys

@@ -4,8 +4,10 @@
 mod marks;
 mod products;
 mod replies;
+mod sessions;
 mod values;
 
 pub use marks::mark;
 pub use products::product;
 pub use replies::kept;
+pub use sessions::{SessionAt, session};

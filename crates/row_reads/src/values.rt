@@ -1,5 +1,5 @@
 //! The values of an answered row.
-ghost use Rattle.std.specs.Prelude.{◌≡◌, IfOk};
+ghost use Rattle.std.specs.Prelude.{◌≡◌, ◌<◌, ◌^◌, IfOk};
 ghost use Rattle.sqlite.specs.Order.{column};
 ghost use Rattle.row_reads.specs.Decoding.{blob_in, nat_in, text_in};
 
@@ -33,6 +33,21 @@ pub(crate) fn bytes_at(row: &Row, at: usize) -> Result<Bytes, Error>
 {
     let items: Vec<u8> = row.get(at)?;
     Ok(Bytes::from_vec(items))
+}
+
+// SQL's numbers end below it.
+const END: u64 = 1 << 63;
+
+// The number in this column.
+pub(crate) fn number_at(row: &Row, at: usize) -> Result<u64, Error>
+    ensures value { IfOk result (λ n. n ≡ nat_in (column row.now at)) }
+    ensures ranged { IfOk result (λ n. n < 2 ^ 63) }
+{
+    let n: u64 = row.get(at)?;
+    if n >= END {
+        return Err(Error::InvalidQuery);
+    }
+    Ok(n)
 }
 
 // The number below 2^16 in this column.
