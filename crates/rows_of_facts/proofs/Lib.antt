@@ -6,5 +6,6 @@ pub mod Products
 pub mod Lots
 pub mod Closing
 pub mod Releasing
+pub mod Importing
 pub mod Words
 mod Worked
