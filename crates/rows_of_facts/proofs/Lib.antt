@@ -9,5 +9,6 @@ pub mod Products
 pub mod Lots
 pub mod Closing
 pub mod Releasing
+pub mod Importing
 pub mod Words
 mod Worked
