@@ -10,6 +10,7 @@ use Rattle.std.proofs.lemmas.List.Elements.{All-append, All-cons, All-head, All-
 use Rattle.std.proofs.lemmas.List.Folds.{find-append}
 use Rattle.std.proofs.lemmas.List.Kept.{AllPairs-cons}
 use Rattle.std.proofs.lemmas.List.Sums.{sum_by-cons}
+use Rattle.store_data.proofs.FaultLemmas.{All-from_map}
 use Rattle.store_data.proofs.GroupLemmas.{bytes_eq-same, same-bytes_eq}
 use Rattle.table_rows.specs.Tables.{PassesOnce}
 
@@ -48,6 +49,11 @@ module _ {X : Type 0} (R : X → X → Type 0) where
   AllPairs-map f (w ∷ ws) pairs =
       AllPairs-cons R (f w) (map f ws) (All-map (R (f w)) f ws (λ k d within. pairs 0 (suc k) d (omega arith) (omega arith)))
       (AllPairs-map f ws (λ i j d before within. pairs (suc i) (suc j) d (omega arith) (omega arith)))
+
+  pub AllPairs-from_map : {W : Type 0} (f : W → X) (ws : List W) → AllPairs R (map f ws) → AllPairs (λ v w. R (f v) (f w)) ws
+  AllPairs-from_map f [] pairs = λ i j d before within. absurd (omega arith)
+  AllPairs-from_map f (w ∷ ws) pairs =
+      AllPairs-cons (λ v w. R (f v) (f w)) w ws (All-from_map f (R (f w)) ws (pairs_head (f w) (map f ws) pairs)) (AllPairs-from_map f ws (pairs_tail (f w) (map f ws) pairs))
 
   -- with their numbers
   numbered_beside : (x : X) (n : ℕ) (xs : List X) → All (R x) xs → All (λ (e : ℕ × X). R x e.1) (enumerate_from n xs)

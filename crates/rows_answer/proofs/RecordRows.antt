@@ -36,7 +36,7 @@ pub names_once : (products : List Product) (b : Batch) → AllPairs (λ (m k : L
 unfolding records_of
 names_once products b = distinct_once (records_of products b) (Distinct-first_appearances [] (map (λ (row : Row). row.rec) (rows_of products b)) tt)
 
-name_alone : (n m k : List ℕ) → bytes_eq m k ≡ false → bytes_eq m n ≡ true → bytes_eq k n ≡ false
+pub name_alone : (n m k : List ℕ) → bytes_eq m k ≡ false → bytes_eq m n ≡ true → bytes_eq k n ≡ false
 name_alone n m k differ hit = bytes_eq_turned k n ∙ ap (λ z. bytes_eq z k) (sym (same-bytes_eq m n hit)) ∙ differ
 
 pub mapped_cond : {X Y : Type 0} (g : X → Y) (t : Bool) (x : X) → option_map g (cond t (Some x) None) ≡ cond t (Some (g x)) None
