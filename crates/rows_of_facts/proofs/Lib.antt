@@ -5,6 +5,8 @@ pub mod Found
 pub mod Staying
 pub mod Totals
 pub mod OneRecord
+pub mod Touching
+pub mod OneSession
 pub mod Products
 pub mod Lots
 pub mod Closing
