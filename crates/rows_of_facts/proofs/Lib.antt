@@ -7,6 +7,7 @@ pub mod Totals
 pub mod OneRecord
 pub mod Touching
 pub mod OneSession
+pub mod Opening
 pub mod Products
 pub mod Lots
 pub mod Closing
