@@ -4,3 +4,4 @@ pub mod CardTexts
 pub mod Decoding
 pub mod CardDecoding
 pub mod Keys
+pub mod CardKeys
