@@ -31,7 +31,7 @@ use Rattle.rows_of_facts.proofs.Totals.{passes_to}
 
 -- ---- where a record stands
 
-turned : (m n : List ℕ) → bytes_eq m n ≡ false → bytes_eq n m ≡ false
+pub turned : (m n : List ℕ) → bytes_eq m n ≡ false → bytes_eq n m ≡ false
 turned m n differ = false_from_ne_true (bytes_eq n m) (λ same. both_ways (bytes_eq m n) differ (ap (bytes_eq m) (same-bytes_eq n m same) ∙ bytes_eq-same m))
 
 name_once : (r : List ℕ) (names : List (List ℕ)) → Distinct names → Once (bytes_eq r) names
