@@ -2,3 +2,4 @@ pub mod Filling
 pub mod Changing
 pub mod SameRows
 pub mod Newly
+pub mod OneImage
