@@ -8,6 +8,7 @@ pub mod OneRecord
 pub mod Touching
 pub mod OneSession
 pub mod Opening
+pub mod Remaking
 pub mod Products
 pub mod Lots
 pub mod Closing
