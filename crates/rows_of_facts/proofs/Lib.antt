@@ -7,6 +7,8 @@ pub mod Totals
 pub mod OneRecord
 pub mod Touching
 pub mod OneSession
+pub mod SessionRows
+pub mod Stopping
 pub mod Opening
 pub mod Remaking
 pub mod Products
@@ -14,4 +16,5 @@ pub mod Lots
 pub mod Closing
 pub mod Releasing
 pub mod Words
+pub mod Ending
 mod Worked
