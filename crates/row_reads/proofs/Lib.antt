@@ -4,3 +4,4 @@ pub mod Meanings
 pub mod Answering
 pub mod NameMeanings
 pub mod NameAnswers
+pub mod BatchAnswers

@@ -1,11 +1,13 @@
 //! What each statement that reads answers of the rows of our tables.
 #![tactic(auto)]
 
+mod batches;
 mod marks;
 mod products;
 mod replies;
 mod values;
 
+pub use batches::{BatchHead, batch_has, batch_head, batch_id, batch_name};
 pub use marks::mark;
 pub use products::product;
 pub use replies::kept;
