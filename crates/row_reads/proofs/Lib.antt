@@ -5,3 +5,5 @@ pub mod Answering
 pub mod NameMeanings
 pub mod NameAnswers
 pub mod BatchAnswers
+pub mod CardMeanings
+pub mod CardAnswers

@@ -1,16 +1,16 @@
 //! Batches are read.
-ghost use Rattle.std.specs.Prelude.{◌≡◌, ◌<◌, ◌^◌, false, map, find, option_map, IfOk, IsTrue};
+ghost use Rattle.std.specs.Prelude.{◌≡◌, ◌<◌, ◌^◌, false, map, find, option_map, IfOk, IfSome, IsTrue};
 ghost use Rattle.std.specs.List.{list_any};
 ghost use Rattle.sqlite.specs.Held.{state};
 ghost use Rattle.sqlite.specs.State.{HasCleanDisk, Survives};
 ghost use Rattle.row_reads.specs.Decoding.{IsFirst, head_in, totals_in};
 ghost use Rattle.row_reads.specs.Keys.{has_bytes, has_id, has_name};
-ghost use Rattle.row_reads.specs.Telling.{head_of};
+ghost use Rattle.row_reads.specs.Telling.{AreCounts, IsHead, head_of};
 ghost use Rattle.sql_base.specs.Ends.{IsKept};
 ghost use Rattle.sql_rows.specs.Image.{IsImage};
 ghost use Rattle.table_rows.specs.Tables.{PassesOnce, StoredBatch, Tables};
 
-use crate::values::{first_id, first_name, has_rows, name_at};
+use crate::values::{first_id, first_name, has_rows, name_at, number_at};
 use job_core::BatchTotals;
 use sql_base::{int, rows_of};
 use sqlite::types::ValueRef;
@@ -31,15 +31,16 @@ pub struct BatchHead {
 // The counters behind an id, a product and the mark of a close. Those of records are below 2^32, so
 // that their sum is a number.
 fn totals_in(row: &Row) -> Result<BatchTotals, Error>
-    ensures { IfOk result (λ totals. totals ≡ totals_in row.now) }
+    ensures value { IfOk result (λ totals. totals ≡ totals_in row.now) }
+    ensures ranged { IfOk result AreCounts }
 {
     let waiting: u32 = row.get(3)?;
     let running: u32 = row.get(4)?;
     let failed: u32 = row.get(5)?;
     let withdrawn: u32 = row.get(6)?;
     let good: u32 = row.get(7)?;
-    let sessions: u64 = row.get(8)?;
-    let spoiled: u64 = row.get(9)?;
+    let sessions = number_at(row, 8)?;
+    let spoiled = number_at(row, 9)?;
     Ok(BatchTotals {
         records: u64::from(waiting)
             + u64::from(running)
@@ -57,9 +58,10 @@ fn totals_in(row: &Row) -> Result<BatchTotals, Error>
 }
 
 fn head_in(row: &Row) -> Result<BatchHead, Error>
-    ensures { IfOk result (λ head. head ≡ head_in row.now) }
+    ensures value { IfOk result (λ head. head ≡ head_in row.now) }
+    ensures ranged { IfOk result IsHead }
 {
-    let id: u64 = row.get(0)?;
+    let id = number_at(row, 0)?;
     let product = name_at(row, 1)?;
     let is_closed: bool = row.get(2)?;
     let totals = totals_in(row)?;
@@ -72,7 +74,8 @@ fn head_in(row: &Row) -> Result<BatchHead, Error>
 }
 
 fn first_head(rows: &[Row]) -> Result<Option<BatchHead>, Error>
-    ensures { IfOk result (λ found. IsFirst (map head_in rows.now) found) }
+    ensures value { IfOk result (λ found. IsFirst (map head_in rows.now) found) }
+    ensures ranged { IfOk result (λ found. IfSome found IsHead) }
 {
     match rows.first() {
         None => Ok(None),
@@ -90,6 +93,7 @@ pub fn batch_id<S: Alter>(conn: &mut Connection<S>, name: &Name) -> Result<Optio
         (λ found. IsTrue (state S.Store conn.old).is_open × ((t : Tables)
         → IsImage t (state S.Store conn.old).now → PassesOnce (has_name name.now) t.batches
         → found ≡ option_map (λ (b : StoredBatch). b.id) (find (has_name name.now) t.batches))) }
+    ensures ranged { IfOk result (λ found. IfSome found (λ id. id < 2 ^ 63)) }
     ensures kept { HasCleanDisk (state S.Store conn.new)
         → IsKept (state S.Store conn.old) (state S.Store conn.new) }
     ensures idle { conn.new.in_transaction ≡ false }
@@ -132,6 +136,7 @@ pub fn batch_head<S: Alter>(
         (λ found. IsTrue (state S.Store conn.old).is_open × ((t : Tables)
         → IsImage t (state S.Store conn.old).now → PassesOnce (has_name name.now) t.batches
         → found ≡ option_map head_of (find (has_name name.now) t.batches))) }
+    ensures ranged { IfOk result (λ found. IfSome found IsHead) }
     ensures kept { HasCleanDisk (state S.Store conn.new)
         → IsKept (state S.Store conn.old) (state S.Store conn.new) }
     ensures idle { conn.new.in_transaction ≡ false }

@@ -5,9 +5,11 @@ mod batches;
 mod marks;
 mod products;
 mod replies;
+mod sessions;
 mod values;
 
 pub use batches::{BatchHead, batch_has, batch_head, batch_id, batch_name};
 pub use marks::mark;
 pub use products::product;
 pub use replies::kept;
+pub use sessions::{SessionAt, session};

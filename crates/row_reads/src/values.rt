@@ -1,5 +1,5 @@
 //! The values of an answered row.
-ghost use Rattle.std.specs.Prelude.{◌≡◌, map, IfOk};
+ghost use Rattle.std.specs.Prelude.{◌≡◌, ◌<◌, ◌^◌, map, IfOk, IfSome};
 ghost use Rattle.sqlite.specs.Order.{column};
 ghost use Rattle.row_reads.specs.Decoding.{IsFirst, blob_in, has_rows, id_in, name_in, nat_in, text_in};
 
@@ -35,6 +35,21 @@ pub(crate) fn bytes_at(row: &Row, at: usize) -> Result<Bytes, Error>
     Ok(Bytes::from_vec(items))
 }
 
+// SQL's numbers end below it.
+const END: u64 = 1 << 63;
+
+// The number in this column.
+pub(crate) fn number_at(row: &Row, at: usize) -> Result<u64, Error>
+    ensures value { IfOk result (λ n. n ≡ nat_in (column row.now at)) }
+    ensures ranged { IfOk result (λ n. n < 2 ^ 63) }
+{
+    let n: u64 = row.get(at)?;
+    if n >= END {
+        return Err(Error::InvalidQuery);
+    }
+    Ok(n)
+}
+
 // The number below 2^16 in this column.
 pub(crate) fn short_at(row: &Row, at: usize) -> Result<u16, Error>
     ensures { IfOk result (λ n. n ≡ nat_in (column row.now at)) }
@@ -49,14 +64,16 @@ pub(crate) fn short_at(row: &Row, at: usize) -> Result<u16, Error>
 // ---- answered rows
 
 fn id_in(row: &Row) -> Result<u64, Error>
-    ensures { IfOk result (λ id. id ≡ id_in row.now) }
+    ensures value { IfOk result (λ id. id ≡ id_in row.now) }
+    ensures ranged { IfOk result (λ id. id < 2 ^ 63) }
 {
-    row.get(0)
+    number_at(row, 0)
 }
 
 // The id in the first answered row, if there is one.
 pub(crate) fn first_id(rows: &[Row]) -> Result<Option<u64>, Error>
-    ensures { IfOk result (λ found. IsFirst (map id_in rows.now) found) }
+    ensures value { IfOk result (λ found. IsFirst (map id_in rows.now) found) }
+    ensures ranged { IfOk result (λ found. IfSome found (λ id. id < 2 ^ 63)) }
 {
     match rows.first() {
         None => Ok(None),

@@ -1,3 +1,5 @@
 pub mod Meanings
 pub mod Putting
+pub mod PuttingBatches
+pub mod PuttingCards
 pub mod Setting

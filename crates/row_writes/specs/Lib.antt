@@ -1,1 +1,2 @@
+pub mod BatchTexts
 pub mod Texts

@@ -15,4 +15,4 @@ returns-clause-found g c clean =
       shown_open begun end _ _ c.in_ok-rows.rows.items shown.1,
       λ t image once. batch_id_found c.args.name.now begun end c.in_ok-rows.rows.items shown.1 t image once found
           (subst (λ rows. IsFirst (map id_in rows) found) c.as_slice.ensures.value is),
-    )) c.first_id.ensures
+    )) c.first_id.ensures.value
