@@ -5,3 +5,4 @@ pub mod Decoding
 pub mod CardDecoding
 pub mod Keys
 pub mod Telling
+pub mod CardKeys

@@ -4,6 +4,7 @@
 mod batches;
 mod marks;
 mod products;
+mod records;
 mod replies;
 mod sessions;
 mod values;
@@ -11,5 +12,6 @@ mod values;
 pub use batches::{BatchHead, batch_has, batch_head, batch_id, batch_name};
 pub use marks::mark;
 pub use products::product;
+pub use records::{RecordAt, record_at, record_named};
 pub use replies::kept;
-pub use sessions::{SessionAt, session};
+pub use sessions::{SessionAt, running_session, session};

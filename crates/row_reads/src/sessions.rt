@@ -1,9 +1,10 @@
 //! Sessions are read.
-ghost use Rattle.std.specs.Prelude.{◌≡◌, ◌==◌, ◌<◌, ◌^◌, false, find, option_map, IfOk, IfSome, IsTrue, map};
+ghost use Rattle.std.specs.Prelude.{◌≡◌, ◌<◌, ◌^◌, false, find, option_map, IfOk, IfSome, IsTrue, map};
 ghost use Rattle.sqlite.specs.Held.{state};
 ghost use Rattle.sqlite.specs.State.{HasCleanDisk, Survives};
 ghost use Rattle.store_data.specs.Cursor.{IsCursor};
-ghost use Rattle.row_reads.specs.CardDecoding.{IsSessionAt, cursor_in, session_at, session_in, session_state_of};
+ghost use Rattle.row_reads.specs.CardDecoding.{IsSessionAt, cursor_in, number_in, session_at, session_in, session_state_of};
+ghost use Rattle.row_reads.specs.CardKeys.{has_id, is_running_on};
 ghost use Rattle.row_reads.specs.Decoding.{IsFirst};
 ghost use Rattle.sql_base.specs.Ends.{IsKept};
 ghost use Rattle.sql_rows.specs.Image.{IsImage};
@@ -12,6 +13,7 @@ ghost use Rattle.table_rows.specs.Tables.{PassesOnce, StoredSession, Tables};
 use crate::values::{name_at, number_at};
 use job_core::SessionState;
 use sql_base::{int, rows_of};
+use sqlite::types::ValueRef;
 use sqlite::{Alter, Connection, Error, Row};
 use store_data::{Cursor, Name};
 
@@ -115,8 +117,8 @@ pub fn session<S: Alter>(conn: &mut Connection<S>, id: u64) -> Result<Option<Ses
     ensures found { HasCleanDisk (state S.Store conn.new) → IfOk result
         (λ found. IsTrue (state S.Store conn.old).is_open × ((t : Tables)
         → IsImage t (state S.Store conn.old).now
-        → PassesOnce (λ (s : StoredSession). s.id == id) t.sessions
-        → found ≡ option_map session_at (find (λ (s : StoredSession). s.id == id) t.sessions))) }
+        → PassesOnce (has_id id) t.sessions
+        → found ≡ option_map session_at (find (has_id id) t.sessions))) }
     ensures ranged { IfOk result (λ found. IfSome found IsSessionAt) }
     ensures kept { HasCleanDisk (state S.Store conn.new)
         → IsKept (state S.Store conn.old) (state S.Store conn.new) }
@@ -130,4 +132,42 @@ pub fn session<S: Alter>(conn: &mut Connection<S>, id: u64) -> Result<Option<Ses
         &[int(id)],
     )?;
     first_session(rows.as_slice())
+}
+
+// The number in the first answered row, if there is one.
+fn first_id(rows: &[Row]) -> Result<Option<u64>, Error>
+    ensures value { IfOk result (λ found. IsFirst (map number_in rows.now) found) }
+    ensures ranged { IfOk result (λ found. IfSome found (λ id. id < 2 ^ 63)) }
+{
+    match rows.first() {
+        None => Ok(None),
+        Some(row) => Ok(Some(number_at(row, 0)?)),
+    }
+}
+
+/// The id of the session that runs at a machine. Nothing is changed, and a crash leaves what it could
+/// leave before.
+pub fn running_session<S: Alter>(
+    conn: &mut Connection<S>,
+    machine: &Name,
+) -> Result<Option<u64>, Error>
+    requires { conn.old.in_transaction ≡ false }
+    ensures found { HasCleanDisk (state S.Store conn.new) → IfOk result
+        (λ found. IsTrue (state S.Store conn.old).is_open × ((t : Tables)
+        → IsImage t (state S.Store conn.old).now
+        → PassesOnce (is_running_on machine.now) t.sessions
+        → found ≡ option_map (λ (s : StoredSession). s.id)
+        (find (is_running_on machine.now) t.sessions))) }
+    ensures ranged { IfOk result (λ found. IfSome found (λ id. id < 2 ^ 63)) }
+    ensures kept { HasCleanDisk (state S.Store conn.new)
+        → IsKept (state S.Store conn.old) (state S.Store conn.new) }
+    ensures idle { conn.new.in_transaction ≡ false }
+    ensures survives { Survives (state S.Store conn.old) (state S.Store conn.new) (λ _. ⊥) }
+{
+    let rows = rows_of(
+        conn,
+        "SELECT id FROM session WHERE machine = ?1 AND state = 0",
+        &[ValueRef::Text(machine.bytes())],
+    )?;
+    first_id(rows.as_slice())
 }

@@ -3,3 +3,5 @@ pub mod Putting
 pub mod PuttingBatches
 pub mod PuttingCards
 pub mod Setting
+pub mod Removing
+pub mod ChangeMeanings

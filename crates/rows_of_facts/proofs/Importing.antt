@@ -41,6 +41,7 @@ use Rattle.rows_of_facts.specs.Before.{IsBefore}
 use Rattle.rows_of_facts.specs.Image.{batch_id, batches_by_id, groupings_in, image, place_in, placed_records, records_in, remakes_at, remakes_in, sessions_by_id, stored_batch, stored_batches, stored_blanks, stored_groupings, stored_lots, stored_record, stored_records, stored_remakes, stored_session, stored_sessions, stored_words}
 use Rattle.rows_of_facts.proofs.Found.{filter_none, find_none, found_alone, place_kept, some_there, to_last}
 use Rattle.rows_of_facts.proofs.Lists.{All-numbered, flat_map_same, pushed, unmoved}
+use Rattle.rows_of_facts.proofs.OneRecord.{turned}
 use Rattle.rows_of_facts.proofs.Staying.{batch_by, cursor_kept, record_kept, session_by, session_states_kept, totals_are, totals_by}
 
 -- ---- records that all wait
@@ -63,9 +64,6 @@ count_none q (n ∷ names) other =
 record_there : (products : List Product) (o : Option Batch) (r : List ℕ) → IsTrue (list_any (bytes_eq r) (records_under products o)) → IsSome o
 record_there products None r is = is
 record_there products (Some b) r is = refl
-
-turned : (m n : List ℕ) → bytes_eq m n ≡ false → bytes_eq n m ≡ false
-turned m n differ = false_from_ne_true (bytes_eq n m) (λ same. both_ways (bytes_eq m n) differ (ap (bytes_eq m) (same-bytes_eq n m same) ∙ bytes_eq-same m))
 
 module _ (f : Facts) (new : Batch) (sound : IsSound f) (after : IsSound (with_batch f new)) where
   abbrev g : Facts

@@ -5,6 +5,10 @@ pub mod Found
 pub mod Staying
 pub mod Totals
 pub mod OneRecord
+pub mod Touching
+pub mod OneSession
+pub mod Opening
+pub mod Remaking
 pub mod Products
 pub mod Lots
 pub mod Closing

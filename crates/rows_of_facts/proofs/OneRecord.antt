@@ -31,7 +31,7 @@ use Rattle.rows_of_facts.proofs.Totals.{passes_to}
 
 -- ---- where a record stands
 
-turned : (m n : List ℕ) → bytes_eq m n ≡ false → bytes_eq n m ≡ false
+pub turned : (m n : List ℕ) → bytes_eq m n ≡ false → bytes_eq n m ≡ false
 turned m n differ = false_from_ne_true (bytes_eq n m) (λ same. both_ways (bytes_eq m n) differ (ap (bytes_eq m) (same-bytes_eq n m same) ∙ bytes_eq-same m))
 
 name_once : (r : List ℕ) (names : List (List ℕ)) → Distinct names → Once (bytes_eq r) names
@@ -39,7 +39,7 @@ name_once r [] distinct = tt
 name_once r (n ∷ names) distinct =
     (λ hit. ap (λ k. list_any (bytes_eq k) names) (same-bytes_eq r n hit) ∙ distinct.0, name_once r names distinct.1)
 
-records_once : (products : List Product) (batch : Batch) (r : List ℕ) → Once (bytes_eq r) (records_of products batch)
+pub records_once : (products : List Product) (batch : Batch) (r : List ℕ) → Once (bytes_eq r) (records_of products batch)
 unfolding records_of
 records_once products batch r =
     let names : List (List ℕ) = map (λ (row : Row). row.rec) (rows_of products batch) in
