@@ -18,4 +18,5 @@ pub mod Releasing
 pub mod Importing
 pub mod Words
 pub mod Ending
+pub mod Changing
 mod Worked
