@@ -103,7 +103,7 @@ count_beside fits p q ks is = elim (cases_Bool q) [
 
 -- ---- batches by names, and lots by ranges
 
-bytes_eq_either : (m n : List ℕ) → bytes_eq m n ≡ bytes_eq n m
+pub bytes_eq_either : (m n : List ℕ) → bytes_eq m n ≡ bytes_eq n m
 bytes_eq_either m n = elim (cases_Bool (bytes_eq n m)) [
   | inl same ↦ ap (λ k. bytes_eq m k) (same-bytes_eq n m same) ∙ bytes_eq-same m ∙ sym same
   | inr differ ↦
