@@ -1,5 +1,5 @@
 -- The rows after an opening.
-use Rattle.std.proofs.Common.{◌≡◌, ℕ, ◌+◌, Bool, true, false, cond, List, [], ◌∷◌, ◌++◌, length, map, Some, refl, sym, ap, subst, ◌∙◌, arith, append-nil, append_assoc, IsPermutation}
+use Rattle.std.proofs.Common.{◌≡◌, ℕ, ◌+◌, Bool, true, false, List, [], ◌∷◌, ◌++◌, length, map, refl, sym, ap, subst, ◌∙◌, arith, append-nil, append_assoc, IsPermutation}
 use Rattle.std.specs.Prelude.{bytes_eq, count_by, filter, option_and_then, unwrap_or}
 use Rattle.std.specs.List.{enumerate_from, flat_map}
 use Rattle.std.proofs.lemmas.Bool.{cond-false, cond-true}
@@ -13,16 +13,14 @@ use Rattle.store_data.proofs.CommandLemmas.{enumerate_from-append}
 use Rattle.store_data.proofs.CursorLemmas.{first_there_of}
 use Rattle.store_data.proofs.GroupLemmas.{bytes_eq-same}
 use Rattle.job_core.specs.declared.change.Change.TheVariants as change
-use Rattle.job_core.specs.declared.facts.Lot.{Lot}
 use Rattle.job_core.specs.declared.facts.RecordState.TheVariants as rec
 use Rattle.job_core.specs.declared.facts.SessionState.{SessionState}
 use Rattle.job_core.specs.declared.facts.SessionState.TheVariants as session
-use Rattle.job_core.specs.declared.rows.BatchTotals.{BatchTotals}
 use Rattle.job_core.specs.Accounts.{batch_totals, record_states, session_states}
 use Rattle.job_core.specs.Contents.{Contents}
 use Rattle.job_core.specs.Facts.{Facts, Session, new_session, with_session}
 use Rattle.job_core.specs.Sound.{IsRecord, IsSound, IsSoundChange, changed}
-use Rattle.job_core.specs.States.{going, is_record, is_spoiled, plan_for, record_state, remakes_of, session_cursor, session_state, states_of}
+use Rattle.job_core.specs.States.{going, is_record, is_spoiled, plan_for, record_state, session_cursor, session_state, states_of}
 use Rattle.job_core.proofs.Lists.{count_by-at}
 use Rattle.job_core.proofs.PlanLemmas.{plan_there}
 use Rattle.job_core.proofs.SoundFacts.{is_for, states_are}
@@ -33,12 +31,12 @@ use Rattle.step_laws.proofs.RecordStands.{named, states_around}
 use Rattle.step_laws.proofs.ReplyFacts.{new_runs}
 use Rattle.table_rows.specs.After.{less, more, one_opened, rows_after}
 use Rattle.table_rows.specs.After as after
-use Rattle.table_rows.specs.Tables.{HaveSameRows, StoredBlank, StoredSession, StoredWord}
+use Rattle.table_rows.specs.Tables.{HaveSameRows, StoredBlank}
 use Rattle.table_rows.specs.declared.before.Before.{Before}
 use Rattle.table_rows.specs.declared.before.Before.TheVariants as before
 use Rattle.table_rows.specs.declared.before.RecordPlace.{RecordPlace}
 use Rattle.rows_of_facts.specs.Before.{IsBefore}
-use Rattle.rows_of_facts.specs.Image.{image, lot_name, name_of, stored_blank, stored_blanks, stored_session, stored_sessions, stored_words, words_in}
+use Rattle.rows_of_facts.specs.Image.{image, name_of, stored_blank, stored_blanks, stored_session, stored_sessions, stored_words, words_in}
 use Rattle.rows_of_facts.proofs.Lists.{pushed, unmoved}
 use Rattle.rows_of_facts.proofs.OneRecord.{batches_set, records_set, totals_pass}
 use Rattle.rows_of_facts.proofs.Staying.{totals_are, totals_by}

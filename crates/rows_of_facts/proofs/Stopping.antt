@@ -1,6 +1,6 @@
 -- How a record and its batch stand once its session runs no more, and what is told of them before.
-use Rattle.std.proofs.Common.{◌≡◌, ℕ, ◌+◌, false, List, Some, refl, sym, ap, subst, ◌∙◌, arith}
-use Rattle.std.specs.Prelude.{count_by, option_map}
+use Rattle.std.proofs.Common.{◌≡◌, ℕ, ◌+◌, false, List, Some, sym, ap, subst, ◌∙◌, arith}
+use Rattle.std.specs.Prelude.{count_by}
 use Rattle.std.proofs.lemmas.Option.{same_Some}
 use Rattle.job_core.specs.declared.change.Change.{Change}
 use Rattle.job_core.specs.declared.facts.RecordState.TheVariants as rec

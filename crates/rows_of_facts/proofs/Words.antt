@@ -21,7 +21,7 @@ use Rattle.step_laws.specs.Records.{StandsSame}
 use Rattle.step_laws.proofs.ChangeStands.{record_of_there, touched_stands, touched_stood}
 use Rattle.step_laws.proofs.Kept.{no_more, state_same}
 use Rattle.step_laws.proofs.RecordStands.{named}
-use Rattle.table_rows.specs.After.{less, more, one_spoiled, rows_after}
+use Rattle.table_rows.specs.After.{rows_after}
 use Rattle.table_rows.specs.Tables.{HaveSameRows, session_set, with_reply, with_session_set}
 use Rattle.table_rows.specs.Tables as tables
 use Rattle.table_rows.specs.declared.before.Before.{Before}
