@@ -6,9 +6,11 @@ use Rattle.table_rows.specs.Tables.{StoredBatch, StoredBlank, StoredGrouping, St
 
 -- ---- batches
 
+-- it has this name
 abbrev pub is_batch_named : List ℕ → StoredBatch → Bool
 is_batch_named n b = bytes_eq b.name n
 
+-- it has this id
 abbrev pub is_batch : ℕ → StoredBatch → Bool
 is_batch id b = b.id == id
 
@@ -26,9 +28,11 @@ is_batch_for product b = bytes_eq b.product product
 abbrev pub is_record_of : ℕ → StoredRecord → Bool
 is_record_of id r = r.batch == id
 
+-- it has this name there
 abbrev pub is_record_named : ℕ → List ℕ → StoredRecord → Bool
 is_record_named id n r = (r.batch == id) && bytes_eq r.name n
 
+-- it has this place there
 abbrev pub is_record_at : ℕ → ℕ → StoredRecord → Bool
 is_record_at id place r = (r.batch == id) && (r.place == place)
 
@@ -48,6 +52,7 @@ is_grouping_at id place g = (g.batch == id) && (g.place == place)
 
 -- ---- sessions
 
+-- it has this number
 abbrev pub is_session : ℕ → StoredSession → Bool
 is_session id s = s.id == id
 
@@ -61,9 +66,11 @@ is_good_of id s = (s.batch == id) && is_good s.state
 
 -- ---- blanks and lots
 
+-- it has this serial
 abbrev pub is_blank : ℕ → StoredBlank → Bool
 is_blank serial b = b.serial == serial
 
+-- it has this name
 abbrev pub is_lot_named : List ℕ → StoredLot → Bool
 is_lot_named n l = bytes_eq l.lot.name n
 
@@ -81,5 +88,6 @@ is_lot_for product l = bytes_eq l.lot.product product
 
 -- ---- replies
 
+-- it is kept under this number of this client
 abbrev pub is_reply_to : List ℕ → ℕ → Entry → Bool
 is_reply_to client number e = bytes_eq e.client client && (e.number == number)

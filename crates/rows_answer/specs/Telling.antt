@@ -31,6 +31,7 @@ totals_of b = record {
   spoiled = b.spoiled;
 }
 
+-- nothing in it
 abbrev pub no_totals : BatchTotals
 no_totals = record {
   records = 0;
@@ -52,6 +53,7 @@ totals_in (Some b) = totals_of b
 abbrev pub is_over : StoredBatch → Bool
 is_over b = (b.waiting == 0) && ((b.running == 0) && (b.failed == 0))
 
+-- a name that no batch has has none that does
 abbrev pub is_over_in : Option StoredBatch → Bool
 is_over_in None = true
 is_over_in (Some b) = is_over b
@@ -85,17 +87,20 @@ session_in sessions batches records s =
 
 -- ---- a batch
 
+-- the name of its first record that waits
 abbrev pub waiting_in : List StoredBatch → List StoredRecord → List ℕ → Option (List ℕ)
 waiting_in batches records b =
     option_and_then (λ (row : StoredBatch). option_map (λ (r : StoredRecord). r.name) (find (is_waiting_of row.id) records)) (find (is_batch_named b) batches)
 
+-- its product, and whether it is closed
 abbrev pub batch_of_row : StoredBatch → BatchRow
 batch_of_row b = record { product = b.product; is_closed = b.closed }
 
--- a row of its file is a grouping
+-- a grouping is a row of its file
 abbrev pub size_of : List StoredGrouping → StoredBatch → BatchSize
 size_of groupings b = record { rows = length (filter (is_grouping_of b.id) groupings); records = (totals_of b).records }
 
+-- it is there, with these bytes
 abbrev pub has_raw_in : List ℕ → Option StoredBatch → Bool
 has_raw_in raw None = false
 has_raw_in raw (Some b) = bytes_eq b.raw raw
@@ -106,11 +111,12 @@ has_raw_in raw (Some b) = bytes_eq b.raw raw
 abbrev pub row_of : List ℕ → StoredGrouping → Row
 row_of r g = record { rec = r; aid = g.aid; rank = g.rank; enc = g.enc; tol = g.tol; coded = g.coded }
 
+-- the groupings of a record, if it is there
 abbrev pub groupings_for : List StoredGrouping → Option StoredRecord → List StoredGrouping
 groupings_for groupings None = []
 groupings_for groupings (Some x) = filter (is_grouping_at x.batch x.place) groupings
 
--- read under the product of its batch
+-- the plan of a record: its rows, under the product of its batch
 abbrev pub plan_in : List Product → List StoredBatch → List StoredRecord → List StoredGrouping → List ℕ → List ℕ → Option Plan
 plan_in products batches records groupings b r =
     option_and_then (λ (row : StoredBatch).
@@ -134,10 +140,12 @@ line_of good x = record {
   blank = option_map (λ (s : StoredSession). s.serial) (find (λ (s : StoredSession). s.place == x.place) good);
 }
 
+-- the lines of a batch's records, if it is there
 abbrev pub lines_at : List StoredRecord → List StoredSession → Option StoredBatch → List RecordLine
 lines_at records sessions None = []
 lines_at records sessions (Some b) = map (line_of (filter (is_good_of b.id) sessions)) (filter (is_record_of b.id) records)
 
+-- those of the batch of this name
 abbrev pub lines_in : List StoredBatch → List StoredRecord → List StoredSession → List ℕ → List RecordLine
 lines_in batches records sessions b = lines_at records sessions (find (is_batch_named b) batches)
 

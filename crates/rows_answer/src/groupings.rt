@@ -15,8 +15,8 @@ ghost use Rattle.table_rows.specs.Tables.{StoredGrouping};
 
 /// The rows for a record, by rising lines, tell its rows of its batch's file.
 pub fn groupings_by_place()
-    ensures rows { (f : Facts) (b r : List ℕ) (batch : Batch) → batch_named f.batches b ≡ Some batch
-        → IsRecord f b r
+    ensures rows { (f : Facts) (b r : List ℕ) (batch : Batch)
+        → batch_named f.batches b ≡ Some batch → IsRecord f b r
         → filter (is_grouping_at (batch_id f.batches b) (place_in (records_named f b) r))
         (stored_groupings f)
         ≡ map (stored_grouping f (batch_id f.batches b, batch))
@@ -25,13 +25,14 @@ pub fn groupings_by_place()
     ensures rising { (f : Facts) (id place : ℕ)
         → AllPairs (λ (x y : StoredGrouping). x.line < y.line)
         (filter (is_grouping_at id place) (stored_groupings f)) }
-    ensures read { (f : Facts) (b r : List ℕ) (batch : Batch) → batch_named f.batches b ≡ Some batch
-        → IsRecord f b r
+    ensures read { (f : Facts) (b r : List ℕ) (batch : Batch)
+        → batch_named f.batches b ≡ Some batch → IsRecord f b r
         → map (row_of r)
         (filter (is_grouping_at (batch_id f.batches b) (place_in (records_named f b) r))
         (stored_groupings f))
         ≡ rows_of_record (rows_of f.products batch) r }
-    ensures number { (f : Facts) (b : List ℕ) (batch : Batch) → batch_named f.batches b ≡ Some batch
+    ensures number { (f : Facts) (b : List ℕ) (batch : Batch)
+        → batch_named f.batches b ≡ Some batch
         → length (filter (is_grouping_of (batch_id f.batches b)) (stored_groupings f))
         ≡ length (rows_of f.products batch) }
 {}

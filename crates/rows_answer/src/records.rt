@@ -20,7 +20,8 @@ ghost use Rattle.table_rows.specs.Tables.{PassesOnce, StoredBatch, StoredRecord}
 pub fn records_by_name()
     ensures once { (f : Facts) (id : ℕ) (n : List ℕ)
         → PassesOnce (is_record_named id n) (stored_records f) }
-    ensures found { (f : Facts) (b n : List ℕ) (batch : Batch) → batch_named f.batches b ≡ Some batch
+    ensures found { (f : Facts) (b n : List ℕ) (batch : Batch)
+        → batch_named f.batches b ≡ Some batch
         → find (is_record_named (batch_id f.batches b) n) (stored_records f)
         ≡ (if list_any (bytes_eq n) (records_named f b) then
         Some (stored_record f (batch_id f.batches b, batch) (place_in (records_named f b) n, n))
@@ -42,11 +43,12 @@ pub fn records_by_name()
 pub fn records_by_place()
     ensures once { (f : Facts) (id place : ℕ)
         → PassesOnce (is_record_at id place) (stored_records f) }
-    ensures found { (f : Facts) (b n : List ℕ) (batch : Batch) → batch_named f.batches b ≡ Some batch
-        → IsRecord f b n
+    ensures found { (f : Facts) (b n : List ℕ) (batch : Batch)
+        → batch_named f.batches b ≡ Some batch → IsRecord f b n
         → find (is_record_at (batch_id f.batches b) (place_in (records_named f b) n))
         (stored_records f)
-        ≡ Some (stored_record f (batch_id f.batches b, batch) (place_in (records_named f b) n, n)) }
+        ≡ Some (stored_record f (batch_id f.batches b, batch)
+        (place_in (records_named f b) n, n)) }
 {}
 
 /// The rows of a batch's records stand in file order, by rising places, and the first that waits
