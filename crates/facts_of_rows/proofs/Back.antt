@@ -1,22 +1,20 @@
 -- What the rows of an image give back of its batches and sessions.
-use Rattle.std.proofs.Common.{◌≡◌, ℕ, zero, suc, ◌+◌, ◌==◌, ◌&&◌, ◌||◌, Bool, true, false, cond, List, [], ◌∷◌, length, map, find, slice_get, bytes_eq, Option, Some, None, option_map, option_and_then, unwrap_or, inl, inr, refl, sym, ap, subst, ◌∙◌, arith, IsPermutation}
+use Rattle.std.proofs.Common.{◌≡◌, ℕ, suc, ◌+◌, ◌||◌, true, List, [], ◌∷◌, length, find, slice_get, bytes_eq, Option, Some, None, option_map, option_and_then, unwrap_or, inl, inr, refl, sym, ap, subst, ◌∙◌, arith}
 use Rattle.std.specs.List.{cons_option, list_any, position_or_len}
-use Rattle.std.proofs.lemmas.Bool.{cases_Bool, cond-true, cond-false, false≢true, or_cases}
+use Rattle.std.proofs.lemmas.Bool.{cases_Bool, cond-true, cond-false, false≢true}
 use Rattle.std.proofs.lemmas.List.{length-map}
 use Rattle.std.proofs.lemmas.List.Folds.{find_at}
 use Rattle.std.proofs.lemmas.List.FromFn.{length-enumerate_from}
 use Rattle.std.proofs.lemmas.List.Sorted.{length_permutation}
-use Rattle.std.proofs.lemmas.List.Sums.{passes_at_first}
-use Rattle.std.proofs.lemmas.Option.{get_or_from_slice_get, slice_get_within}
 use Rattle.store_data.proofs.GroupLemmas.{same-bytes_eq}
 use Rattle.job_core.specs.Contents.{AreSound, Contents}
 use Rattle.job_core.specs.Facts.{Batch, Facts, Session}
-use Rattle.job_core.specs.Sound.{IsSound}
-use Rattle.job_core.specs.States.{batch_named, records_named, records_of, records_under}
+use Rattle.job_core.specs.States.{records_named, records_of, records_under}
 use Rattle.step_laws.proofs.Numbered.{session_sound}
-use Rattle.table_rows.specs.Tables.{HaveSameRows, StoredBatch, StoredRecord, StoredSession, StoredWord, Tables}
+use Rattle.table_rows.specs.Tables.{HaveSameRows, StoredBatch, StoredRecord, StoredWord, Tables}
 use Rattle.rows_of_facts.specs.Image.{batch_id, batches_by_id, image, place_in, sessions_by_id, stored_batch, stored_batches, stored_record, stored_records, stored_session, stored_sessions, stored_words}
 use Rattle.rows_of_facts.proofs.Lookups.{batch_rows, found_in_any_order, is_batch_row, is_record_row, is_session_row, is_word_row, record_row, record_rows, session_rows, word_row, word_rows}
+use Rattle.facts_of_rows.proofs.Named.{batch_there, has_name}
 use Rattle.facts_of_rows.specs.Decided.{batch_name, batch_of_row, batch_with, found_from, record_name, session_of_row, session_with, word_with}
 
 -- ---- lists by their places
@@ -40,17 +38,6 @@ find_name r (n ∷ names) there = elim (cases_Bool (bytes_eq r n)) [
 
 named_there : (r : List ℕ) (names : List (List ℕ)) → list_any (bytes_eq r) names ≡ true → slice_get names (place_in names r) ≡ Some r
 named_there r names there = sym (find_at (bytes_eq r) names) ∙ find_name r names there
-
--- the batch of a name stands in its place, and has the name
-batch_there : (bs : List Batch) (n : List ℕ) (b : Batch) → batch_named bs n ≡ Some b → slice_get bs (position_or_len (λ (x : Batch). bytes_eq x.name n) bs) ≡ Some b
-batch_there bs n b is = sym (find_at (λ (x : Batch). bytes_eq x.name n) bs) ∙ is
-
-has_name : (bs : List Batch) (n : List ℕ) (b : Batch) → batch_named bs n ≡ Some b → b.name ≡ n
-has_name bs n b is =
-    let p : Batch → Bool = λ x. bytes_eq x.name n in
-    let k = position_or_len p bs in
-    let there = batch_there bs n b is in
-    same-bytes_eq b.name n (ap p (sym (get_or_from_slice_get bs k b b there)) ∙ passes_at_first p bs b (slice_get_within bs k b there))
 
 module _ (c : Contents) (t : Tables) (sound : AreSound c) (same : HaveSameRows t (image c)) where
   abbrev f : Facts

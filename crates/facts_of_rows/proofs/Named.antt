@@ -1,9 +1,10 @@
 -- The names of the batches and records of sound facts: each stands once.
-use Rattle.std.proofs.Common.{◌≡◌, ℕ, zero, suc, ◌+◌, ◌<◌, ◌≤◌, ◌&&◌, ◌||◌, Bool, true, false, cond, List, [], ◌∷◌, ◌++◌, length, get_or, map, AllPairs, count_by, sum_by, find, bytes_eq, Option, Some, None, IsTrue, inl, inr, refl, sym, ap, ◌∙◌, arith}
-use Rattle.std.specs.List.{enumerate_from, flat_map, list_any}
+use Rattle.std.proofs.Common.{◌≡◌, ℕ, ◌+◌, ◌≤◌, ◌&&◌, ◌||◌, Bool, true, false, cond, List, [], ◌∷◌, get_or, map, count_by, sum_by, find, slice_get, bytes_eq, Option, Some, None, inl, inr, refl, sym, ap, ◌∙◌, arith}
+use Rattle.std.specs.List.{enumerate_from, flat_map, list_any, position_or_len}
 use Rattle.std.proofs.lemmas.Bool.{and_from, and_parts, both_ways, cases_Bool, cond-true, cond-false, false_from_ne_true, false≢true, or_left, or_right}
-use Rattle.std.proofs.lemmas.List.Sums.{sum_by-cons}
-use Rattle.std.proofs.lemmas.Option.{none-some, same_Some}
+use Rattle.std.proofs.lemmas.List.Folds.{find_at}
+use Rattle.std.proofs.lemmas.List.Sums.{passes_at_first, sum_by-cons}
+use Rattle.std.proofs.lemmas.Option.{get_or_from_slice_get, none-some, same_Some, slice_get_within}
 use Rattle.store_data.proofs.GroupLemmas.{Distinct, Distinct-first_appearances, bytes_eq-same, same-bytes_eq}
 use Rattle.store_data.proofs.PieceLemmas.{sum_by-agree, sum_by-flat_map, sum_by-map}
 use Rattle.store_data.specs.declared.row.Product.{Product}
@@ -13,13 +14,11 @@ use Rattle.job_core.specs.Sound.{AreNamedOnce, IsRecord, IsSound}
 use Rattle.job_core.specs.States.{batch_named, is_record, records_of, records_under, rows_of}
 use Rattle.step_laws.proofs.Permuted.{PassAlone, at_most_one}
 use Rattle.rows_of_facts.specs.Image.{batches_by_id, placed_records}
+use Rattle.rows_of_facts.proofs.OneRecord.{turned}
 use Rattle.facts_of_rows.proofs.Counted.{once_or_none}
 
 abbrev one : Bool → ℕ
 one b = cond {A = ℕ} b 1 0
-
-turned : (m n : List ℕ) → bytes_eq m n ≡ false → bytes_eq n m ≡ false
-turned m n differ = false_from_ne_true (bytes_eq n m) (λ hit. both_ways (bytes_eq m n) differ (ap (bytes_eq m) (same-bytes_eq n m hit) ∙ bytes_eq-same m))
 
 -- ---- sums
 
@@ -59,6 +58,17 @@ module _ {X : Type 0} (p : X → Bool) (h : X → ℕ) (others : (x : X) → p x
       ]
 
 -- ---- the names of batches
+
+-- the batch of a name stands in its place, and has the name
+pub batch_there : (bs : List Batch) (n : List ℕ) (b : Batch) → batch_named bs n ≡ Some b → slice_get bs (position_or_len (λ (x : Batch). bytes_eq x.name n) bs) ≡ Some b
+batch_there bs n b is = sym (find_at (λ (x : Batch). bytes_eq x.name n) bs) ∙ is
+
+pub has_name : (bs : List Batch) (n : List ℕ) (b : Batch) → batch_named bs n ≡ Some b → b.name ≡ n
+has_name bs n b is =
+    let p : Batch → Bool = λ x. bytes_eq x.name n in
+    let k = position_or_len p bs in
+    let there = batch_there bs n b is in
+    same-bytes_eq b.name n (ap p (sym (get_or_from_slice_get bs k b b there)) ∙ passes_at_first p bs b (slice_get_within bs k b there))
 
 name_there : (bs : List Batch) (n : List ℕ) (b : Batch) → batch_named bs n ≡ Some b → list_any (bytes_eq n) (map (λ (x : Batch). x.name) bs) ≡ true
 name_there [] n b is = absurd (none-some b is)
@@ -163,7 +173,7 @@ module _ (f : Facts) (sound : IsSound f) (z : RecordName) where
   record_once is =
       let there = batch_of_record f.products (batch_named f.batches z.batch) z.rec is in
       let b = there.0 in
-      let hit : bytes_eq b.name z.batch ≡ true = found_passes f.batches b there.1 in
+      let hit : bytes_eq b.name z.batch ≡ true = ap (λ m. bytes_eq m z.batch) (has_name f.batches z.batch b there.1) ∙ bytes_eq-same z.batch in
       sum_by-flat_map (λ (x : Placed). one (same_record z (name_of_placed x))) (λ (e : ℕ × Batch). map (λ (r : ℕ × List ℕ). let x : Placed = (e, r) in x) (placed_records f e)) (batches_by_id f)
       ∙ sum_by-agree _ (λ (e : ℕ × Batch). in_batch e.1) (λ e.
       sum_by-map (λ (x : Placed). one (same_record z (name_of_placed x))) (λ (r : ℕ × List ℕ). let x : Placed = (e, r) in x) (placed_records f e)
@@ -173,10 +183,3 @@ module _ (f : Facts) (sound : IsSound f) (z : RecordName) where
       ∙ ap (λ t. count_by (λ r. t && bytes_eq r z.rec) (records_of f.products b)) hit
       ∙ distinct_counted (records_of f.products b) (records_distinct f.products b) z.rec
       ∙ ap one there.2
-    where
-      found_passes : (bs : List Batch) (b : Batch) → batch_named bs z.batch ≡ Some b → bytes_eq b.name z.batch ≡ true
-      found_passes [] b is = absurd (none-some b is)
-      found_passes (x ∷ bs) b is = elim (cases_Bool (bytes_eq x.name z.batch)) [
-        | inl hit ↦ ap (λ (y : Batch). bytes_eq y.name z.batch) (sym (same_Some x b (sym (cond-true (bytes_eq x.name z.batch) (Some x) (batch_named bs z.batch) hit) ∙ is))) ∙ hit
-        | inr miss ↦ found_passes bs b (sym (cond-false (bytes_eq x.name z.batch) (Some x) (batch_named bs z.batch) miss) ∙ is)
-      ]

@@ -1,17 +1,15 @@
 -- What the rows of an image give back of sets: of lots, discarded blanks, closed batches, and withdrawn and remade records.
-use Rattle.std.proofs.Common.{◌≡◌, ℕ, zero, suc, ◌+◌, ◌||◌, Bool, true, false, cond, List, [], ◌∷◌, ◌++◌, length, map, replicate, filter, slice_get, All, bytes_eq, Option, Some, None, IsSome, inl, inr, refl, sym, ap, subst, ◌∙◌, arith, IsPermutation}
+use Rattle.std.proofs.Common.{◌≡◌, ℕ, suc, ◌+◌, Bool, true, false, cond, List, [], ◌∷◌, ◌++◌, length, map, replicate, filter, slice_get, All, bytes_eq, Some, IsSome, inl, inr, refl, sym, ap, subst, ◌∙◌, arith, IsPermutation}
 use Rattle.std.specs.List.{enumerate_from, flat_map, list_any, range_with_len}
-use Rattle.std.proofs.lemmas.Bool.{cases_Bool, false≢true, or_parts}
-use Rattle.std.proofs.lemmas.List.{map-append}
+use Rattle.std.proofs.lemmas.Bool.{cases_Bool, or_parts}
 use Rattle.std.proofs.lemmas.List.Elements.{All-append, All-cons, All-head, All-map, All-nil, All-tail, All-weaker, filter-append}
 use Rattle.std.proofs.lemmas.List.Folds.{flat_map-map, list_any_none}
 use Rattle.std.proofs.lemmas.List.FromFn.{length-range_with_len}
 use Rattle.std.proofs.lemmas.List.Sorted.{IsPermutation-map, IsPermutation-trans}
 use Rattle.std.proofs.lemmas.Grind.{flat_map-append}
+use Rattle.std.proofs.lemmas.Simd.{map-map}
 use Rattle.store_data.proofs.GroupLemmas.{bytes_eq-same, same-bytes_eq}
 use Rattle.store_data.proofs.IsPlanLemmas.{All-from_list_any}
-use Rattle.job_core.specs.declared.facts.Lot.{Lot}
-use Rattle.job_core.specs.declared.facts.RecordState.{RecordState}
 use Rattle.job_core.specs.declared.facts.RecordState.TheVariants as rec
 use Rattle.job_core.specs.declared.facts.SessionState.{SessionState}
 use Rattle.job_core.specs.Contents.{AreSound, Contents}
@@ -21,8 +19,10 @@ use Rattle.job_core.specs.States.{batch_named, is_closed, is_good, is_running, i
 use Rattle.step_laws.proofs.Permuted.{IsPermutation-filter}
 use Rattle.table_rows.specs.Tables.{HaveSameRows, StoredBatch, StoredBlank, StoredLot, StoredRecord, StoredRemake, Tables}
 use Rattle.rows_of_facts.specs.Image.{batches_by_id, image, placed_records, records_in, remakes_at, remakes_in, stored_batch, stored_batches, stored_blank, stored_blanks, stored_lot, stored_lots, stored_record, stored_records, stored_remakes}
+use Rattle.rows_of_facts.proofs.Found.{some_there}
 use Rattle.rows_of_facts.proofs.Lists.{flat_map_same}
 use Rattle.rows_of_facts.proofs.Lookups.{none_pass}
+use Rattle.rows_of_facts.proofs.Places.{map_joined}
 use Rattle.facts_of_rows.specs.Decided.{batch_name, closed_rows, discarded_rows, record_name, remade_of_row, withdrawn_of_row, withdrawn_rows}
 use Rattle.facts_of_rows.proofs.Back.{batch_name_at, record_name_at}
 use Rattle.facts_of_rows.proofs.Counted.{once_or_none, spread, spreads}
@@ -58,10 +58,6 @@ module _ {X Y K : Type 0} (g : X → Y) (q : Y → Bool) (h : Y → K) (name : X
         | inr miss ↦ ap (λ b. map h (cond b (g x ∷ kept) kept)) (here.0 ∙ miss) ∙ rest ∙ ap spread_by (sym miss)
       ]
 
-map_joined : {X Y Z : Type 0} (h : Y → Z) (g : X → List Y) (xs : List X) → map h (flat_map g xs) ≡ flat_map (λ x. map h (g x)) xs
-map_joined h g [] = refl
-map_joined h g (x ∷ xs) = map-append h (g x) (flat_map g xs) ∙ ap (λ zs. map h (g x) ++ zs) (map_joined h g xs)
-
 -- what is made alike of each
 same_each : {X Y Z : Type 0} (h : Y → Z) (g : X → Y) (z : Z) → ((x : X) → h (g x) ≡ z) → (xs : List X) → map h (map g xs) ≡ replicate (length xs) z
 same_each h g z same [] = refl
@@ -78,10 +74,6 @@ numbered_there {X} n (x ∷ xs) =
     All-cons (λ (e : ℕ × X). (k : ℕ) × (e.0 ≡ n + k) × (slice_get (x ∷ xs) k ≡ Some e.1)) (n, x) (enumerate_from (n + 1) xs) (0, omega arith, refl)
     (All-weaker (λ (e : ℕ × X). (k : ℕ) × (e.0 ≡ n + 1 + k) × (slice_get xs k ≡ Some e.1)) (λ e. (k : ℕ) × (e.0 ≡ n + k) × (slice_get (x ∷ xs) k ≡ Some e.1))
     (λ e at. (suc at.0, omega (arith, at.1), at.2)) (enumerate_from (n + 1) xs) (numbered_there (n + 1) xs))
-
-some_there : {X : Type 0} (o : Option X) → IsSome o → (x : X) × (o ≡ Some x)
-some_there None is = absurd (false≢true is)
-some_there (Some x) is = (x, refl)
 
 -- ---- how a withdrawn record stands
 
@@ -107,11 +99,7 @@ withdrawn_stands states false remakes is = without_withdrawal (list_any is_good 
 rows_by_place : (f : Facts) → stored_records f ≡ map (λ (x : Placed). stored_record f x.0 x.1) (all_records f)
 unfolding stored_records
 rows_by_place f =
-    flat_map_same (records_in f) _ (batches_by_id f) (λ k d within. sym (map_map _ _ _)) ∙ sym (map_joined (λ (x : Placed). stored_record f x.0 x.1) _ (batches_by_id f))
-  where
-    map_map : {A B C : Type 0} (g : B → C) (h : A → B) (xs : List A) → map g (map h xs) ≡ map (λ x. g (h x)) xs
-    map_map g h [] = refl
-    map_map g h (x ∷ xs) = ap (λ ys. g (h x) ∷ ys) (map_map g h xs)
+    flat_map_same (records_in f) _ (batches_by_id f) (λ k d within. sym (map-map _ _ _)) ∙ map_joined (λ (x : Placed). stored_record f x.0 x.1) _ (batches_by_id f)
 
 remakes_by_place : (f : Facts) → stored_remakes f ≡ flat_map (λ (x : Placed). remakes_at f x.0 x.1) (all_records f)
 unfolding stored_remakes
@@ -243,7 +231,7 @@ module _ (c : Contents) (t : Tables) (sound : AreSound c) (same : HaveSameRows t
   remakes_back : map (remade_of_row t) (stored_remakes f) ≡ spread name_of_placed times (all_records f)
   remakes_back =
       ap (map (remade_of_row t)) (remakes_by_place f)
-      ∙ map_joined (remade_of_row t) (λ (x : Placed). remakes_at f x.0 x.1) (all_records f)
+      ∙ sym (map_joined (remade_of_row t) (λ (x : Placed). remakes_at f x.0 x.1) (all_records f))
       ∙ flat_map_same _ _ (all_records f) (All-weaker (IsPlaced f) _ remade_so (all_records f) (all_placed f))
 
   remakes_spread : IsPermutation (spread name_of_placed times (all_records f)) f.remakes

@@ -1,5 +1,5 @@
 -- The contents that rows decide: each by look-ups of keys, in a fixed way.
-use Rattle.std.specs.Prelude.{◌+◌, ◌==◌, ◌&&◌, ℕ, Bool, List, [], map, filter, find, filter_map, length, Option, option_map, unwrap_or}
+use Rattle.std.specs.Prelude.{◌==◌, ◌&&◌, ℕ, List, [], map, filter, find, filter_map, length, Option, option_map, unwrap_or}
 use Rattle.std.specs.List.{range_with_len}
 use Rattle.job_core.specs.declared.facts.RecordState.TheVariants as rec
 use Rattle.job_core.specs.Contents.{Contents}

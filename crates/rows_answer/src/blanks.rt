@@ -1,6 +1,7 @@
 //! Blanks by serial, and lots by name and by range.
 ghost use Rattle.std.specs.Prelude.{◌≡◌, ℕ, List, Some, find, is_some, option_map};
 ghost use Rattle.std.specs.List.{list_any};
+ghost use Rattle.job_core.specs.declared.facts.Lot.{Lot as LotValue};
 ghost use Rattle.job_core.specs.Facts.{Facts};
 ghost use Rattle.job_core.specs.Sound.{IsSound};
 ghost use Rattle.job_core.specs.States.{any_overlaps, is_charged, lot_named, lot_of};
@@ -39,6 +40,8 @@ pub fn lots_by_range()
         → find (is_lot_around serial) (stored_lots f) ≡ option_map (stored_lot f) (lot_of f.lots serial) }
     ensures lot { (f : Facts) (serial : ℕ) → lot_of f.lots serial
         ≡ option_map (λ (l : StoredLot). l.lot) (find (is_lot_around serial) (stored_lots f)) }
+    ensures named { (f : Facts) (serial : ℕ) (l : LotValue) → IsSound f
+        → lot_of f.lots serial ≡ Some l → lot_named f.lots l.name ≡ Some l }
     ensures overlaps { (f : Facts) (first count : ℕ) → any_overlaps f.lots first count
         ≡ list_any (is_lot_across first count) (stored_lots f) }
     ensures shares { (f : Facts) (first count : ℕ) → any_overlaps f.lots first count

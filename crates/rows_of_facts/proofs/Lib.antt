@@ -7,6 +7,8 @@ pub mod Totals
 pub mod OneRecord
 pub mod Touching
 pub mod OneSession
+pub mod SessionRows
+pub mod Stopping
 pub mod Opening
 pub mod Remaking
 pub mod Products
@@ -15,4 +17,6 @@ pub mod Closing
 pub mod Releasing
 pub mod Importing
 pub mod Words
+pub mod Ending
+pub mod Changing
 mod Worked
