@@ -2,7 +2,8 @@
 use Rattle.std.proofs.Common.{[], ◌∷◌, codes, refl}
 use Rattle.sqlite.specs.Listing.{understood}
 use Rattle.sqlite_tied.specs.Compute.{everything}
-use Rattle.row_reads.specs.NameTexts.{batch_has_text, batch_head_text, batch_id_columns, batch_id_text, batch_name_columns, batch_name_text, by_batch_name, by_bytes, by_id, by_two_columns, head_columns, kept_columns, kept_text}
+use Rattle.row_reads.specs.Texts.{by_first_column}
+use Rattle.row_reads.specs.NameTexts.{lot_columns, lot_row_columns, lot_text, lots_of_text, lots_text, by_second_column, batch_has_text, batch_head_text, batch_id_columns, batch_id_text, batch_name_columns, batch_name_text, by_batch_name, by_bytes, by_id, by_two_columns, head_columns, kept_columns, kept_text}
 use Rattle.row_reads.proofs.Asking.{Asks}
 
 pub kept_asks : Asks kept_text 19 by_two_columns kept_columns
@@ -29,3 +30,15 @@ batch_head_asks = record {
 pub batch_has_asks : Asks batch_has_text 5 by_bytes batch_id_columns
 unfolding understood everything
 batch_has_asks = record { names = codes "id" ∷ []; is = refl; plain = (refl, refl); unlisted = refl }
+
+pub lot_asks : Asks lot_text 3 by_first_column lot_row_columns
+unfolding understood everything
+lot_asks = record { names = codes "name" ∷ codes "product" ∷ codes "low_serial" ∷ codes "amount" ∷ codes "discarded" ∷ []; is = refl; plain = (refl, refl); unlisted = refl }
+
+pub lots_asks : Asks lots_text 3 [] lot_columns
+unfolding understood everything
+lots_asks = record { names = codes "name" ∷ codes "product" ∷ codes "low_serial" ∷ codes "amount" ∷ []; is = refl; plain = (refl, refl); unlisted = refl }
+
+pub lots_of_asks : Asks lots_of_text 3 by_second_column lot_row_columns
+unfolding understood everything
+lots_of_asks = record { names = codes "name" ∷ codes "product" ∷ codes "low_serial" ∷ codes "amount" ∷ codes "discarded" ∷ []; is = refl; plain = (refl, refl); unlisted = refl }

@@ -49,3 +49,24 @@ batch_has_text = codes "SELECT id FROM batch WHERE name = ?1 AND raw = ?2"
 -- the name and the bytes are the two parameters
 abbrev pub by_bytes : List Term
 by_bytes = is_equal (col 1 2) (col 0 0) ∷ is_equal (col 1 4) (col 0 1) ∷ []
+
+-- ---- lots
+
+abbrev pub lot_columns : List Term
+lot_columns = col 1 1 ∷ col 1 2 ∷ col 1 3 ∷ col 1 4 ∷ []
+
+abbrev pub lot_row_columns : List Term
+lot_row_columns = col 1 1 ∷ col 1 2 ∷ col 1 3 ∷ col 1 4 ∷ col 1 5 ∷ []
+
+abbrev pub lot_text : List ℕ
+lot_text = codes "SELECT name, product, low_serial, amount, discarded FROM lot WHERE name = ?1"
+
+abbrev pub lots_text : List ℕ
+lots_text = codes "SELECT name, product, low_serial, amount FROM lot"
+
+abbrev pub lots_of_text : List ℕ
+lots_of_text = codes "SELECT name, product, low_serial, amount, discarded FROM lot WHERE product = ?1"
+
+-- the second column is the first parameter
+abbrev pub by_second_column : List Term
+by_second_column = is_equal (col 1 2) (col 0 0) ∷ []

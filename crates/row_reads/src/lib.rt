@@ -2,6 +2,7 @@
 #![tactic(auto)]
 
 mod batches;
+mod lots;
 mod marks;
 mod products;
 mod records;
@@ -10,6 +11,7 @@ mod sessions;
 mod values;
 
 pub use batches::{BatchHead, batch_has, batch_head, batch_id, batch_name};
+pub use lots::{LotRow, all_lots, lot, lot_of, lots_of, overlaps};
 pub use marks::mark;
 pub use products::product;
 pub use records::{RecordAt, record_at, record_named};
