@@ -127,10 +127,10 @@ module _ {Y : Type 0} (decode : Row → Y) (rank : Y → ℕ) (rank_is : (r : Ro
   rises all numbers sorted =
       let none : Row = [] in
       IsNonDecreasingBy-from_sort rank (map decode all) (λ k d least low.
-      let within : k + 1 < length all = omega (arith, length-map all decode) in
-      let r = get_or all (k + 1) none in
-      let s = get_or all k none in
-      ap (λ y. is_lt (nat_cmp (rank y) (rank (get_or (map decode all) k d)))) (get_or-map decode all (k + 1) none d within)
-      ∙ ap (λ y. is_lt (nat_cmp (rank (decode r)) (rank y))) (get_or-map decode all k none d (omega arith))
-      ∙ ap (λ n. is_lt (nat_cmp n (rank (decode s)))) (rank_is r) ∙ ap (λ n. is_lt (nat_cmp (nat_in (column r 0)) n)) (rank_is s)
-      ∙ sym (below_as_numbers r s (numbers (k + 1) none within) (numbers k none (omega arith))) ∙ sorted k none (omega arith) within)
+        let within : k + 1 < length all = omega (arith, length-map all decode) in
+        let r = get_or all (k + 1) none in
+        let s = get_or all k none in
+        ap (λ y. is_lt (nat_cmp (rank y) (rank (get_or (map decode all) k d)))) (get_or-map decode all (k + 1) none d within)
+        ∙ ap (λ y. is_lt (nat_cmp (rank (decode r)) (rank y))) (get_or-map decode all k none d (omega arith))
+        ∙ ap (λ n. is_lt (nat_cmp n (rank (decode s)))) (rank_is r) ∙ ap (λ n. is_lt (nat_cmp (nat_in (column r 0)) n)) (rank_is s)
+        ∙ sym (below_as_numbers r s (numbers (k + 1) none within) (numbers k none (omega arith))) ∙ sorted k none (omega arith) within)
