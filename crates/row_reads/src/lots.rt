@@ -128,7 +128,7 @@ pub fn lot<S: Alter>(conn: &mut Connection<S>, name: &Name) -> Result<Option<Lot
 }
 
 /// All lots, in any order. Nothing is changed, and a crash leaves what it could leave before.
-pub fn all_lots<S: Alter>(conn: &mut Connection<S>) -> Result<Vec<Lot>, Error>
+pub fn all_lots<S: Alter>(alloc: Global, conn: &mut Connection<S>) -> Result<Vec<Lot>, Error>
     requires { conn.old.in_transaction ≡ false }
     ensures found { HasCleanDisk (state S.Store conn.new) → IfOk result
         (λ lots. IsTrue (state S.Store conn.old).is_open × ((t : Tables)
@@ -144,12 +144,16 @@ pub fn all_lots<S: Alter>(conn: &mut Connection<S>) -> Result<Vec<Lot>, Error>
         "SELECT name, product, low_serial, amount FROM lot",
         &[],
     )?;
-    lots_in(*rows.allocator(), rows.as_slice())
+    lots_in(alloc, rows.as_slice())
 }
 
 /// The lots of a product, in any order. Nothing is changed, and a crash leaves what it could leave
 /// before.
-pub fn lots_of<S: Alter>(conn: &mut Connection<S>, product: &Name) -> Result<Vec<LotRow>, Error>
+pub fn lots_of<S: Alter>(
+    alloc: Global,
+    conn: &mut Connection<S>,
+    product: &Name,
+) -> Result<Vec<LotRow>, Error>
     requires { conn.old.in_transaction ≡ false }
     ensures found { HasCleanDisk (state S.Store conn.new) → IfOk result
         (λ lots. IsTrue (state S.Store conn.old).is_open × ((t : Tables)
@@ -165,12 +169,16 @@ pub fn lots_of<S: Alter>(conn: &mut Connection<S>, product: &Name) -> Result<Vec
         "SELECT name, product, low_serial, amount, discarded FROM lot WHERE product = ?1",
         &[ValueRef::Text(product.bytes())],
     )?;
-    lot_rows_in(*rows.allocator(), rows.as_slice())
+    lot_rows_in(alloc, rows.as_slice())
 }
 
 /// The lot in which a blank lies. Nothing is changed, and a crash leaves what it could leave
 /// before.
-pub fn lot_of<S: Alter>(conn: &mut Connection<S>, blank: u64) -> Result<Option<Lot>, Error>
+pub fn lot_of<S: Alter>(
+    alloc: Global,
+    conn: &mut Connection<S>,
+    blank: u64,
+) -> Result<Option<Lot>, Error>
     requires { conn.old.in_transaction ≡ false }
     ensures found { HasCleanDisk (state S.Store conn.new) → IfOk result
         (λ found. IsTrue (state S.Store conn.old).is_open × ((t : Tables)
@@ -182,13 +190,18 @@ pub fn lot_of<S: Alter>(conn: &mut Connection<S>, blank: u64) -> Result<Option<L
     ensures idle { conn.new.in_transaction ≡ false }
     ensures survives { Survives (state S.Store conn.old) (state S.Store conn.new) (λ _. ⊥) }
 {
-    let lots = all_lots(conn)?;
+    let lots = all_lots(alloc, conn)?;
     Ok(lot_among(lots.as_slice(), blank).copied())
 }
 
 /// Whether a serial of the range lies in a lot. Nothing is changed, and a crash leaves what it
 /// could leave before.
-pub fn overlaps<S: Alter>(conn: &mut Connection<S>, first: u64, count: u32) -> Result<bool, Error>
+pub fn overlaps<S: Alter>(
+    alloc: Global,
+    conn: &mut Connection<S>,
+    first: u64,
+    count: u32,
+) -> Result<bool, Error>
     requires { conn.old.in_transaction ≡ false }
     ensures found { HasCleanDisk (state S.Store conn.new) → IfOk result
         (λ found. IsTrue (state S.Store conn.old).is_open × ((t : Tables)
@@ -199,6 +212,6 @@ pub fn overlaps<S: Alter>(conn: &mut Connection<S>, first: u64, count: u32) -> R
     ensures idle { conn.new.in_transaction ≡ false }
     ensures survives { Survives (state S.Store conn.old) (state S.Store conn.new) (λ _. ⊥) }
 {
-    let lots = all_lots(conn)?;
+    let lots = all_lots(alloc, conn)?;
     Ok(any_overlaps(lots.as_slice(), first, count))
 }
