@@ -1,7 +1,7 @@
 -- Which rows are asked for.
 use Rattle.std.specs.Prelude.{◌==◌, ◌&&◌, ℕ, Bool, List, bytes_eq}
 use Rattle.job_core.specs.Contents.{Entry}
-use Rattle.table_rows.specs.Tables.{StoredBatch, StoredLot}
+use Rattle.table_rows.specs.Tables.{StoredBatch, StoredBlank, StoredLot}
 
 -- it is kept under this number of this client
 abbrev pub is_kept_as : List ℕ → ℕ → Entry → Bool
@@ -26,3 +26,11 @@ is_lot_named name l = bytes_eq l.lot.name name
 -- the lot is one of this product
 abbrev pub is_lot_of : List ℕ → StoredLot → Bool
 is_lot_of product l = bytes_eq l.lot.product product
+
+-- the batch is one of this product
+abbrev pub is_batch_of : List ℕ → StoredBatch → Bool
+is_batch_of product b = bytes_eq b.product product
+
+-- the blank has this serial
+abbrev pub has_serial : ℕ → StoredBlank → Bool
+has_serial serial b = b.serial == serial

@@ -2,6 +2,7 @@
 #![tactic(auto)]
 
 mod batches;
+mod blanks;
 mod lots;
 mod marks;
 mod products;
@@ -10,10 +11,11 @@ mod replies;
 mod sessions;
 mod values;
 
-pub use batches::{BatchHead, batch_has, batch_head, batch_id, batch_name};
-pub use lots::{LotRow, all_lots, lot, lot_of, lots_of, overlaps};
+pub use batches::{BatchHead, batch_has, batch_head, batch_id, batch_name, batches_of};
+pub use blanks::is_charged;
+pub use lots::{LotRow, all_lots, lot, lot_count, lot_of, lots_of, overlaps};
 pub use marks::mark;
-pub use products::product;
+pub use products::{product, product_count};
 pub use records::{RecordAt, record_at, record_named};
 pub use replies::kept;
 pub use sessions::{SessionAt, running_session, session};

@@ -1,6 +1,6 @@
 //! Lots are read.
-ghost use Rattle.std.specs.Prelude.{◌≡◌, ◌<◌, ◌^◌, ◌+◌, false, filter, find, map, nat_lt};
-ghost use Rattle.std.specs.Prelude.{option_copied, option_map, IfOk, IfSome, IsPermutation, IsTrue};
+ghost use Rattle.std.specs.Prelude.{◌≡◌, ◌<◌, ◌^◌, ◌+◌, false, filter, find, length, map};
+ghost use Rattle.std.specs.Prelude.{nat_lt, option_copied, option_map, IfOk, IfSome, IsPermutation, IsTrue};
 ghost use Rattle.sqlite.specs.Held.{state};
 ghost use Rattle.sqlite.specs.State.{HasCleanDisk, Survives};
 ghost use Rattle.job_core.specs.States.{any_overlaps, is_in, lot_of};
@@ -11,7 +11,7 @@ ghost use Rattle.sql_base.specs.Ends.{IsKept};
 ghost use Rattle.sql_rows.specs.Image.{IsImage};
 ghost use Rattle.table_rows.specs.Tables.{PassesOnce, StoredLot, Tables};
 
-use crate::values::{name_at, number_at};
+use crate::values::{count, name_at, number_at};
 use job_core::Lot;
 use sql_base::rows_of;
 use sqlite::types::ValueRef;
@@ -128,7 +128,7 @@ pub fn lot<S: Alter>(conn: &mut Connection<S>, name: &Name) -> Result<Option<Lot
 }
 
 /// All lots, in any order. Nothing is changed, and a crash leaves what it could leave before.
-pub fn all_lots<S: Alter>(alloc: Global, conn: &mut Connection<S>) -> Result<Vec<Lot>, Error>
+pub fn all_lots<S: Alter>(conn: &mut Connection<S>) -> Result<Vec<Lot>, Error>
     requires { conn.old.in_transaction ≡ false }
     ensures found { HasCleanDisk (state S.Store conn.new) → IfOk result
         (λ lots. IsTrue (state S.Store conn.old).is_open × ((t : Tables)
@@ -144,16 +144,13 @@ pub fn all_lots<S: Alter>(alloc: Global, conn: &mut Connection<S>) -> Result<Vec
         "SELECT name, product, low_serial, amount FROM lot",
         &[],
     )?;
+    let alloc = *rows.allocator();
     lots_in(alloc, rows.as_slice())
 }
 
 /// The lots of a product, in any order. Nothing is changed, and a crash leaves what it could leave
 /// before.
-pub fn lots_of<S: Alter>(
-    alloc: Global,
-    conn: &mut Connection<S>,
-    product: &Name,
-) -> Result<Vec<LotRow>, Error>
+pub fn lots_of<S: Alter>(conn: &mut Connection<S>, product: &Name) -> Result<Vec<LotRow>, Error>
     requires { conn.old.in_transaction ≡ false }
     ensures found { HasCleanDisk (state S.Store conn.new) → IfOk result
         (λ lots. IsTrue (state S.Store conn.old).is_open × ((t : Tables)
@@ -169,16 +166,13 @@ pub fn lots_of<S: Alter>(
         "SELECT name, product, low_serial, amount, discarded FROM lot WHERE product = ?1",
         &[ValueRef::Text(product.bytes())],
     )?;
+    let alloc = *rows.allocator();
     lot_rows_in(alloc, rows.as_slice())
 }
 
 /// The lot in which a blank lies. Nothing is changed, and a crash leaves what it could leave
 /// before.
-pub fn lot_of<S: Alter>(
-    alloc: Global,
-    conn: &mut Connection<S>,
-    blank: u64,
-) -> Result<Option<Lot>, Error>
+pub fn lot_of<S: Alter>(conn: &mut Connection<S>, blank: u64) -> Result<Option<Lot>, Error>
     requires { conn.old.in_transaction ≡ false }
     ensures found { HasCleanDisk (state S.Store conn.new) → IfOk result
         (λ found. IsTrue (state S.Store conn.old).is_open × ((t : Tables)
@@ -190,18 +184,13 @@ pub fn lot_of<S: Alter>(
     ensures idle { conn.new.in_transaction ≡ false }
     ensures survives { Survives (state S.Store conn.old) (state S.Store conn.new) (λ _. ⊥) }
 {
-    let lots = all_lots(alloc, conn)?;
+    let lots = all_lots(conn)?;
     Ok(lot_among(lots.as_slice(), blank).copied())
 }
 
 /// Whether a serial of the range lies in a lot. Nothing is changed, and a crash leaves what it
 /// could leave before.
-pub fn overlaps<S: Alter>(
-    alloc: Global,
-    conn: &mut Connection<S>,
-    first: u64,
-    count: u32,
-) -> Result<bool, Error>
+pub fn overlaps<S: Alter>(conn: &mut Connection<S>, first: u64, count: u32) -> Result<bool, Error>
     requires { conn.old.in_transaction ≡ false }
     ensures found { HasCleanDisk (state S.Store conn.new) → IfOk result
         (λ found. IsTrue (state S.Store conn.old).is_open × ((t : Tables)
@@ -212,6 +201,21 @@ pub fn overlaps<S: Alter>(
     ensures idle { conn.new.in_transaction ≡ false }
     ensures survives { Survives (state S.Store conn.old) (state S.Store conn.new) (λ _. ⊥) }
 {
-    let lots = all_lots(alloc, conn)?;
+    let lots = all_lots(conn)?;
     Ok(any_overlaps(lots.as_slice(), first, count))
+}
+
+/// How many lots there are. Nothing is changed, and a crash leaves what it could leave before.
+pub fn lot_count<S: Alter>(conn: &mut Connection<S>) -> Result<u64, Error>
+    requires { conn.old.in_transaction ≡ false }
+    ensures found { HasCleanDisk (state S.Store conn.new) → IfOk result
+        (λ count. IsTrue (state S.Store conn.old).is_open × ((t : Tables)
+        → IsImage t (state S.Store conn.old).now → count ≡ length t.lots)) }
+    ensures kept { HasCleanDisk (state S.Store conn.new)
+        → IsKept (state S.Store conn.old) (state S.Store conn.new) }
+    ensures idle { conn.new.in_transaction ≡ false }
+    ensures survives { Survives (state S.Store conn.old) (state S.Store conn.new) (λ _. ⊥) }
+{
+    let rows = rows_of(conn, "SELECT name FROM lot", &[])?;
+    Ok(count(rows.as_slice()))
 }
