@@ -8,3 +8,4 @@ pub mod NameAnswers
 pub mod BatchAnswers
 pub mod CardMeanings
 pub mod CardAnswers
+pub mod ManyAnswers

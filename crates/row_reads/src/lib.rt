@@ -2,6 +2,7 @@
 #![tactic(auto)]
 
 mod batches;
+mod groupings;
 mod marks;
 mod products;
 mod records;
@@ -10,8 +11,9 @@ mod sessions;
 mod values;
 
 pub use batches::{BatchHead, batch_has, batch_head, batch_id, batch_name};
+pub use groupings::{GroupingAt, grouping_count, groupings_of};
 pub use marks::mark;
 pub use products::product;
-pub use records::{RecordAt, record_at, record_named};
+pub use records::{RecordAt, first_waiting, record_at, record_named, records_of};
 pub use replies::kept;
-pub use sessions::{SessionAt, running_session, session};
+pub use sessions::{GoodCard, SessionAt, good_sessions, last_session, running_session, session};
