@@ -2,8 +2,6 @@
 use Rattle.std.proofs.Common.{◌≡◌, ℕ, ◌==◌, ◌&&◌, true, false, List, [], ◌∷◌, length, map, Option, refl, ap, subst, ◌∙◌}
 use Rattle.std.specs.Prelude.{filter}
 use Rattle.std.specs.List.Sorted.{IsPermutation}
-use Rattle.std.proofs.lemmas.List.{length-map}
-use Rattle.std.proofs.lemmas.List.Sorted.{length_permutation}
 use Rattle.sqlite.specs.Collation.TheVariants.{Binary}
 use Rattle.sqlite.specs.Ops.{binary, is_true}
 use Rattle.sqlite.specs.Order.{Row}
@@ -30,7 +28,7 @@ use Rattle.row_reads.specs.CardTexts.{by_batch, by_batch_and_place, by_good_batc
 use Rattle.row_reads.specs.Decoding.{IsFirst, first_number}
 use Rattle.row_reads.specs.Extremes.{AreSorted, IsGreatest, IsLeastBy}
 use Rattle.row_reads.proofs.Answering.{flag_back}
-use Rattle.row_reads.proofs.Asking.{all_found, asked, tells}
+use Rattle.row_reads.proofs.Asking.{all_found, asked, count_found, tells}
 use Rattle.row_reads.proofs.CardAnswers.{place_key, record_back}
 use Rattle.row_reads.proofs.CardMeanings.{good_asks, grouping_count_asks, groupings_asks, last_session_asks, records_asks, waiting_asks}
 use Rattle.row_reads.proofs.Sorting.{asked_sorted, greatest_found, least_found, sorted_found}
@@ -119,8 +117,6 @@ pub groupings_counted : (batch : ℕ) (old new : State) (rows : List Row) → Sh
     → length rows ≡ length (filter (is_grouping_of batch) t.groupings)
 groupings_counted batch old new rows h t image =
     let params = number batch ∷ [] in
-    let tell : StoredGrouping → Row = λ g. tells false (col 1 2 ∷ []) params (grouping_row g) in
-    length_permutation _ rows
+    count_found (is_grouping_of batch) (λ g. tells false (col 1 2 ∷ []) params (grouping_row g)) t.groupings rows
     (asked false grouping_row by_batch (col 1 2 ∷ []) params (is_grouping_of batch) refl (λ v r. refl) (λ g. batch_key batch g.batch) grouping_count_text 10 grouping_count_asks old new rows h
     image.ours t.groupings image.each.1.1.1.1.1.0.rows)
-    ∙ length-map (filter (is_grouping_of batch) t.groupings) tell

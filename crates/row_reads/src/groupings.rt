@@ -11,7 +11,7 @@ ghost use Rattle.sql_base.specs.Ends.{IsKept};
 ghost use Rattle.sql_rows.specs.Image.{IsImage};
 ghost use Rattle.table_rows.specs.Tables.{Tables};
 
-use crate::values::{bytes_at, number_at};
+use crate::values::{bytes_at, count, number_at};
 use sql_base::{int, rows_of};
 use sqlite::types::ValueRef;
 use sqlite::{Alter, Connection, Error, Row};
@@ -145,13 +145,13 @@ pub fn groupings_of<S: Alter>(
 
 /// How many rows the batch with this id has. Nothing is changed, and a crash leaves what it could
 /// leave before.
-pub fn grouping_count<S: Alter>(conn: &mut Connection<S>, batch: u64) -> Result<usize, Error>
+pub fn grouping_count<S: Alter>(conn: &mut Connection<S>, batch: u64) -> Result<u64, Error>
     requires idle { conn.old.in_transaction ≡ false }
     requires batch { batch < 2 ^ 63 }
     ensures found { HasCleanDisk (state S.Store conn.new) → IfOk result
-        (λ count. IsTrue (state S.Store conn.old).is_open × ((t : Tables)
+        (λ counted. IsTrue (state S.Store conn.old).is_open × ((t : Tables)
         → IsImage t (state S.Store conn.old).now
-        → count ≡ length (filter (is_grouping_of batch) t.groupings))) }
+        → counted ≡ length (filter (is_grouping_of batch) t.groupings))) }
     ensures kept { HasCleanDisk (state S.Store conn.new)
         → IsKept (state S.Store conn.old) (state S.Store conn.new) }
     ensures idle { conn.new.in_transaction ≡ false }
@@ -162,5 +162,5 @@ pub fn grouping_count<S: Alter>(conn: &mut Connection<S>, batch: u64) -> Result<
         "SELECT line FROM grouping2 WHERE batch = ?1",
         &[int(batch)],
     )?;
-    Ok(rows.as_slice().len())
+    Ok(count(rows.as_slice()))
 }

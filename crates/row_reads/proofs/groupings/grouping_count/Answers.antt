@@ -10,5 +10,5 @@ returns-clause-found g c clean =
     let begun = state g.S.Store (record c.args.conn.now { in_transaction = true }) in
     let end = state g.S.Store shown.0 in (
       shown_open begun end _ _ c.in_ok-rows.rows.items shown.1,
-      λ t image. ap length c.as_slice.ensures.value ∙ groupings_counted c.args.batch begun end c.in_ok-rows.rows.items shown.1 t image,
+      λ t image. c.count.ensures ∙ ap length c.as_slice.ensures.value ∙ groupings_counted c.args.batch begun end c.in_ok-rows.rows.items shown.1 t image,
     )
