@@ -9,3 +9,4 @@ pub mod BatchAnswers
 pub mod LotAnswers
 pub mod CardMeanings
 pub mod CardAnswers
+pub mod ManyAnswers
