@@ -5,8 +5,12 @@ ghost use Rattle.job_core.specs.Contents.{entry_of, mark_of, reply_of_entry};
 ghost use Rattle.store_reads.specs.Tells.{Looks, Tells};
 
 use job_core::KeptReply;
+use rows_answer::replies_by_number;
 use sqlite::{Alter, Connection, Error};
 use store_data::Name;
+
+// SQL's numbers end below it.
+const END: u64 = 1 << 63;
 
 /// The reply that is kept under a client's number.
 pub fn kept<S: Alter>(
@@ -20,7 +24,11 @@ pub fn kept<S: Alter>(
     ensures looks { Looks (state S.Store conn.old) (state S.Store conn.new) }
     ensures idle { conn.new.in_transaction ≡ false }
 {
-    Err(Error::InvalidQuery)
+    if number >= END {
+        return Err(Error::InvalidQuery);
+    }
+    replies_by_number();
+    row_reads::kept(conn, client, number)
 }
 
 /// The number up to which a client has released its numbers; 0 where it never did.
@@ -31,5 +39,6 @@ pub fn mark<S: Alter>(conn: &mut Connection<S>, client: &Name) -> Result<u64, Er
     ensures looks { Looks (state S.Store conn.old) (state S.Store conn.new) }
     ensures idle { conn.new.in_transaction ≡ false }
 {
-    Err(Error::InvalidQuery)
+    replies_by_number();
+    row_reads::mark(conn, client)
 }

@@ -8,6 +8,7 @@ ghost use Rattle.job_core.specs.States.{running_session};
 ghost use Rattle.store_reads.specs.Tells.{Looks, Tells};
 
 use job_core::SessionRow;
+use rows_answer::running_sessions_by_machine;
 use sqlite::{Alter, Connection, Error};
 use store_data::Name;
 
@@ -38,5 +39,6 @@ pub fn running_session<S: Alter>(
     ensures looks { Looks (state S.Store conn.old) (state S.Store conn.new) }
     ensures idle { conn.new.in_transaction ≡ false }
 {
-    Err(Error::InvalidQuery)
+    running_sessions_by_machine();
+    row_reads::running_session(conn, machine)
 }
