@@ -1,8 +1,7 @@
 -- From what reads show of rows to what they tell of contents, once for all reads.
-use Rattle.std.proofs.Common.{◌≡◌, ℕ, List, Option, Result, Ok, Err, IfOk, IsTrue, IsErr, inl, refl, sym, subst, ◌∙◌, arith}
-use Rattle.sqlite.specs.State.{HasCleanDisk, State, Survives}
+use Rattle.std.proofs.Common.{Result, Ok, Err, IfOk, IsTrue, inl, refl, sym, subst, ◌∙◌, arith}
+use Rattle.sqlite.specs.State.{HasCleanDisk, State}
 use Rattle.sqlite.specs.declared.error.Error.{Error}
-use Rattle.sqlite.specs.Tree.{Trees}
 use Rattle.sqlite.proofs.StateLemmas.{survives_then}
 use Rattle.job_core.specs.Contents.{AreSound, Contents}
 use Rattle.table_rows.specs.Tables.{Tables}
@@ -12,8 +11,12 @@ use Rattle.sql_rows.specs.Image.{IsImage}
 use Rattle.store_reads.specs.Tells.{Looks, Tells}
 
 -- an open connection shows this of whatever rows it has
-abbrev pub Shows : State → (Tables → Type 0) → Type 0
-Shows old Q = IsTrue old.is_open × ((t : Tables) → IsImage t old.now → Q t)
+abbrev pub ShowsRows : State → (Tables → Type 0) → Type 0
+ShowsRows old Q = IsTrue old.is_open × ((t : Tables) → IsImage t old.now → Q t)
+
+-- and this of whatever sound contents it has the rows
+abbrev pub Shows : State → (Contents → Type 0) → Type 0
+Shows old P = IsTrue old.is_open × ((c : Contents) → AreSound c → IsImage (image c) old.now → P c)
 
 -- ---- what is left
 
@@ -36,20 +39,23 @@ looks_then a b c one two = record {
   survives = survives_then a b c (λ _. ⊥) (λ _. ⊥) (λ _. ⊥) (λ _ db none. none) (λ _ db none. none) one.survives two.survives;
 }
 
--- ---- what is shown
+-- ---- what is told
 
--- what the second read shows is so of the rows before the first
-pub shown_then : (a b c : State) (P Q : Tables → Type 0) → Looks a b → Looks b c → (HasCleanDisk b → Shows a P) → (HasCleanDisk c → Shows b Q) → HasCleanDisk c → Shows a (λ t. P t × Q t)
-shown_then a b c P Q one two first second clean =
+-- by what is shown of rows, and a law of the rows of contents
+pub shown : (a b : State) (Q : Tables → Type 0) (P : Contents → Type 0) → (HasCleanDisk b → ShowsRows a Q) → ((c : Contents) → AreSound c → Q (image c) → P c) → HasCleanDisk b → Shows a P
+shown a b Q P rows law clean = let s = rows clean in (s.0, λ c sound is. law c sound (s.1 (image c) is))
+
+-- what the second read shows is so of what the first found
+pub shown_then : (a b c : State) (P Q R : Contents → Type 0) → Looks a b → Looks b c → (HasCleanDisk b → Shows a P) → (HasCleanDisk c → Shows b Q)
+    → ((d : Contents) → AreSound d → P d → Q d → R d) → HasCleanDisk c → Shows a R
+shown_then a b c P Q R one two first second law clean =
     let early : HasCleanDisk b = omega (arith, two.survives.clean) in
     let p = first early in
     let q = second clean in
-    (p.0, λ t is. (p.1 t is, q.1 t (subst (IsImage t) (sym ((one.kept early).now_is q.0)) is)))
+    (p.0, λ d sound is. law d sound (p.1 d sound is) (q.1 d sound (subst (IsImage (image d)) (sym ((one.kept early).now_is q.0)) is)))
 
--- ---- what is told
-
--- by what is shown and a law of the rows of contents
-pub tells_ok : {T : Type 0} (old new : State) (r : Result T Error) (Q : Tables → T → Type 0) (P : Contents → T → Type 0) → (HasCleanDisk new → IfOk r (λ x. Shows old (λ t. Q t x)))
-    → ((c : Contents) → AreSound c → (x : T) → Q (image c) x → P c x) → Tells old new r P
-tells_ok old new (Ok x) Q P shown law clean = let s = shown clean in (s.0, λ c sound is. law c sound x (s.1 (image c) is))
-tells_ok old new (Err e) Q P shown law clean = tt
+-- a read that tells all that is asked
+pub tells : {T : Type 0} (a b : State) (r : Result T Error) (Q : Tables → T → Type 0) (P : Contents → T → Type 0) → (HasCleanDisk b → IfOk r (λ x. ShowsRows a (λ t. Q t x)))
+    → ((c : Contents) → AreSound c → (x : T) → Q (image c) x → P c x) → Tells a b r P
+tells a b (Ok x) Q P rows law = shown a b (λ t. Q t x) (λ c. P c x) rows (λ c sound. law c sound x)
+tells a b (Err e) Q P rows law = λ clean. tt

@@ -4,13 +4,11 @@ ghost use Rattle.sqlite.specs.Held.{state};
 ghost use Rattle.job_core.specs.Contents.{entry_of, mark_of, reply_of_entry};
 ghost use Rattle.store_reads.specs.Tells.{Looks, Tells};
 
+use crate::numbers::END;
 use job_core::KeptReply;
 use rows_answer::replies_by_number;
 use sqlite::{Alter, Connection, Error};
 use store_data::Name;
-
-// SQL's numbers end below it.
-const END: u64 = 1 << 63;
 
 /// The reply that is kept under a client's number.
 pub fn kept<S: Alter>(
