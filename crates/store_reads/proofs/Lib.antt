@@ -1,3 +1,4 @@
 pub mod Telling
+pub mod Found
 pub mod Counting
 pub mod Sizes
