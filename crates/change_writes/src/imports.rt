@@ -12,6 +12,7 @@ ghost use Rattle.sql_base.specs.Ends.{Wrote};
 ghost use Rattle.sql_rows.specs.Image.{Moves};
 ghost use Rattle.table_rows.specs.After.{batch_rows_after, new_grouping, new_record};
 ghost use Rattle.change_writes.specs.Many.{WroteMany, with_groupings, with_records};
+ghost use Rattle.change_writes.specs.Refused.{refused};
 
 use batch_import::{ImportFault, read_batch};
 use indexmap::IndexSet;
@@ -52,7 +53,9 @@ pub fn write_batch<'x, S: Alter>(
 }
 
 // What is told of a file that is not taken.
-fn refused(fault: ImportFault) -> Error {
+fn refused(fault: ImportFault) -> Error
+    ensures { result ≡ refused fault }
+{
     match fault {
         ImportFault::Memory => Error::SqliteFailure(ErrorCode::OutOfMemory),
         ImportFault::At(_) => Error::InvalidQuery,

@@ -1,9 +1,12 @@
 -- What a query over one of our tables answers, by what its text asks and how the table's rows are encoded.
-use Rattle.std.proofs.Common.{◌≡◌, ℕ, Bool, true, false, List, [], ◌∷◌, drop, map, Option, Some, None, refl, ap, subst, ◌∙◌}
+use Rattle.std.proofs.Common.{◌≡◌, ℕ, Bool, true, false, List, [], ◌∷◌, drop, length, map, Option, Some, None, inl, inr, refl, sym, ap, subst, ◌∙◌, arith}
 use Rattle.std.specs.Prelude.{filter, find, option_map}
+use Rattle.std.specs.List.{list_any}
 use Rattle.std.specs.List.Sorted.{IsPermutation}
 use Rattle.std.specs.Option.{option_to_list}
-use Rattle.std.proofs.lemmas.List.Sorted.{IsPermutation-map}
+use Rattle.std.proofs.lemmas.List.{length-map}
+use Rattle.std.proofs.lemmas.List.Sorted.{IsPermutation-map, length_permutation}
+use Rattle.std.proofs.lemmas.Bool.{cases_Bool}
 use Rattle.sqlite.specs.Command.TheVariants.{Select}
 use Rattle.sqlite.specs.declared.types.Value.{Value}
 use Rattle.sqlite.specs.declared.types.Value.TheVariants.{Null}
@@ -17,7 +20,7 @@ use Rattle.sql_base.proofs.Selecting.{map_map, map_same, passes, selected, shown
 use Rattle.sql_tables.specs.Tables.{our_schema}
 use Rattle.sql_rows.specs.Image.{told}
 use Rattle.table_rows.specs.Tables.{PassesOnce}
-use Rattle.row_reads.specs.Decoding.{IsFirst}
+use Rattle.row_reads.specs.Decoding.{IsFirst, has_rows}
 use Rattle.row_reads.proofs.Looking.{find_passes, looked_up, one_answered}
 
 -- at our schema the text asks for the rows of this tree that pass, each shown so
@@ -58,14 +61,19 @@ module _ {X : Type 0} (by_rowid : Bool) (encode : X → Row) (filters project : 
   looks [] = none
   looks (v ∷ r) = some v r
 
-  -- what is answered is what the rows with the key tell
+  -- what the rows that pass show is what the rows with the key tell
+  pub told_as : (xs : List X) (stored rows : List Row) → IsPermutation (map encode xs) (told by_rowid stored)
+      → IsPermutation (map (shown project params) (filter (passes filters params) stored)) rows → IsPermutation (map (λ x. tells by_rowid project params (encode x)) (filter key xs)) rows
+  told_as xs stored rows filled got =
+      looked_up encode (part by_rowid) (passes filters params) (λ r. passes filters params (whole by_rowid r)) key (shown project params) (tells by_rowid project params)
+      (λ x. tells by_rowid project params (encode x)) (λ r. ap (λ (l : Bool × Row). l.0) (looks r)) (λ r. ap (λ (l : Bool × Row). l.1) (looks r)) key_is (λ x. refl) xs
+      stored rows (subst (IsPermutation (map encode xs)) (part_told by_rowid stored) filled) got
+
+  -- so that is answered
   pub asked : (text : List ℕ) (tree : ℕ) → Asks text tree filters project → (old new : State) (rows : List Row) → Shown text params old new rows → old.now.schema ≡ our_schema
       → (xs : List X) → IsPermutation (map encode xs) (told by_rowid (old.now.trees tree)) → IsPermutation (map (λ x. tells by_rowid project params (encode x)) (filter key xs)) rows
   asked text tree asks old new rows h ours xs filled =
-      looked_up encode (part by_rowid) (passes filters params) (λ r. passes filters params (whole by_rowid r)) key (shown project params) (tells by_rowid project params)
-      (λ x. tells by_rowid project params (encode x)) (λ r. ap (λ (l : Bool × Row). l.0) (looks r)) (λ r. ap (λ (l : Bool × Row). l.1) (looks r)) key_is (λ x. refl) xs
-      (old.now.trees tree) rows (subst (IsPermutation (map encode xs)) (part_told by_rowid (old.now.trees tree)) filled)
-      (selected text params old new our_schema ours tree filters project asks.names asks.is asks.plain asks.unlisted rows h)
+      told_as xs (old.now.trees tree) rows filled (selected text params old new our_schema ours tree filters project asks.names asks.is asks.plain asks.unlisted rows h)
 
 -- what is made of the answer
 module _ {X Y : Type 0} (key : X → Bool) (tell : X → Row) (xs : List X) (rows : List Row) (got : IsPermutation (map tell (filter key xs)) rows) (decode : Row → Y) (f : X → Y) where
@@ -82,3 +90,25 @@ module _ {X Y : Type 0} (key : X → Bool) (tell : X → Row) (xs : List X) (row
   all_found back =
       subst (λ ys. IsPermutation ys (map decode rows)) (map_map decode tell (filter key xs) ∙ map_same (λ x. decode (tell x)) f back (filter key xs))
       (IsPermutation-map decode (map tell (filter key xs)) rows got)
+
+list_any_filter : {X : Type 0} (p : X → Bool) (tell : X → Row) (xs : List X) → list_any p xs ≡ has_rows (map tell (filter p xs))
+list_any_filter p tell [] = refl
+list_any_filter p tell (x ∷ xs) = elim (cases_Bool (p x)) [
+  | inl hit ↦ rw hit refl
+  | inr miss ↦ rw miss (list_any_filter p tell xs)
+]
+
+has_as_long : (xs ys : List Row) → length ys ≡ length xs → has_rows ys ≡ has_rows xs
+has_as_long [] [] same = refl
+has_as_long [] (y ∷ ys) same = absurd (omega (arith, same))
+has_as_long (x ∷ xs) [] same = absurd (omega (arith, same))
+has_as_long (x ∷ xs) (y ∷ ys) same = refl
+
+module _ {X : Type 0} (key : X → Bool) (tell : X → Row) (xs : List X) (rows : List Row) (got : IsPermutation (map tell (filter key xs)) rows) where
+  -- a row is answered where one has the key
+  pub any_found : has_rows rows ≡ list_any key xs
+  any_found = has_as_long _ rows (length_permutation _ rows got) ∙ sym (list_any_filter key tell xs)
+
+  -- and as many as have it
+  pub count_found : length rows ≡ length (filter key xs)
+  count_found = length_permutation (map tell (filter key xs)) rows got ∙ length-map (filter key xs) tell

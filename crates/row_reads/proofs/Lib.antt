@@ -1,8 +1,13 @@
 pub mod Looking
 pub mod Asking
+pub mod Sorting
+pub mod Walking
 pub mod Meanings
 pub mod Answering
 pub mod NameMeanings
 pub mod NameAnswers
+pub mod BatchAnswers
+pub mod LotAnswers
 pub mod CardMeanings
 pub mod CardAnswers
+pub mod ManyAnswers

@@ -14,3 +14,80 @@ kept_columns = col 1 3 ∷ col 1 4 ∷ col 1 5 ∷ []
 -- the first two columns are the two parameters
 abbrev pub by_two_columns : List Term
 by_two_columns = is_equal (col 1 1) (col 0 0) ∷ is_equal (col 1 2) (col 0 1) ∷ []
+
+-- ---- batches
+
+abbrev pub batch_id_text : List ℕ
+batch_id_text = codes "SELECT id FROM batch WHERE name = ?1"
+
+abbrev pub id_columns : List Term
+id_columns = col 1 0 ∷ []
+
+-- the column behind the id is the first parameter
+abbrev pub by_batch_name : List Term
+by_batch_name = is_equal (col 1 2) (col 0 0) ∷ []
+
+abbrev pub batch_name_text : List ℕ
+batch_name_text = codes "SELECT name FROM batch WHERE id = ?1"
+
+abbrev pub batch_name_columns : List Term
+batch_name_columns = col 1 2 ∷ []
+
+-- the id is the first parameter
+abbrev pub by_id : List Term
+by_id = is_equal (col 1 0) (col 0 0) ∷ []
+
+abbrev pub batch_head_text : List ℕ
+batch_head_text = codes "SELECT id, product, closed, waiting, running, failed, withdrawn, good, sessions, spoiled FROM batch WHERE name = ?1"
+
+abbrev pub head_columns : List Term
+head_columns = col 1 0 ∷ col 1 3 ∷ col 1 5 ∷ col 1 6 ∷ col 1 7 ∷ col 1 8 ∷ col 1 9 ∷ col 1 10 ∷ col 1 11 ∷ col 1 12 ∷ []
+
+abbrev pub batch_has_text : List ℕ
+batch_has_text = codes "SELECT id FROM batch WHERE name = ?1 AND raw = ?2"
+
+-- the name and the bytes are the two parameters
+abbrev pub by_bytes : List Term
+by_bytes = is_equal (col 1 2) (col 0 0) ∷ is_equal (col 1 4) (col 0 1) ∷ []
+
+-- ---- lots
+
+abbrev pub lot_columns : List Term
+lot_columns = col 1 1 ∷ col 1 2 ∷ col 1 3 ∷ col 1 4 ∷ []
+
+abbrev pub lot_row_columns : List Term
+lot_row_columns = col 1 1 ∷ col 1 2 ∷ col 1 3 ∷ col 1 4 ∷ col 1 5 ∷ []
+
+abbrev pub lot_text : List ℕ
+lot_text = codes "SELECT name, product, low_serial, amount, discarded FROM lot WHERE name = ?1"
+
+abbrev pub lots_text : List ℕ
+lots_text = codes "SELECT name, product, low_serial, amount FROM lot"
+
+abbrev pub lots_of_text : List ℕ
+lots_of_text = codes "SELECT name, product, low_serial, amount, discarded FROM lot WHERE product = ?1"
+
+-- the second column is the first parameter
+abbrev pub by_second_column : List Term
+by_second_column = is_equal (col 1 2) (col 0 0) ∷ []
+
+-- ---- the batches of a product, charged blanks, and names to be counted
+
+abbrev pub batches_of_text : List ℕ
+batches_of_text = codes "SELECT id, product, closed, waiting, running, failed, withdrawn, good, sessions, spoiled FROM batch WHERE product = ?1"
+
+-- the product of a batch is the first parameter
+abbrev pub by_batch_product : List Term
+by_batch_product = is_equal (col 1 3) (col 0 0) ∷ []
+
+abbrev pub charged_text : List ℕ
+charged_text = codes "SELECT serial FROM blank WHERE serial = ?1"
+
+abbrev pub products_text : List ℕ
+products_text = codes "SELECT name FROM product"
+
+abbrev pub lot_names_text : List ℕ
+lot_names_text = codes "SELECT name FROM lot"
+
+abbrev pub first_column : List Term
+first_column = col 1 1 ∷ []

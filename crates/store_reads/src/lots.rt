@@ -1,0 +1,75 @@
+//! Lots and blanks are read.
+ghost use Rattle.std.specs.Prelude.{false, option_map, ◌≡◌};
+ghost use Rattle.sqlite.specs.Held.{state};
+ghost use Rattle.job_core.specs.States.{any_overlaps, is_charged, lot_named, lot_of};
+ghost use Rattle.row_reads.specs.declared.lots.LotRow.{LotRow as LotRowValue};
+ghost use Rattle.store_reads.specs.Tells.{Looks, Tells};
+
+use crate::numbers::END;
+use job_core::Lot;
+use row_reads::LotRow;
+use rows_answer::{blanks_by_serial, lots_by_name, lots_by_range};
+use sqlite::{Alter, Connection, Error};
+use store_data::Name;
+
+fn lot_in(found: Option<LotRow>) -> Option<Lot>
+    ensures { result ≡ option_map (λ (row : LotRowValue). row.lot) found }
+{
+    match found {
+        None => None,
+        Some(row) => Some(row.lot),
+    }
+}
+
+/// The lot of this name.
+pub fn lot<S: Alter>(conn: &mut Connection<S>, name: &Name) -> Result<Option<Lot>, Error>
+    requires { conn.old.in_transaction ≡ false }
+    ensures value { Tells (state S.Store conn.old) (state S.Store conn.new) result
+        (λ c answer. answer ≡ lot_named c.facts.lots name.now) }
+    ensures looks { Looks (state S.Store conn.old) (state S.Store conn.new) }
+    ensures idle { conn.new.in_transaction ≡ false }
+{
+    lots_by_name();
+    let found = row_reads::lot(conn, name)?;
+    Ok(lot_in(found))
+}
+
+/// The lot in which a blank lies.
+pub fn lot_of<S: Alter>(conn: &mut Connection<S>, blank: u64) -> Result<Option<Lot>, Error>
+    requires { conn.old.in_transaction ≡ false }
+    ensures value { Tells (state S.Store conn.old) (state S.Store conn.new) result
+        (λ c answer. answer ≡ lot_of c.facts.lots blank) }
+    ensures looks { Looks (state S.Store conn.old) (state S.Store conn.new) }
+    ensures idle { conn.new.in_transaction ≡ false }
+{
+    lots_by_name();
+    lots_by_range();
+    row_reads::lot_of(conn, blank)
+}
+
+/// Whether a serial of the range lies in a lot.
+pub fn overlaps<S: Alter>(conn: &mut Connection<S>, first: u64, count: u32) -> Result<bool, Error>
+    requires { conn.old.in_transaction ≡ false }
+    ensures value { Tells (state S.Store conn.old) (state S.Store conn.new) result
+        (λ c answer. answer ≡ any_overlaps c.facts.lots first count) }
+    ensures looks { Looks (state S.Store conn.old) (state S.Store conn.new) }
+    ensures idle { conn.new.in_transaction ≡ false }
+{
+    lots_by_name();
+    row_reads::overlaps(conn, first, count)
+}
+
+/// Whether an opening or a discard names the blank.
+pub fn is_charged<S: Alter>(conn: &mut Connection<S>, blank: u64) -> Result<bool, Error>
+    requires { conn.old.in_transaction ≡ false }
+    ensures value { Tells (state S.Store conn.old) (state S.Store conn.new) result
+        (λ c answer. answer ≡ is_charged c.facts blank) }
+    ensures looks { Looks (state S.Store conn.old) (state S.Store conn.new) }
+    ensures idle { conn.new.in_transaction ≡ false }
+{
+    if blank >= END {
+        return Err(Error::InvalidQuery);
+    }
+    blanks_by_serial();
+    row_reads::is_charged(conn, blank)
+}
