@@ -2,3 +2,10 @@ pub mod Telling
 pub mod Found
 pub mod Counting
 pub mod Sizes
+pub mod Told
+pub mod Ordered
+pub mod PlanSegments
+pub mod SegmentRows
+pub mod Waiting
+pub mod RecordLines
+pub mod BlankSums

@@ -1,2 +1,5 @@
 pub mod Heads
 pub mod Tells
+pub mod Lines
+pub mod Segments
+pub mod Sums

@@ -4,14 +4,17 @@
 mod batches;
 mod changes;
 mod counts;
+mod lines;
 mod lots;
 mod names;
 mod numbers;
+mod plans;
 mod records;
 mod replies;
 mod reports;
 mod segments;
 mod sessions;
+mod sums;
 
 pub use batches::{batch, batch_has, batch_size, batch_totals, is_finished};
 pub use changes::before;

@@ -7,7 +7,7 @@ ghost use Rattle.store_reads.specs.Tells.{Looks, Tells};
 
 use job_core::RecordState;
 use row_reads::{RecordAt, batch_id, record_named};
-use rows_answer::{batches_by_name, records_by_name};
+use rows_answer::{batches_by_name, records_by_name, records_of_batches};
 use sqlite::{Alter, Connection, Error};
 use store_data::Name;
 
@@ -17,6 +17,15 @@ fn state_of(found: Option<RecordAt>) -> Option<RecordState>
     match found {
         None => None,
         Some(r) => Some(r.stands),
+    }
+}
+
+fn name_of(found: Option<RecordAt>) -> Option<Name>
+    ensures { result ≡ option_map (λ (r : RecordAtValue). r.name) found }
+{
+    match found {
+        None => None,
+        Some(r) => Some(r.name),
     }
 }
 
@@ -52,5 +61,11 @@ pub fn first_waiting<S: Alter>(
     ensures looks { Looks (state S.Store conn.old) (state S.Store conn.new) }
     ensures idle { conn.new.in_transaction ≡ false }
 {
-    Err(Error::InvalidQuery)
+    batches_by_name();
+    records_of_batches();
+    let Some(id) = batch_id(conn, batch)? else {
+        return Ok(None);
+    };
+    let found = row_reads::first_waiting(conn, id)?;
+    Ok(name_of(found))
 }

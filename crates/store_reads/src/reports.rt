@@ -1,12 +1,33 @@
 //! The accounts of batches and blanks are read.
-ghost use Rattle.std.specs.Prelude.{false, ◌≡◌};
+ghost use Rattle.std.specs.Prelude.{false, ◌≡◌, ◌<◌, ◌^◌};
 ghost use Rattle.sqlite.specs.Held.{state};
 ghost use Rattle.job_core.specs.Accounts.{blank_totals, record_lines};
+ghost use Rattle.store_reads.specs.Lines.{lines_with};
 ghost use Rattle.store_reads.specs.Tells.{Looks, Tells};
 
+use crate::lines::lines_told;
+use crate::sums::totals_told;
 use job_core::{BlankTotals, RecordLine};
+use row_reads::{batch_id, batches_of, good_sessions, lots_of, records_of};
+use rows_answer::{batches_by_name, blanks_by_rows, lines_by_rows, records_of_batches};
 use sqlite::{Alter, Connection, Error};
 use store_data::Name;
+
+// The lines of the records of the batch with this id, in file order.
+fn lines_with<S: Alter>(conn: &mut Connection<S>, id: u64) -> Result<Vec<RecordLine>, Error>
+    requires idle { conn.old.in_transaction ≡ false }
+    requires id { id < 2 ^ 63 }
+    ensures value { Tells (state S.Store conn.old) (state S.Store conn.new) result
+        (λ c lines. lines.items ≡ lines_with c.facts id) }
+    ensures looks { Looks (state S.Store conn.old) (state S.Store conn.new) }
+    ensures idle { conn.new.in_transaction ≡ false }
+{
+    records_of_batches();
+    let records = records_of(conn, id)?;
+    let good = good_sessions(conn, id)?;
+    let alloc = *records.allocator();
+    lines_told(alloc, records.as_slice(), good.as_slice())
+}
 
 /// How the records of a batch stand, in file order.
 pub fn record_lines<S: Alter>(
@@ -19,7 +40,11 @@ pub fn record_lines<S: Alter>(
     ensures looks { Looks (state S.Store conn.old) (state S.Store conn.new) }
     ensures idle { conn.new.in_transaction ≡ false }
 {
-    Err(Error::InvalidQuery)
+    batches_by_name();
+    lines_by_rows();
+    // No batch has the id 0: a batch that is not there has no records.
+    let id = batch_id(conn, batch)?.unwrap_or(0);
+    lines_with(conn, id)
 }
 
 /// How a product's blanks stand.
@@ -33,5 +58,8 @@ pub fn blank_totals<S: Alter>(
     ensures looks { Looks (state S.Store conn.old) (state S.Store conn.new) }
     ensures idle { conn.new.in_transaction ≡ false }
 {
-    Err(Error::InvalidQuery)
+    blanks_by_rows();
+    let lots = lots_of(conn, product)?;
+    let heads = batches_of(conn, product)?;
+    totals_told(lots.as_slice(), heads.as_slice())
 }

@@ -1,0 +1,45 @@
+-- Rows by rising numbers: what is told of them in the order of their numbers, and of the first of them.
+use Rattle.std.proofs.Common.{◌≡◌, ℕ, zero, suc, ◌<◌, ◌≤◌, Bool, cond, true, false, List, [], ◌∷◌, map, length, get_or, All, Contains, Option, Some, None, inl, inr, refl, sym, ap, subst, ◌∙◌, arith}
+use Rattle.std.specs.Prelude.{AllPairs, filter, find, option_map}
+use Rattle.std.proofs.lemmas.List.Elements.{at_from_Contains}
+use Rattle.std.proofs.lemmas.List.Sorted.{IsPermutation-sym}
+use Rattle.row_reads.specs.Extremes.{AreSorted, IsLeastBy}
+use Rattle.rows_answer.proofs.Finding.{AllPairs-map}
+use Rattle.rows_answer.proofs.InOrder.{in_order}
+
+abbrev pub first_of : {X : Type 0} → List X → Option X
+first_of [] = None
+first_of (x ∷ xs) = Some x
+
+-- what is found first is the first that passes
+pub first_passing : {X : Type 0} (p : X → Bool) (xs : List X) → first_of (filter p xs) ≡ find p xs
+first_passing p [] = refl
+first_passing p (x ∷ xs) = elim (p x) as (λ b. first_of (cond b (x ∷ filter p xs) (filter p xs)) ≡ cond b (Some x) (find p xs)) [
+  | true ↦ refl
+  | false ↦ first_passing p xs
+]
+
+module _ {X Y : Type 0} (tell : X → Y) (rank : Y → ℕ) where
+  abbrev pub Rises : List X → Type 0
+  Rises xs = AllPairs (λ x y. rank (tell x) < rank (tell y)) xs
+
+  -- what is told in the order of the numbers is told of each row in turn
+  pub told_in_order : (xs : List X) → Rises xs → (ys : List Y) → AreSorted rank (map tell xs) ys → ys ≡ map tell xs
+  told_in_order xs rising ys sorted =
+      in_order rank ys (map tell xs) (IsPermutation-sym (map tell xs) ys sorted.0) (λ i j d before within. sorted.1 i j d (omega (arith, before)) within)
+      (AllPairs-map (λ x y. rank x < rank y) tell xs rising)
+
+  -- what has the least number is told of the first
+  pub told_of_first : (xs : List X) → Rises xs → (found : Option Y) → IsLeastBy rank (map tell xs) found → found ≡ option_map tell (first_of xs)
+  told_of_first [] rising None none = refl
+  told_of_first [] rising (Some y) least = absurd (omega (arith, least.0.1))
+  told_of_first (x ∷ xs) rising None none = absurd cc
+  told_of_first (x ∷ xs) rising (Some y) least =
+      let at = at_from_Contains (map tell (x ∷ xs)) y least.0 in
+      let rises : AllPairs (λ v w. rank v < rank w) (map tell (x ∷ xs)) = AllPairs-map (λ v w. rank v < rank w) tell (x ∷ xs) rising in
+      let first : rank y ≤ rank (tell x) = least.1 0 y (omega arith) in
+      here at.0 at.1 (at.2 y) rises first
+    where
+      here : (k : ℕ) → k < length (map tell (x ∷ xs)) → get_or (map tell (x ∷ xs)) k y ≡ y → AllPairs (λ v w. rank v < rank w) (map tell (x ∷ xs)) → rank y ≤ rank (tell x) → Some y ≡ Some (tell x)
+      here zero within is rises first = ap (λ z. Some z) (sym is)
+      here (suc k) within is rises first = absurd (omega (arith, first, ap rank is, rises 0 (suc k) y (omega arith) within))

@@ -1,0 +1,137 @@
+-- A record's plan by what is read of its batch and of its rows.
+use Rattle.std.proofs.Common.{◌≡◌, ℕ, ◌&&◌, ◌==◌, ◌<◌, Bool, true, false, List, [], ◌∷◌, length, map, Option, Some, None, refl, sym, ap, subst, ◌∙◌, arith}
+use Rattle.std.specs.Prelude.{AllPairs, bytes_eq, filter, find, option_and_then, option_map}
+use Rattle.std.proofs.lemmas.Bool.Decides.{nat_tests}
+use Rattle.store_data.specs.declared.row.Product.{Product}
+use Rattle.store_data.specs.declared.row.Row.{Row}
+use Rattle.store_data.specs.Cursor.{segment_at}
+use Rattle.store_data.specs.Groups.{grouped}
+use Rattle.store_data.specs.Sequence.{Plan, applications_of, plan_of}
+use Rattle.job_core.specs.declared.rows.SegmentRow.{SegmentRow}
+use Rattle.job_core.specs.Facts.{Facts}
+use Rattle.job_core.specs.Rows.{segment_row, segment_row_of}
+use Rattle.job_core.specs.States.{plan_for, product_named}
+use Rattle.row_reads.specs.declared.batches.BatchHead.{BatchHead}
+use Rattle.row_reads.specs.declared.groupings.GroupingAt.{GroupingAt}
+use Rattle.row_reads.specs.declared.records.RecordAt.{RecordAt}
+use Rattle.row_reads.specs.CardDecoding.{grouping_at, line_of, record_at}
+use Rattle.row_reads.specs.Extremes.{AreSorted}
+use Rattle.row_reads.specs.Telling.{head_of}
+use Rattle.row_reads.proofs.Looking.{find_passes}
+use Rattle.rows_of_facts.specs.Image.{stored_batches, stored_groupings, stored_records}
+use Rattle.sql_base.proofs.Selecting.{map_map}
+use Rattle.table_rows.specs.Tables.{StoredBatch, StoredGrouping, StoredRecord}
+use Rattle.rows_answer.specs.Keys.{is_batch_named, is_grouping_at, is_record_named}
+use Rattle.rows_answer.specs.Telling.{groupings_for, plan_in, row_of}
+use Rattle.store_reads.specs.declared.segments.BatchProduct.{BatchProduct}
+use Rattle.store_reads.specs.Segments.{product_in, product_under, row_told, rows_in}
+use Rattle.store_reads.proofs.Found.{found_none, found_some}
+use Rattle.store_reads.proofs.Ordered.{told_in_order}
+
+module _ (f : Facts) (b : List ℕ) where
+  pub no_product : None ≡ option_map head_of (find (is_batch_named b) (stored_batches f)) → None ≡ product_in f b
+  no_product none = rw (found_none head_of (find (is_batch_named b) (stored_batches f)) none) refl
+
+  pub product_told : (h : BatchHead) → Some h ≡ option_map head_of (find (is_batch_named b) (stored_batches f)) → (found : Option Product) → found ≡ product_named f.products h.product
+      → option_map (λ (p : Product). let e : BatchProduct = record { id = h.id; product = p } in e) found ≡ product_in f b
+  product_told h h_is found is =
+      let row = found_some head_of (find (is_batch_named b) (stored_batches f)) h h_is in
+      ap (option_map (λ (p : Product). let e : BatchProduct = record { id = h.id; product = p } in e)) is
+      ∙ ap (λ (k : BatchHead). option_map (λ (p : Product). let e : BatchProduct = record { id = k.id; product = p } in e) (product_named f.products k.product)) row.2
+      ∙ sym (ap (option_and_then (product_under f)) row.1)
+
+both_left : (x y : Bool) → (x && y) ≡ true → x ≡ true
+both_left true y both = refl
+both_left false y both = both
+
+module _ (f : Facts) (id : ℕ) (r : List ℕ) where
+  pub no_rows : None ≡ option_map record_at (find (is_record_named id r) (stored_records f)) → None ≡ rows_in f id r
+  no_rows none = rw (found_none record_at (find (is_record_named id r) (stored_records f)) none) refl
+
+  same_batch : (x : StoredRecord) → is_record_named id r x ≡ true → x.batch ≡ id
+  same_batch x hit = let first : (x.batch == id) ≡ true = both_left (x.batch == id) (bytes_eq x.name r) hit in grind (arith, nat_tests, first)
+
+  pub rows_are : (x : RecordAt) → Some x ≡ option_map record_at (find (is_record_named id r) (stored_records f)) → (all : List GroupingAt)
+      → AllPairs (λ (g h : StoredGrouping). g.line < h.line) (filter (is_grouping_at id x.place) (stored_groupings f))
+      → AreSorted line_of (map grouping_at (filter (is_grouping_at id x.place) (stored_groupings f))) all → Some (map (row_told r) all) ≡ rows_in f id r
+  rows_are x x_is all rising sorted =
+      let own : List StoredGrouping = filter (is_grouping_at id x.place) (stored_groupings f) in
+      let told : all ≡ map grouping_at own = told_in_order grouping_at line_of own rising all sorted in
+      let row = found_some record_at (find (is_record_named id r) (stored_records f)) x x_is in
+      let batch : row.0.batch ≡ id = same_batch row.0 (find_passes (is_record_named id r) (stored_records f) row.0 row.1) in
+      let place : x.place ≡ row.0.place = ap (λ (y : RecordAt). y.place) row.2 in
+      ap (λ zs. Some (map (row_told r) zs)) told ∙ ap Some (map_map (row_told r) grouping_at own)
+      ∙ ap (λ k. Some (map (row_of r) (filter (is_grouping_at id k) (stored_groupings f)))) place
+      ∙ ap (λ k. Some (map (row_of r) (filter (is_grouping_at k row.0.place) (stored_groupings f)))) (sym batch)
+      ∙ sym (ap (option_map (λ (y : StoredRecord). map (row_of r) (filter (is_grouping_at y.batch y.place) (stored_groupings f)))) row.1)
+
+-- rows that there are none of make no application
+pub no_segment : (p : Product) (a q : ℕ) → segment_at (plan_of p []) a q ≡ None
+unfolding applications_of grouped
+no_segment p a q = refl
+
+-- a segment of these rows, if there are any
+abbrev segment_under : Product → Option (List Row) → ℕ → ℕ → Option SegmentRow
+segment_under p None a q = None
+segment_under p (Some rows) a q = option_map (segment_row (plan_of p rows)) (segment_at (plan_of p rows) a q)
+
+module _ (f : Facts) (b r : List ℕ) (a q : ℕ) where
+  abbrev own_rows : Option (List Row) → List Row
+  own_rows None = []
+  own_rows (Some rows) = rows
+
+  rows_same : (o : Option StoredRecord) → map (row_of r) (groupings_for (stored_groupings f) o)
+      ≡ own_rows (option_map (λ (x : StoredRecord). map (row_of r) (filter (is_grouping_at x.batch x.place) (stored_groupings f))) o)
+  rows_same None = refl
+  rows_same (Some x) = refl
+
+  abbrev plan_told : BatchProduct → Plan
+  plan_told e = plan_of e.product (own_rows (rows_in f e.id r))
+
+  by_product : (o : Option StoredBatch)
+      → option_and_then (λ (row : StoredBatch).
+      option_map (λ (p : Product). plan_of p (map (row_of r) (groupings_for (stored_groupings f) (find (is_record_named row.id r) (stored_records f))))) (product_named f.products row.product)) o
+      ≡ option_map plan_told (option_and_then (product_under f) o)
+  by_product None = refl
+  by_product (Some row) = under (product_named f.products row.product)
+    where
+      under : (o : Option Product)
+          → option_map (λ (p : Product). plan_of p (map (row_of r) (groupings_for (stored_groupings f) (find (is_record_named row.id r) (stored_records f))))) o
+          ≡ option_map plan_told (option_map (λ (p : Product). let e : BatchProduct = record { id = row.id; product = p } in e) o)
+      under None = refl
+      under (Some p) = ap (λ rows. Some (plan_of p rows)) (rows_same (find (is_record_named row.id r) (stored_records f)))
+
+  pub segment_by : plan_for f b r ≡ plan_in f.products (stored_batches f) (stored_records f) (stored_groupings f) b r
+      → segment_row_of f b r a q ≡ option_and_then (λ (e : BatchProduct). segment_under e.product (rows_in f e.id r) a q) (product_in f b)
+  segment_by law =
+      ap (option_and_then (λ (plan : Plan). option_map (segment_row plan) (segment_at plan a q))) (law ∙ by_product (find (is_batch_named b) (stored_batches f)))
+      ∙ at (product_in f b)
+    where
+      under : (p : Product) (rows : Option (List Row)) → option_map (segment_row (plan_of p (own_rows rows))) (segment_at (plan_of p (own_rows rows)) a q) ≡ segment_under p rows a q
+      under p None = ap (option_map (segment_row (plan_of p []))) (no_segment p a q)
+      under p (Some rows) = refl
+
+      at : (o : Option BatchProduct) → option_and_then (λ (plan : Plan). option_map (segment_row plan) (segment_at plan a q)) (option_map plan_told o)
+          ≡ option_and_then (λ (e : BatchProduct). segment_under e.product (rows_in f e.id r) a q) o
+      at None = refl
+      at (Some e) = under e.product (rows_in f e.id r)
+
+pub no_segment_row : (p : Product) (rows : List Row) (a q : ℕ) → length rows ≡ 0 → None ≡ option_map (segment_row (plan_of p rows)) (segment_at (plan_of p rows) a q)
+no_segment_row p [] a q none = sym (ap (option_map (segment_row (plan_of p []))) (no_segment p a q))
+no_segment_row p (row ∷ rows) a q none = absurd (omega (arith, none))
+
+-- ---- a segment, by what is read
+
+module _ (f : Facts) (b r : List ℕ) (a q : ℕ) (law : plan_for f b r ≡ plan_in f.products (stored_batches f) (stored_records f) (stored_groupings f) b r) where
+  abbrev under_product : Option BatchProduct → Option SegmentRow
+  under_product = option_and_then (λ (e : BatchProduct). segment_under e.product (rows_in f e.id r) a q)
+
+  pub segment_without_product : None ≡ product_in f b → None ≡ segment_row_of f b r a q
+  segment_without_product none = ap under_product none ∙ sym (segment_by f b r a q law)
+
+  pub segment_without_rows : (e : BatchProduct) → Some e ≡ product_in f b → None ≡ rows_in f e.id r → None ≡ segment_row_of f b r a q
+  segment_without_rows e is none = ap (λ rows. segment_under e.product rows a q) none ∙ ap under_product is ∙ sym (segment_by f b r a q law)
+
+  pub segment_told : (e : BatchProduct) → Some e ≡ product_in f b → (rows : List Row) → Some rows ≡ rows_in f e.id r → (found : Option SegmentRow)
+      → found ≡ option_map (segment_row (plan_of e.product rows)) (segment_at (plan_of e.product rows) a q) → found ≡ segment_row_of f b r a q
+  segment_told e is rows rows_is found found_is = found_is ∙ ap (λ o. segment_under e.product o a q) rows_is ∙ ap under_product is ∙ sym (segment_by f b r a q law)

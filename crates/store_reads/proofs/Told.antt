@@ -1,0 +1,26 @@
+-- What is told of an answer that is made of what reads show.
+use Rattle.std.proofs.Common.{Result, Ok, Err, IfOk}
+use Rattle.sqlite.specs.State.{HasCleanDisk, State}
+use Rattle.sqlite.specs.declared.error.Error.{Error}
+use Rattle.job_core.specs.Contents.{AreSound, Contents}
+use Rattle.store_reads.specs.Tells.{Looks, Tells}
+use Rattle.store_reads.proofs.Telling.{Shows, shown_then}
+
+-- what is made of the answers of reads
+pub told : {T : Type 0} (a b : State) (r : Result T Error) (Q : Contents → Type 0) (W : T → Type 0) (P : Contents → T → Type 0) → (HasCleanDisk b → Shows a Q) → IfOk r W
+    → ((c : Contents) → AreSound c → Q c → (x : T) → W x → P c x) → Tells a b r P
+told a b (Ok x) Q W P shows made law = λ clean. let s = shows clean in (s.0, λ c sound is. law c sound (s.1 c sound is) x made)
+told a b (Err e) Q W P shows made law = λ clean. tt
+
+pub ok_both : {T : Type 0} (r : Result T Error) (V W : T → Type 0) → IfOk r V → IfOk r W → IfOk r (λ x. V x × W x)
+ok_both (Ok x) V W v w = (v, w)
+ok_both (Err e) V W v w = tt
+
+-- what a read tells after another showed something
+pub told_then : {T : Type 0} (a b c : State) (r : Result T Error) (Q : Contents → Type 0) (R P : Contents → T → Type 0) → Looks a b → Looks b c → (HasCleanDisk b → Shows a Q) → Tells b c r R
+    → ((d : Contents) → AreSound d → Q d → (x : T) → R d x → P d x) → Tells a c r P
+told_then a b c (Ok x) Q R P one two shows tells law = shown_then a b c Q (λ d. R d x) (λ d. P d x) one two shows tells (λ d sound q r. law d sound q x r)
+told_then a b c (Err e) Q R P one two shows tells law = λ clean. tt
+
+pub shows_as : (a b : State) (P Q : Contents → Type 0) → (HasCleanDisk b → Shows a P) → ((c : Contents) → AreSound c → P c → Q c) → HasCleanDisk b → Shows a Q
+shows_as a b P Q shows law clean = let s = shows clean in (s.0, λ c sound is. law c sound (s.1 c sound is))

@@ -1,0 +1,29 @@
+use Rattle.std.proofs.Common.{◌≡◌, sym, ◌∙◌, IsPermutation, map}
+use Rattle.std.specs.Prelude.{filter}
+use Rattle.sqlite.specs.Held.{state}
+use Rattle.row_reads.specs.Telling.{head_of, lot_row_of}
+use Rattle.rows_answer.specs.Keys.{is_batch_for, is_lot_for}
+use Rattle.rows_of_facts.specs.Image.{stored_batches, stored_lots}
+use Rattle.store_reads.specs.Sums.{totals_told}
+use Rattle.store_reads.proofs.BlankSums.{blanks_told}
+use Rattle.store_reads.proofs.Told.{told}
+use Rattle.store_reads.proofs.Telling.{shown, shown_then}
+use Rattle.store_reads.proofs.reports.blank_totals.Goals as goal
+
+pub returns-clause-value : goal.returns-clause-value
+returns-clause-value g c =
+    let p = c.args.product.now in
+    let lots = c.in_ok-lots.lots.items in
+    let heads = c.in_ok-heads.heads.items in
+    let old = state g.S.Store c.args.conn.now in
+    let mid = state g.S.Store c.lots_of.new.conn in
+    let new = state g.S.Store c.batches_of.new.conn in
+    told old new c.totals_told.result
+    (λ d. IsPermutation (map lot_row_of (filter (is_lot_for p) (stored_lots d.facts))) lots × IsPermutation (map head_of (filter (is_batch_for p) (stored_batches d.facts))) heads)
+    (λ totals. totals ≡ totals_told lots heads) _
+    (shown_then old mid new _ _ _ (record { kept = c.lots_of.ensures.kept; survives = c.lots_of.ensures.survives }) (record { kept = c.batches_of.ensures.kept; survives = c.batches_of.ensures.survives })
+    (shown old mid _ _ c.in_ok-lots.ensures.found (λ d sound is. is)) (shown mid new _ _ c.in_ok-heads.ensures.found (λ d sound is. is)) (λ d sound one two. (one, two)))
+    (rw (c.as_slice.ensures.value, c.as_slice-2.ensures.value) at c.totals_told.ensures)
+    (λ d sound both totals made.
+    made ∙ blanks_told (filter (is_lot_for p) (stored_lots d.facts)) (filter (is_batch_for p) (stored_batches d.facts)) lots heads both.0 both.1
+    ∙ sym (c.blanks_by_rows.ensures d.facts p sound.facts))

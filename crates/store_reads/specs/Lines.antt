@@ -1,0 +1,28 @@
+-- How the records of a batch stand, by what is read of them and of its good cards.
+use Rattle.std.specs.Prelude.{◌+◌, ◌==◌, ℕ, Bool, List, map, filter, find, Option, option_map}
+use Rattle.job_core.specs.declared.rows.RecordLine.{RecordLine}
+use Rattle.job_core.specs.Facts.{Facts}
+use Rattle.row_reads.specs.declared.records.RecordAt.{RecordAt}
+use Rattle.row_reads.specs.declared.sessions.GoodCard.{GoodCard}
+use Rattle.rows_of_facts.specs.Image.{stored_records, stored_sessions}
+use Rattle.rows_answer.specs.Keys.{is_good_of, is_record_of}
+use Rattle.rows_answer.specs.Telling.{cards, line_of}
+
+-- it is of the record at this place
+abbrev pub is_card_at : ℕ → GoodCard → Bool
+is_card_at k g = g.place == k
+
+-- the blank of the first card of the record at this place
+abbrev pub blank_of : List GoodCard → ℕ → Option ℕ
+blank_of good k = option_map (λ (g : GoodCard). g.serial) (find (is_card_at k) good)
+
+abbrev pub line_with : RecordAt → Option ℕ → RecordLine
+line_with r blank = record { rec = r.name; stands = r.stands; sessions = r.spoiled + cards r.stands; blank = blank }
+
+-- the line of a record
+abbrev pub line_told : List GoodCard → RecordAt → RecordLine
+line_told good r = line_with r (blank_of good r.place)
+
+-- the lines of the records of the batch with this id
+abbrev pub lines_with : Facts → ℕ → List RecordLine
+lines_with f id = map (line_of (filter (is_good_of id) (stored_sessions f))) (filter (is_record_of id) (stored_records f))

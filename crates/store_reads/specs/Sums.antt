@@ -1,0 +1,27 @@
+-- How a product's blanks stand, by what is read of its lots and its batches.
+use Rattle.std.specs.Prelude.{List, length, sum_by}
+use Rattle.job_core.specs.declared.rows.BlankTotals.{BlankTotals}
+use Rattle.row_reads.specs.declared.batches.BatchHead.{BatchHead}
+use Rattle.row_reads.specs.declared.lots.LotRow.{LotRow}
+use Rattle.store_reads.specs.declared.sums.BatchSums.{BatchSums}
+use Rattle.store_reads.specs.declared.sums.LotSums.{LotSums}
+
+abbrev pub lot_sums : List LotRow → LotSums
+lot_sums lots = record { total = sum_by (λ (l : LotRow). l.lot.count) lots; discarded = sum_by (λ (l : LotRow). l.discarded) lots }
+
+abbrev pub batch_sums : List BatchHead → BatchSums
+batch_sums heads = record {
+  good = sum_by (λ (h : BatchHead). h.totals.good) heads;
+  running = sum_by (λ (h : BatchHead). h.totals.running) heads;
+  spoiled = sum_by (λ (h : BatchHead). h.totals.spoiled) heads;
+}
+
+abbrev pub totals_told : List LotRow → List BatchHead → BlankTotals
+totals_told lots heads = record {
+  lots = length lots;
+  total = (lot_sums lots).total;
+  good = (batch_sums heads).good;
+  running = (batch_sums heads).running;
+  spoiled = (batch_sums heads).spoiled;
+  discarded = (lot_sums lots).discarded;
+}

@@ -1,0 +1,83 @@
+//! How a product's blanks stand, by the rows of its lots and its batches.
+ghost use Rattle.std.specs.Prelude.{IfOk, ◌≡◌, ◌+◌};
+ghost use Rattle.store_reads.specs.Sums.{batch_sums, lot_sums, totals_told};
+
+use job_core::BlankTotals;
+use row_reads::{BatchHead, LotRow};
+use sqlite::Error;
+
+// Of lots.
+#[derive(Clone, Copy)]
+struct LotSums {
+    total: u64,
+    discarded: u64,
+}
+
+// Of batches.
+#[derive(Clone, Copy)]
+struct BatchSums {
+    good: u64,
+    running: u64,
+    spoiled: u64,
+}
+
+// A sum past 64 bits is an error: sound contents have none.
+fn plus(a: u64, b: u64) -> Result<u64, Error>
+    ensures { IfOk result (λ sum. sum ≡ a + b) }
+{
+    a.checked_add(b).ok_or(Error::InvalidQuery)
+}
+
+fn lot_sums(lots: &[LotRow]) -> Result<LotSums, Error>
+    ensures { IfOk result (λ sums. sums ≡ lot_sums lots.now) }
+{
+    let mut sums = LotSums {
+        total: 0,
+        discarded: 0,
+    };
+    for row in lots {
+        sums = LotSums {
+            total: plus(sums.total, u64::from(row.lot.count))?,
+            discarded: plus(sums.discarded, row.discarded)?,
+        };
+    }
+    Ok(sums)
+}
+
+fn batch_sums(heads: &[BatchHead]) -> Result<BatchSums, Error>
+    ensures { IfOk result (λ sums. sums ≡ batch_sums heads.now) }
+{
+    let mut sums = BatchSums {
+        good: 0,
+        running: 0,
+        spoiled: 0,
+    };
+    for head in heads {
+        sums = BatchSums {
+            good: plus(sums.good, head.totals.good)?,
+            running: plus(sums.running, head.totals.running)?,
+            spoiled: plus(sums.spoiled, head.totals.spoiled)?,
+        };
+    }
+    Ok(sums)
+}
+
+/// The sums over a product's lots and its batches.
+pub(crate) fn totals_told(lots: &[LotRow], heads: &[BatchHead]) -> Result<BlankTotals, Error>
+    ensures { IfOk result (λ totals. totals ≡ totals_told lots.now heads.now) }
+{
+    let LotSums { total, discarded } = lot_sums(lots)?;
+    let BatchSums {
+        good,
+        running,
+        spoiled,
+    } = batch_sums(heads)?;
+    Ok(BlankTotals {
+        lots: lots.len() as u64,
+        total,
+        good,
+        running,
+        spoiled,
+        discarded,
+    })
+}
