@@ -3,7 +3,7 @@ use Rattle.std.proofs.Common.{◌≡◌, ◌≤◌, ◌+◌, ◌==◌, ℕ, leng
 use Rattle.std.specs.Prelude.{option_map, slice_get}
 use Rattle.std.proofs.lemmas.Option.{none-some, same_Some, slice_get_cases}
 use Rattle.store_data.specs.declared.cursor.SegmentView.{SegmentView}
-use Rattle.store_data.specs.Cursor.{PlacedSegment, placed_segment, segment_at, shown}
+use Rattle.store_data.specs.Cursor.{PlacedSegment, segment_at, shown}
 use Rattle.store_data.specs.Sequence.{Application, IsApplication, IsPlan, Plan, Segment}
 
 -- the identifier of a segment of a plan is in its range

@@ -1,4 +1,4 @@
-use Rattle.std.proofs.Common.{◌≡◌, ◌≤◌, None, nat_eq, count_by, sym, subst, ◌∙◌, arith}
+use Rattle.std.proofs.Common.{◌≤◌, nat_eq, count_by, sym, subst, ◌∙◌, arith}
 use Rattle.std.specs.HashMap.{get}
 use Rattle.std.proofs.lemmas.List.{take_all}
 use Rattle.store_reads.specs.Lines.{is_card_at}

@@ -1,4 +1,4 @@
-use Rattle.std.proofs.Common.{◌≡◌, ◌≤◌, ℕ, sym, ◌∙◌, IsPermutation, map}
+use Rattle.std.proofs.Common.{◌≡◌, ◌≤◌, ℕ, ◌∙◌, IsPermutation, map}
 use Rattle.std.specs.Prelude.{count_by, filter}
 use Rattle.sqlite.specs.Held.{state}
 use Rattle.row_reads.specs.CardDecoding.{good_at, place_of, record_at}

@@ -1,4 +1,4 @@
-use Rattle.std.proofs.Common.{◌≡◌, sym, ap, ◌∙◌}
+use Rattle.std.proofs.Common.{◌≡◌, sym, ◌∙◌}
 use Rattle.std.specs.Prelude.{find, option_map, unwrap_or}
 use Rattle.sqlite.specs.Held.{state}
 use Rattle.table_rows.specs.Tables.{StoredBatch}
