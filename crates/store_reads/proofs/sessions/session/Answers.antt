@@ -1,9 +1,10 @@
 use Rattle.std.proofs.Common.{◌≡◌, Some, sym, ◌∙◌}
 use Rattle.std.specs.Prelude.{find, option_map}
 use Rattle.sqlite.specs.Held.{state}
-use Rattle.row_reads.specs.CardDecoding.{session_at}
+use Rattle.job_core.specs.Contents.{Contents}
+use Rattle.row_reads.specs.CardDecoding.{record_at, session_at}
 use Rattle.table_rows.specs.Tables.{StoredBatch}
-use Rattle.rows_answer.specs.Keys.{is_batch, is_session}
+use Rattle.rows_answer.specs.Keys.{is_batch, is_record_at, is_session}
 use Rattle.rows_of_facts.specs.Image.{stored_batches, stored_records, stored_sessions}
 use Rattle.store_reads.specs.Tells.{Looks}
 use Rattle.store_reads.proofs.Found.{no_batch, no_record, no_session, session_told}
