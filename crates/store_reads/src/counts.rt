@@ -1,0 +1,51 @@
+//! What there is is counted.
+ghost use Rattle.std.specs.Prelude.{IfOk, false, length, ◌<◌, ◌^◌, ◌≡◌};
+ghost use Rattle.sqlite.specs.Held.{state};
+ghost use Rattle.store_reads.specs.Tells.{Looks, Tells};
+
+use sqlite::{Alter, Connection, Error};
+
+/// How many products there are.
+pub fn product_count<S: Alter>(conn: &mut Connection<S>) -> Result<u64, Error>
+    requires { conn.old.in_transaction ≡ false }
+    ensures value { Tells (state S.Store conn.old) (state S.Store conn.new) result
+        (λ c answer. answer ≡ length c.facts.products) }
+    ensures looks { Looks (state S.Store conn.old) (state S.Store conn.new) }
+    ensures idle { conn.new.in_transaction ≡ false }
+{
+    Err(Error::InvalidQuery)
+}
+
+/// How many lots there are.
+pub fn lot_count<S: Alter>(conn: &mut Connection<S>) -> Result<u64, Error>
+    requires { conn.old.in_transaction ≡ false }
+    ensures value { Tells (state S.Store conn.old) (state S.Store conn.new) result
+        (λ c answer. answer ≡ length c.facts.lots) }
+    ensures looks { Looks (state S.Store conn.old) (state S.Store conn.new) }
+    ensures idle { conn.new.in_transaction ≡ false }
+{
+    Err(Error::InvalidQuery)
+}
+
+/// How many batches there are.
+pub fn batch_count<S: Alter>(conn: &mut Connection<S>) -> Result<u64, Error>
+    requires { conn.old.in_transaction ≡ false }
+    ensures value { Tells (state S.Store conn.old) (state S.Store conn.new) result
+        (λ c answer. answer ≡ length c.facts.batches) }
+    ensures looks { Looks (state S.Store conn.old) (state S.Store conn.new) }
+    ensures idle { conn.new.in_transaction ≡ false }
+{
+    Err(Error::InvalidQuery)
+}
+
+/// How many sessions there are.
+pub fn session_count<S: Alter>(conn: &mut Connection<S>) -> Result<u64, Error>
+    requires { conn.old.in_transaction ≡ false }
+    ensures value { Tells (state S.Store conn.old) (state S.Store conn.new) result
+        (λ c answer. answer ≡ length c.facts.sessions) }
+    ensures ranged { IfOk result (λ answer. answer < 2 ^ 63) }
+    ensures looks { Looks (state S.Store conn.old) (state S.Store conn.new) }
+    ensures idle { conn.new.in_transaction ≡ false }
+{
+    Err(Error::InvalidQuery)
+}

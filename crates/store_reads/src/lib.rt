@@ -1,0 +1,24 @@
+//! What the database of a store tells of its contents.
+#![tactic(auto)]
+
+mod before;
+mod batches;
+mod counts;
+mod lots;
+mod names;
+mod records;
+mod replies;
+mod reports;
+mod segments;
+mod sessions;
+
+pub use before::before;
+pub use batches::{batch, batch_has, batch_size, batch_totals, is_finished};
+pub use counts::{batch_count, lot_count, product_count, session_count};
+pub use lots::{is_charged, lot, lot_of, overlaps};
+pub use names::product;
+pub use records::{first_waiting, record_state};
+pub use replies::{kept, mark};
+pub use reports::{blank_totals, record_lines};
+pub use segments::segment;
+pub use sessions::{running_session, session};

@@ -1,0 +1,53 @@
+//! Lots and blanks are read.
+ghost use Rattle.std.specs.Prelude.{false, ◌≡◌};
+ghost use Rattle.sqlite.specs.Held.{state};
+ghost use Rattle.job_core.specs.States.{any_overlaps, is_charged, lot_named, lot_of};
+ghost use Rattle.store_reads.specs.Tells.{Looks, Tells};
+
+use job_core::Lot;
+use sqlite::{Alter, Connection, Error};
+use store_data::Name;
+
+/// The lot of this name.
+pub fn lot<S: Alter>(conn: &mut Connection<S>, name: &Name) -> Result<Option<Lot>, Error>
+    requires { conn.old.in_transaction ≡ false }
+    ensures value { Tells (state S.Store conn.old) (state S.Store conn.new) result
+        (λ c answer. answer ≡ lot_named c.facts.lots name.now) }
+    ensures looks { Looks (state S.Store conn.old) (state S.Store conn.new) }
+    ensures idle { conn.new.in_transaction ≡ false }
+{
+    Err(Error::InvalidQuery)
+}
+
+/// The lot in which a blank lies.
+pub fn lot_of<S: Alter>(conn: &mut Connection<S>, blank: u64) -> Result<Option<Lot>, Error>
+    requires { conn.old.in_transaction ≡ false }
+    ensures value { Tells (state S.Store conn.old) (state S.Store conn.new) result
+        (λ c answer. answer ≡ lot_of c.facts.lots blank) }
+    ensures looks { Looks (state S.Store conn.old) (state S.Store conn.new) }
+    ensures idle { conn.new.in_transaction ≡ false }
+{
+    Err(Error::InvalidQuery)
+}
+
+/// Whether a serial of the range lies in a lot.
+pub fn overlaps<S: Alter>(conn: &mut Connection<S>, first: u64, count: u32) -> Result<bool, Error>
+    requires { conn.old.in_transaction ≡ false }
+    ensures value { Tells (state S.Store conn.old) (state S.Store conn.new) result
+        (λ c answer. answer ≡ any_overlaps c.facts.lots first count) }
+    ensures looks { Looks (state S.Store conn.old) (state S.Store conn.new) }
+    ensures idle { conn.new.in_transaction ≡ false }
+{
+    Err(Error::InvalidQuery)
+}
+
+/// Whether an opening or a discard names the blank.
+pub fn is_charged<S: Alter>(conn: &mut Connection<S>, blank: u64) -> Result<bool, Error>
+    requires { conn.old.in_transaction ≡ false }
+    ensures value { Tells (state S.Store conn.old) (state S.Store conn.new) result
+        (λ c answer. answer ≡ is_charged c.facts blank) }
+    ensures looks { Looks (state S.Store conn.old) (state S.Store conn.new) }
+    ensures idle { conn.new.in_transaction ≡ false }
+{
+    Err(Error::InvalidQuery)
+}

@@ -1,0 +1,35 @@
+//! Kept replies and marks are read.
+ghost use Rattle.std.specs.Prelude.{false, option_map, ◌≡◌};
+ghost use Rattle.sqlite.specs.Held.{state};
+ghost use Rattle.job_core.specs.Contents.{entry_of, mark_of, reply_of_entry};
+ghost use Rattle.store_reads.specs.Tells.{Looks, Tells};
+
+use job_core::KeptReply;
+use sqlite::{Alter, Connection, Error};
+use store_data::Name;
+
+/// The reply that is kept under a client's number.
+pub fn kept<S: Alter>(
+    conn: &mut Connection<S>,
+    client: &Name,
+    number: u64,
+) -> Result<Option<KeptReply>, Error>
+    requires { conn.old.in_transaction ≡ false }
+    ensures value { Tells (state S.Store conn.old) (state S.Store conn.new) result
+        (λ c answer. answer ≡ option_map reply_of_entry (entry_of c.kept client.now number)) }
+    ensures looks { Looks (state S.Store conn.old) (state S.Store conn.new) }
+    ensures idle { conn.new.in_transaction ≡ false }
+{
+    Err(Error::InvalidQuery)
+}
+
+/// The number up to which a client has released its numbers; 0 where it never did.
+pub fn mark<S: Alter>(conn: &mut Connection<S>, client: &Name) -> Result<u64, Error>
+    requires { conn.old.in_transaction ≡ false }
+    ensures value { Tells (state S.Store conn.old) (state S.Store conn.new) result
+        (λ c answer. answer ≡ mark_of c.marks client.now) }
+    ensures looks { Looks (state S.Store conn.old) (state S.Store conn.new) }
+    ensures idle { conn.new.in_transaction ≡ false }
+{
+    Err(Error::InvalidQuery)
+}

@@ -1,0 +1,42 @@
+//! Sessions are read.
+ghost use Rattle.std.specs.Prelude.{IfOk, IfSome, false, ◌≡◌};
+ghost use Rattle.sqlite.specs.Held.{state};
+ghost use Rattle.store_data.specs.Cursor.{IsCursor};
+ghost use Rattle.job_core.specs.declared.rows.SessionRow.{SessionRow as SessionRowValue};
+ghost use Rattle.job_core.specs.Rows.{session_row_of};
+ghost use Rattle.job_core.specs.States.{running_session};
+ghost use Rattle.store_reads.specs.Tells.{Looks, Tells};
+
+use job_core::SessionRow;
+use sqlite::{Alter, Connection, Error};
+use store_data::Name;
+
+/// The session of this number.
+pub fn session<S: Alter>(
+    conn: &mut Connection<S>,
+    session: u64,
+) -> Result<Option<SessionRow>, Error>
+    requires { conn.old.in_transaction ≡ false }
+    ensures value { Tells (state S.Store conn.old) (state S.Store conn.new) result
+        (λ c answer. answer ≡ session_row_of c.facts session) }
+    ensures ranged { IfOk result
+        (λ answer. IfSome answer (λ (row : SessionRowValue). IsCursor row.cursor)) }
+    ensures looks { Looks (state S.Store conn.old) (state S.Store conn.new) }
+    ensures idle { conn.new.in_transaction ≡ false }
+{
+    Err(Error::InvalidQuery)
+}
+
+/// The number of a machine's running session.
+pub fn running_session<S: Alter>(
+    conn: &mut Connection<S>,
+    machine: &Name,
+) -> Result<Option<u64>, Error>
+    requires { conn.old.in_transaction ≡ false }
+    ensures value { Tells (state S.Store conn.old) (state S.Store conn.new) result
+        (λ c answer. answer ≡ running_session c.facts machine.now) }
+    ensures looks { Looks (state S.Store conn.old) (state S.Store conn.new) }
+    ensures idle { conn.new.in_transaction ≡ false }
+{
+    Err(Error::InvalidQuery)
+}
