@@ -1,6 +1,6 @@
 -- What a query over one table shows of the rows that fill it.
 use Rattle.std.proofs.Common.{◌≡◌, suc, Bool, true, false, List, [], ◌∷◌, map, All, Option, Some, None, inl, inr, refl, sym, ap, subst, ◌∙◌, arith}
-use Rattle.std.specs.Prelude.{AllPairs, filter, find}
+use Rattle.std.specs.Prelude.{filter, find}
 use Rattle.std.specs.List.Sorted.{IsPermutation}
 use Rattle.std.specs.Option.{option_to_list}
 use Rattle.std.proofs.lemmas.Bool.{cases_Bool, cond-false, cond-true}
@@ -12,6 +12,7 @@ use Rattle.sqlite.proofs.Callers.{one_permutation}
 use Rattle.sqlite_keyed.proofs.ListLemmas.{IsPermutation-filter, filter-map}
 use Rattle.sql_base.proofs.Replacing.{nothing_found}
 use Rattle.sql_base.proofs.Selecting.{map_map, map_same}
+use Rattle.table_rows.specs.Tables.{PassesOnce}
 
 filter_same : {X : Type 0} (p q : X → Bool) → ((x : X) → p x ≡ q x) → (xs : List X) → filter p xs ≡ filter q xs
 filter_same p q same [] = refl
@@ -55,11 +56,7 @@ module _ {X : Type 0} (p : X → Bool) where
     | inr miss ↦ find_passes xs x (sym (cond-false (p y) (Some y) (find p xs) miss) ∙ is)
   ]
 
-  -- at most one passes
-  abbrev pub PassOnce : List X → Type 0
-  PassOnce xs = AllPairs (λ x y. p x ≡ true → p y ≡ false) xs
-
-  filter_once : (xs : List X) → PassOnce xs → filter p xs ≡ option_to_list (find p xs)
+  filter_once : (xs : List X) → PassesOnce p xs → filter p xs ≡ option_to_list (find p xs)
   filter_once [] once = refl
   filter_once (x ∷ xs) once = elim (cases_Bool (p x)) [
     | inl hit ↦
@@ -69,7 +66,7 @@ module _ {X : Type 0} (p : X → Bool) where
   ]
 
   -- so it alone is answered
-  pub one_answered : (told : X → Row) (xs : List X) (rows : List Row) → PassOnce xs → IsPermutation (map told (filter p xs)) rows → rows ≡ map told (option_to_list (find p xs))
+  pub one_answered : (told : X → Row) (xs : List X) (rows : List Row) → PassesOnce p xs → IsPermutation (map told (filter p xs)) rows → rows ≡ map told (option_to_list (find p xs))
   one_answered told xs rows once got = few (find p xs) (subst (λ zs. IsPermutation (map told zs) rows) (filter_once xs once) got)
     where
       few : (o : Option X) → IsPermutation (map told (option_to_list o)) rows → rows ≡ map told (option_to_list o)

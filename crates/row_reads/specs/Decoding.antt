@@ -2,9 +2,10 @@
 use Rattle.std.specs.Prelude.{◌≡◌, ℕ, pos, Bool, false, not, List, [], ◌∷◌, Option, Some, None}
 use Rattle.std.specs.Ordering.{int_eq}
 use Rattle.sqlite.specs.declared.types.Value.{Value}
-use Rattle.sqlite.specs.declared.types.Value.TheVariants.{Int}
+use Rattle.sqlite.specs.declared.types.Value.TheVariants.{Blob, Int, Text}
 use Rattle.sqlite.specs.Order.{Row, column}
 use Rattle.store_data.specs.declared.row.Product.{Product}
+use Rattle.job_core.specs.declared.rows.KeptReply.{KeptReply}
 
 abbrev pub nat_in : Value → ℕ
 nat_in (Int (pos n)) = n
@@ -14,9 +15,20 @@ abbrev pub flag_in : Value → Bool
 flag_in (Int n) = not (int_eq n (pos 0))
 flag_in _ = false
 
+abbrev pub text_in : Value → List ℕ
+text_in (Text text) = text
+text_in _ = []
+
+abbrev pub blob_in : Value → List ℕ
+blob_in (Blob bytes) = bytes
+blob_in _ = []
+
 -- the product of this code
 abbrev pub product_in : List ℕ → Row → Product
 product_in code row = record { code = code; max = nat_in (column row 0); low = nat_in (column row 1); check = flag_in (column row 2) }
+
+abbrev pub reply_in : Row → KeptReply
+reply_in row = record { ask = blob_in (column row 0); status = nat_in (column row 1); body = blob_in (column row 2) }
 
 -- the first of them, if there is one
 abbrev pub IsFirst : {X : Type 0} → List X → Option X → Type 0

@@ -1,2 +1,7 @@
 pub mod Texts
+pub mod NameTexts
+pub mod CardTexts
 pub mod Decoding
+pub mod CardDecoding
+pub mod Keys
+pub mod CardKeys

@@ -3,6 +3,13 @@
 
 mod marks;
 mod products;
+mod records;
+mod replies;
+mod sessions;
+mod values;
 
 pub use marks::mark;
 pub use products::product;
+pub use records::{RecordAt, record_at, record_named};
+pub use replies::kept;
+pub use sessions::{SessionAt, running_session, session};

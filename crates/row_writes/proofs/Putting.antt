@@ -6,18 +6,19 @@ use Rattle.sqlite.specs.Order.{Row}
 use Rattle.sqlite.specs.State.{Executes, State}
 use Rattle.store_data.specs.declared.row.Product.{Product}
 use Rattle.job_core.specs.declared.facts.Lot.{Lot}
-use Rattle.job_core.specs.Contents.{Entry}
+use Rattle.job_core.specs.Contents.{Entry, Mark}
 use Rattle.sql_base.specs.Effects.{Inserted}
 use Rattle.sql_base.proofs.Inserting.{inserted}
 use Rattle.sql_base.proofs.Values.{cast_int, cast_null}
-use Rattle.sql_tables.specs.Tables.{lot_table, our_schema, product_table, remake_table, reply_table, word_table}
-use Rattle.table_rows.specs.Tables.{StoredLot, StoredRemake, StoredWord, with_lot, with_product, with_remake, with_reply, with_word}
-use Rattle.sql_rows.specs.Encoding.{flag, lot_row, number, product_row, remake_row, reply_row, word_row}
+use Rattle.sql_tables.specs.Tables.{lot_table, mark_table, our_schema, product_table, remake_table, reply_table, word_table}
+use Rattle.table_rows.specs.After.{new_lot}
+use Rattle.table_rows.specs.Tables.{StoredRemake, StoredWord, with_lot, with_mark, with_product, with_remake, with_reply, with_word}
+use Rattle.sql_rows.specs.Encoding.{flag, lot_row, mark_row, number, product_row, remake_row, reply_row, word_row}
 use Rattle.sql_rows.specs.Image.{Moves, filled, unnumbered}
 use Rattle.sql_rows.proofs.Filling.{refilled, row_put}
 use Rattle.sql_tables.proofs.Version.{none_acts}
-use Rattle.row_writes.specs.Texts.{add_lot_terms, add_lot_text, add_remake_terms, add_remake_text, add_product_terms, add_product_text, add_reply_terms, add_reply_text, add_word_terms, add_word_text}
-use Rattle.row_writes.proofs.Meanings.{add_lot_is, add_lot_plain, add_remake_is, add_remake_plain, add_product_is, add_product_plain, add_reply_is, add_reply_plain, add_word_is, add_word_plain}
+use Rattle.row_writes.specs.Texts.{add_lot_terms, add_lot_text, add_mark_terms, add_mark_text, add_remake_terms, add_remake_text, add_product_terms, add_product_text, add_reply_terms, add_reply_text, add_word_terms, add_word_text}
+use Rattle.row_writes.proofs.Meanings.{add_lot_is, add_lot_plain, add_mark_is, add_mark_plain, add_remake_is, add_remake_plain, add_product_is, add_product_plain, add_reply_is, add_reply_plain, add_word_is, add_word_plain}
 
 product_cast : (p : Product) → cast_row product_table (Null ∷ product_row p) ≡ Null ∷ product_row p
 product_cast p = rw (cast_null, cast_int (pos p.max), cast_int (pos p.low), cast_int (pos (flag p.check))) refl
@@ -67,10 +68,6 @@ word_added old new w count ran t image =
     refilled (take 7 (filled t)) (drop 8 (filled t)) word_table refl refl t (with_word w t) old new
     (unnumbered word_table rows) (unnumbered word_table (word_row w ∷ rows)) refl refl refl refl it.kept it.others (row_put word_table (word_row w) rows old new it) image
 
--- a new lot has no discarded blank
-abbrev pub new_lot : Lot → StoredLot
-new_lot l = record { lot = l; discarded = 0 }
-
 abbrev pub lot_values : Lot → Row
 lot_values l = Text l.name ∷ Text l.product ∷ number l.first ∷ number l.count ∷ []
 
@@ -106,3 +103,19 @@ remake_added old new r count ran t image =
     let rows = map remake_row t.remakes in
     refilled (take 9 (filled t)) (drop 10 (filled t)) remake_table refl refl t (with_remake r t) old new
     (unnumbered remake_table rows) (unnumbered remake_table (remake_row r ∷ rows)) refl refl refl refl it.kept it.others (row_put remake_table (remake_row r) rows old new it) image
+
+mark_cast : (m : Mark) → cast_row mark_table (Null ∷ mark_row m) ≡ Null ∷ mark_row m
+mark_cast m = rw (cast_null, cast_int (pos m.upto)) refl
+
+mark_inserted : (old new : State) (m : Mark) (count : ℕ) → old.now.schema ≡ our_schema → Executes add_mark_text (mark_row m) old new (Ok count)
+    → Inserted our_schema mark_table (Null ∷ mark_row m) old new
+mark_inserted old new m count ours =
+    inserted add_mark_text (mark_row m) old new our_schema ours 11 mark_table add_mark_terms 3 add_mark_is add_mark_plain refl refl refl
+    (Null ∷ mark_row m) (Null ∷ mark_row m) refl (mark_cast m) (none_acts 21) count
+
+pub mark_added : (old new : State) (m : Mark) (count : ℕ) → Executes add_mark_text (mark_row m) old new (Ok count) → Moves (with_mark m) old.now new.now
+mark_added old new m count ran t image =
+    let it = mark_inserted old new m count image.ours ran in
+    let rows = map mark_row t.marks in
+    refilled (take 11 (filled t)) (drop 12 (filled t)) mark_table refl refl t (with_mark m t) old new
+    (unnumbered mark_table rows) (unnumbered mark_table (mark_row m ∷ rows)) refl refl refl refl it.kept it.others (row_put mark_table (mark_row m) rows old new it) image

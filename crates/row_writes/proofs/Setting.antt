@@ -1,61 +1,43 @@
--- What the UPDATE of a session does to the rows.
-use Rattle.std.proofs.Common.{◌≡◌, ℕ, ℤ, pos, List, [], ◌∷◌, length, map, take, drop, filter, ◌==◌, ◌≤◌, cond, Bool, true, false, Ok, Equal, refl, sym, ap, subst, ◌∙◌}
-use Rattle.std.specs.List.Sorted.{IsPermutation}
-use Rattle.std.proofs.lemmas.List.Sorted.{IsPermutation-map, IsPermutation-trans}
-use Rattle.sqlite.specs.declared.types.Value.TheVariants.{Int}
+-- What each UPDATE does to the rows.
+use Rattle.std.proofs.Common.{◌≡◌, ℕ, ℤ, pos, [], ◌∷◌, map, take, drop, ◌==◌, ◌&&◌, bytes_eq, true, List, Ok, refl, ap, ◌∙◌}
+use Rattle.sqlite.specs.declared.types.Value.{Value}
+use Rattle.sqlite.specs.declared.types.Value.TheVariants.{Int, Null, Text}
 use Rattle.sqlite.specs.Cast.{cast, cast_row}
-use Rattle.sqlite.specs.Collation.TheVariants.{Binary}
 use Rattle.sqlite.specs.Kind.TheVariants.{Integer}
-use Rattle.sqlite.specs.Ops.{binary, is_true}
-use Rattle.sqlite.specs.Order.{Row, column}
+use Rattle.sqlite.specs.Order.{Row}
 use Rattle.sqlite.specs.State.{Executes, State}
-use Rattle.sqlite.specs.Tree.{rowid}
-use Rattle.sqlite_sql.specs.declared.ops.BinaryOp.TheVariants.{Compare}
-use Rattle.sqlite_sql.specs.declared.ops.CompareOp.TheVariants.{Eq}
-use Rattle.sqlite_value.specs.Order.{value_cmp}
 use Rattle.store_data.specs.declared.cursor.Cursor.{Cursor}
+use Rattle.job_core.specs.declared.facts.RecordState.{RecordState}
 use Rattle.job_core.specs.declared.facts.SessionState.{SessionState}
-use Rattle.sql_base.specs.Effects.{Updated}
-use Rattle.sql_base.specs.Rowids.{AreApart}
-use Rattle.sql_base.proofs.Rowids.{few_apart, one_updated}
-use Rattle.sql_base.proofs.Selecting.{map_map, map_same, passes, shown}
-use Rattle.sql_base.proofs.Tests.{alone, equals, same_int}
+use Rattle.job_core.specs.declared.facts.SessionState.TheVariants as session
+use Rattle.job_core.specs.declared.rows.BatchTotals.{BatchTotals}
+use Rattle.sql_base.proofs.Selecting.{passes, shown}
+use Rattle.sql_base.proofs.Tests.{one_test, same_int, same_text, two_tests}
 use Rattle.sql_base.proofs.Updating.{updated}
 use Rattle.sql_base.proofs.Values.{cast_int, cast_null}
-use Rattle.sql_tables.specs.Tables.{our_schema, session_table}
-use Rattle.table_rows.specs.Tables.{StoredSession, session_set, with_session_set}
-use Rattle.sql_rows.specs.Encoding.{flag, number, session_code, session_row}
-use Rattle.sql_rows.specs.Image.{IsFilled, Moves, by_rowid, filled}
+use Rattle.sql_tables.specs.Tables.{batch_table, lot_table, our_schema, record_table, session_table}
+use Rattle.sql_tables.proofs.Version.{none_acts}
+use Rattle.table_rows.specs.Tables.{StoredBatch, StoredLot, StoredRecord, StoredSession, closed_set, end_set, lot_set, record_set, session_set, totals_set, with_closed_set, with_end_set, with_lot_set, with_record_set, with_session_set, with_totals_set}
+use Rattle.sql_rows.specs.Encoding.{batch_row, flag, lot_row, number, record_code, record_row, session_code, session_row}
+use Rattle.sql_rows.specs.Image.{Moves, by_rowid, filled, unnumbered}
+use Rattle.sql_rows.proofs.Changing.{rows_set, unnumbered_set}
 use Rattle.sql_rows.proofs.Filling.{refilled}
 use Rattle.row_writes.specs.Texts.{by_id, set_session_columns, set_session_text}
+use Rattle.row_writes.specs.Changes.{by_first_column, by_place, by_second_column, set_closed_columns, set_closed_text, set_end_columns, set_end_text, set_lot_columns, set_lot_text, set_record_columns, set_record_text, set_totals_columns, set_totals_text}
+use Rattle.row_writes.proofs.ChangeMeanings.{set_closed_is, set_closed_plain, set_end_is, set_end_plain, set_lot_is, set_lot_plain, set_record_is, set_record_plain, set_totals_is, set_totals_plain}
 use Rattle.row_writes.proofs.Meanings.{set_session_is, set_session_plain}
-use Rattle.sql_tables.proofs.Version.{none_acts}
+
+-- an integer under which a row is put back is the rowid that it had
+kept_id : (v : Value) (n : ℤ) → v ≡ Int n → cast Integer v ≡ Int n
+kept_id v n is = ap (cast Integer) is ∙ cast_int n
 
 module _ (id : ℕ) (state : SessionState) (words : ℕ) (cursor : Cursor) where
   abbrev pub set_session_values : Row
   set_session_values =
       number id ∷ number (session_code state) ∷ number words ∷ number cursor.app ∷ number cursor.segment ∷ number cursor.offset ∷ number cursor.block ∷ []
 
-  abbrev hit : Row → Bool
-  hit = passes by_id set_session_values
-
-  abbrev put : Row → Row
-  put s = cast_row session_table (drop 1 s)
-
-  abbrev show : Row → Row
-  show = shown set_session_columns set_session_values
-
-  abbrev set : StoredSession → StoredSession
-  set = session_set id state words cursor
-
-  by_its_id : (r : Row) → hit r ≡ true → value_cmp (rowid r) (Int (pos id)) ≡ Equal
-  by_its_id r h = equals (column r 0) (pos id) (sym (alone (is_true (binary (Compare Eq Binary) (column r 0) (Int (pos id))))) ∙ h)
-
-  typed_hit : (s : StoredSession) → hit (session_row s) ≡ (s.id == id)
-  typed_hit s = alone (is_true (binary (Compare Eq Binary) (Int (pos s.id)) (Int (pos id)))) ∙ same_int s.id id
-
-  typed_put : (s : StoredSession) → put (show (session_row s)) ≡ session_row (record s { state = state; words = words; cursor = cursor })
-  typed_put s =
+  session_put : (s : StoredSession) → cast_row session_table (drop 1 (shown set_session_columns set_session_values (session_row s))) ≡ session_row (record s { state = state; words = words; cursor = cursor })
+  session_put s =
       rw (
         cast_int (pos s.id),
         cast_null,
@@ -71,35 +53,142 @@ module _ (id : ℕ) (state : SessionState) (words : ℕ) (cursor : Cursor) where
         cast_int (pos cursor.block),
       ) refl
 
-  either : (b : Bool) (s : StoredSession) → cond b (put (show (session_row s))) (session_row s) ≡ session_row (cond b (record s { state = state; words = words; cursor = cursor }) s)
-  either true s = typed_put s
-  either false s = refl
-
-  abbrev changed : Row → Row
-  changed r = cond (hit r) (put (show r)) r
-
-  typed : (s : StoredSession) → changed (session_row s) ≡ session_row (set s)
-  typed s = ap (λ b. cond b (put (show (session_row s))) (session_row s)) (typed_hit s) ∙ either (s.id == id) s
-
-  sessions_changed : (xs : List StoredSession) → map changed (map session_row xs) ≡ map session_row (map set xs)
-  sessions_changed xs = map_map changed session_row xs ∙ map_same (λ s. changed (session_row s)) (λ s. session_row (set s)) typed xs ∙ sym (map_map session_row set xs)
-
-  row_set : (xs : List StoredSession) (old new : State) → Updated our_schema session_table hit show old new
-      → IsFilled (by_rowid session_table (map session_row xs)) old.now.trees → IsFilled (by_rowid session_table (map session_row (map set xs))) new.now.trees
-  row_set xs old new it is =
-      let db = old.now.trees 12 in
-      let few : length (filter hit db) ≤ 1 = few_apart hit (Int (pos id)) by_its_id db is.apart.apart in
-      let keeps = λ (r : Row) (n : ℤ) (e : rowid r ≡ Int n). ap (cast Integer) e ∙ cast_int n in
-      let one = one_updated hit show put db it.found is.apart few it.all (λ r n e. e) keeps in
-      let moved = subst (λ rows. IsPermutation rows (map changed db)) (sessions_changed xs) (IsPermutation-map changed _ _ is.rows) in
-      record {
-        rows = subst (IsPermutation (map session_row (map set xs))) (sym it.rows) (IsPermutation-trans _ _ _ moved one.0);
-        apart = subst AreApart (sym it.rows) one.1;
-      }
-
   pub session_changed : (old new : State) (count : ℕ) → Executes set_session_text set_session_values old new (Ok count) → Moves (with_session_set id state words cursor) old.now new.now
   session_changed old new count ran t image =
       let it = updated set_session_text set_session_values old new our_schema image.ours 6 session_table by_id set_session_columns set_session_is set_session_plain refl (none_acts 12) count ran in
+      let change = λ (s : StoredSession). let s2 : StoredSession = record s { state = state; words = words; cursor = cursor } in s2 in
+      let moves = rows_set session_table session_row (passes by_id set_session_values) (shown set_session_columns set_session_values) (λ s. s.id == id) (λ r n is. is)
+      change (λ r. kept_id _) t.sessions old new it (λ s. one_test (same_int s.id id)) session_put in
       refilled (take 6 (filled t)) (drop 7 (filled t)) session_table refl refl t (with_session_set id state words cursor t) old new
-      (by_rowid session_table (map session_row t.sessions)) (by_rowid session_table (map session_row (map set t.sessions))) refl refl refl refl it.kept it.others
-      (row_set t.sessions old new it) image
+      (by_rowid session_table (map session_row t.sessions)) (by_rowid session_table (map session_row (map (session_set id state words cursor) t.sessions))) refl refl refl refl it.kept it.others moves image
+
+module _ (name : List ℕ) (discarded : ℕ) where
+  abbrev pub set_lot_values : Row
+  set_lot_values = Text name ∷ number discarded ∷ []
+
+  lot_put : (l : StoredLot) → drop 1 (cast_row lot_table (drop 1 (shown set_lot_columns set_lot_values (Null ∷ lot_row l)))) ≡ lot_row (record l { discarded = discarded })
+  lot_put l = rw (cast_int (pos l.lot.first), cast_int (pos l.lot.count), cast_int (pos discarded)) refl
+
+  pub lot_changed : (old new : State) (count : ℕ) → Executes set_lot_text set_lot_values old new (Ok count) → Moves (with_lot_set name discarded) old.now new.now
+  lot_changed old new count ran t image =
+      let it = updated set_lot_text set_lot_values old new our_schema image.ours 2 lot_table by_first_column set_lot_columns set_lot_is set_lot_plain refl (none_acts 3) count ran in
+      let change = λ (l : StoredLot). let l2 : StoredLot = record l { discarded = discarded } in l2 in
+      let moves = unnumbered_set lot_table lot_row (passes by_first_column set_lot_values) (shown set_lot_columns set_lot_values) (λ l. bytes_eq l.lot.name name) (λ r n is. is)
+      change (λ r. kept_id _) t.lots old new it (λ l. one_test (same_text l.lot.name name)) lot_put (λ v r. refl) (λ v r. refl) in
+      refilled (take 2 (filled t)) (drop 3 (filled t)) lot_table refl refl t (with_lot_set name discarded t) old new
+      (unnumbered lot_table (map lot_row t.lots)) (unnumbered lot_table (map lot_row (map (lot_set name discarded) t.lots))) refl refl refl refl it.kept it.others moves image
+
+module _ (id : ℕ) (totals : BatchTotals) where
+  abbrev pub set_totals_values : Row
+  set_totals_values =
+      number id ∷ number totals.waiting ∷ number totals.running ∷ number totals.failed ∷ number totals.withdrawn ∷ number totals.good ∷ number totals.sessions ∷ number totals.spoiled ∷ []
+
+  abbrev with_counters : StoredBatch → StoredBatch
+  with_counters b = record b {
+    waiting = totals.waiting;
+    running = totals.running;
+    failed = totals.failed;
+    withdrawn = totals.withdrawn;
+    good = totals.good;
+    sessions = totals.sessions;
+    spoiled = totals.spoiled;
+  }
+
+  totals_put : (b : StoredBatch) → cast_row batch_table (drop 1 (shown set_totals_columns set_totals_values (batch_row b))) ≡ batch_row (with_counters b)
+  totals_put b =
+      rw (
+        cast_int (pos b.id),
+        cast_null,
+        cast_int (pos (flag b.closed)),
+        cast_int (pos totals.waiting),
+        cast_int (pos totals.running),
+        cast_int (pos totals.failed),
+        cast_int (pos totals.withdrawn),
+        cast_int (pos totals.good),
+        cast_int (pos totals.sessions),
+        cast_int (pos totals.spoiled),
+      ) refl
+
+  pub totals_changed : (old new : State) (count : ℕ) → Executes set_totals_text set_totals_values old new (Ok count) → Moves (with_totals_set id totals) old.now new.now
+  totals_changed old new count ran t image =
+      let it = updated set_totals_text set_totals_values old new our_schema image.ours 3 batch_table by_id set_totals_columns set_totals_is set_totals_plain refl (none_acts 5) count ran in
+      let moves = rows_set batch_table batch_row (passes by_id set_totals_values) (shown set_totals_columns set_totals_values) (λ b. b.id == id) (λ r n is. is)
+      with_counters (λ r. kept_id _) t.batches old new it (λ b. one_test (same_int b.id id)) totals_put in
+      refilled (take 3 (filled t)) (drop 4 (filled t)) batch_table refl refl t (with_totals_set id totals t) old new
+      (by_rowid batch_table (map batch_row t.batches)) (by_rowid batch_table (map batch_row (map (totals_set id totals) t.batches))) refl refl refl refl it.kept it.others moves image
+
+module _ (name : List ℕ) where
+  abbrev pub set_closed_values : Row
+  set_closed_values = Text name ∷ []
+
+  closed_put : (b : StoredBatch) → cast_row batch_table (drop 1 (shown set_closed_columns set_closed_values (batch_row b))) ≡ batch_row (record b { closed = true })
+  closed_put b =
+      rw (
+        cast_int (pos b.id),
+        cast_null,
+        cast_int (pos 1),
+        cast_int (pos b.waiting),
+        cast_int (pos b.running),
+        cast_int (pos b.failed),
+        cast_int (pos b.withdrawn),
+        cast_int (pos b.good),
+        cast_int (pos b.sessions),
+        cast_int (pos b.spoiled),
+      ) refl
+
+  pub closed_changed : (old new : State) (count : ℕ) → Executes set_closed_text set_closed_values old new (Ok count) → Moves (with_closed_set name) old.now new.now
+  closed_changed old new count ran t image =
+      let it = updated set_closed_text set_closed_values old new our_schema image.ours 3 batch_table by_second_column set_closed_columns set_closed_is set_closed_plain refl (none_acts 5) count ran in
+      let change = λ (b : StoredBatch). let b2 : StoredBatch = record b { closed = true } in b2 in
+      let moves = rows_set batch_table batch_row (passes by_second_column set_closed_values) (shown set_closed_columns set_closed_values) (λ b. bytes_eq b.name name) (λ r n is. is)
+      change (λ r. kept_id _) t.batches old new it (λ b. one_test (same_text b.name name)) closed_put in
+      refilled (take 3 (filled t)) (drop 4 (filled t)) batch_table refl refl t (with_closed_set name t) old new
+      (by_rowid batch_table (map batch_row t.batches)) (by_rowid batch_table (map batch_row (map (closed_set name) t.batches))) refl refl refl refl it.kept it.others moves image
+
+module _ (batch place : ℕ) (state : RecordState) (spoiled remakes : ℕ) where
+  abbrev pub set_record_values : Row
+  set_record_values = number batch ∷ number place ∷ number (record_code state) ∷ number spoiled ∷ number remakes ∷ []
+
+  record_put : (r : StoredRecord) → drop 1 (cast_row record_table (drop 1 (shown set_record_columns set_record_values (Null ∷ record_row r))))
+      ≡ record_row (record r { state = state; spoiled = spoiled; remakes = remakes })
+  record_put r = rw (cast_int (pos r.batch), cast_int (pos r.place), cast_int (pos (record_code state)), cast_int (pos spoiled), cast_int (pos remakes)) refl
+
+  pub record_changed : (old new : State) (count : ℕ) → Executes set_record_text set_record_values old new (Ok count) → Moves (with_record_set batch place state spoiled remakes) old.now new.now
+  record_changed old new count ran t image =
+      let it = updated set_record_text set_record_values old new our_schema image.ours 4 record_table by_place set_record_columns set_record_is set_record_plain refl (none_acts 7) count ran in
+      let change = λ (r : StoredRecord). let r2 : StoredRecord = record r { state = state; spoiled = spoiled; remakes = remakes } in r2 in
+      let moves = unnumbered_set record_table record_row (passes by_place set_record_values) (shown set_record_columns set_record_values) (λ r. (r.batch == batch) && (r.place == place)) (λ r n is. is)
+      change (λ r. kept_id _) t.records old new it (λ r. two_tests (same_int r.batch batch) (same_int r.place place)) record_put (λ v r. refl) (λ v r. refl) in
+      refilled (take 4 (filled t)) (drop 5 (filled t)) record_table refl refl t (with_record_set batch place state spoiled remakes t) old new
+      (unnumbered record_table (map record_row t.records)) (unnumbered record_table (map record_row (map (record_set batch place state spoiled remakes) t.records)))
+      refl refl refl refl it.kept it.others moves image
+
+module _ (id : ℕ) where
+  abbrev pub set_end_values : Row
+  set_end_values = number id ∷ []
+
+  end_put : (s : StoredSession) → cast_row session_table (drop 1 (shown set_end_columns set_end_values (session_row s))) ≡ session_row (record s { state = session.Spoiled; ended = true })
+  end_put s =
+      rw (
+        cast_int (pos s.id),
+        cast_null,
+        cast_int (pos s.batch),
+        cast_int (pos s.place),
+        cast_int (pos s.serial),
+        cast_int (pos 2),
+        cast_int (pos 1),
+        cast_int (pos s.words),
+        cast_int (pos s.cursor.app),
+        cast_int (pos s.cursor.segment),
+        cast_int (pos s.cursor.offset),
+        cast_int (pos s.cursor.block),
+      ) refl
+
+  pub end_changed : (old new : State) (count : ℕ) → Executes set_end_text set_end_values old new (Ok count) → Moves (with_end_set id) old.now new.now
+  end_changed old new count ran t image =
+      let it = updated set_end_text set_end_values old new our_schema image.ours 6 session_table by_id set_end_columns set_end_is set_end_plain refl (none_acts 12) count ran in
+      let change = λ (s : StoredSession). let s2 : StoredSession = record s { state = session.Spoiled; ended = true } in s2 in
+      let moves = rows_set session_table session_row (passes by_id set_end_values) (shown set_end_columns set_end_values) (λ s. s.id == id) (λ r n is. is)
+      change (λ r. kept_id _) t.sessions old new it (λ s. one_test (same_int s.id id)) end_put in
+      refilled (take 6 (filled t)) (drop 7 (filled t)) session_table refl refl t (with_end_set id t) old new
+      (by_rowid session_table (map session_row t.sessions)) (by_rowid session_table (map session_row (map (end_set id) t.sessions))) refl refl refl refl it.kept it.others moves image

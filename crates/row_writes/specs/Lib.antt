@@ -1,1 +1,3 @@
+pub mod BatchTexts
 pub mod Texts
+pub mod Changes

@@ -48,3 +48,22 @@ add_remake_text = codes "INSERT INTO remake (batch, place, turn) VALUES (?1, ?2,
 
 abbrev pub add_remake_terms : List Term
 add_remake_terms = lit Null ∷ col 0 0 ∷ col 0 1 ∷ col 0 2 ∷ []
+
+abbrev pub add_mark_text : List ℕ
+add_mark_text = codes "INSERT INTO mark (client, upto) VALUES (?1, ?2)"
+
+abbrev pub add_mark_terms : List Term
+add_mark_terms = lit Null ∷ col 0 0 ∷ col 0 1 ∷ []
+
+abbrev pub add_session_text : List ℕ
+add_session_text = codes "INSERT INTO session (id, machine, batch, place, serial, state, ended, words, app, segment, at_offset, block) VALUES (?1, ?2, ?3, ?4, ?5, 0, 0, 0, 0, 0, 0, 0)"
+
+abbrev pub add_session_terms : List Term
+add_session_terms =
+    col 0 0 ∷ lit Null ∷ col 0 1 ∷ col 0 2 ∷ col 0 3 ∷ col 0 4 ∷ lit (Int (pos 0)) ∷ lit (Int (pos 0)) ∷ lit (Int (pos 0)) ∷ lit (Int (pos 0)) ∷ lit (Int (pos 0)) ∷ lit (Int (pos 0)) ∷ lit (Int (pos 0)) ∷ []
+
+abbrev pub add_blank_text : List ℕ
+add_blank_text = codes "INSERT INTO blank (serial, lot, kind) VALUES (?1, ?2, ?3)"
+
+abbrev pub add_blank_terms : List Term
+add_blank_terms = col 0 0 ∷ lit Null ∷ col 0 1 ∷ col 0 2 ∷ []

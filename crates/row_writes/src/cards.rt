@@ -1,16 +1,20 @@
-//! Sessions and their words, in an open transaction. A crash before its end leaves nothing of it.
+//! Sessions, their words and their blanks, in an open transaction. A crash before its end leaves nothing of it.
 ghost use Rattle.std.specs.Prelude.{◌≡◌, ◌<◌, ◌^◌};
 ghost use Rattle.sqlite.specs.Held.{state};
 ghost use Rattle.sqlite.specs.State.{HasCleanDisk, Survives};
 ghost use Rattle.sql_base.specs.Ends.{Wrote};
 ghost use Rattle.sql_rows.specs.Encoding.{session_code};
 ghost use Rattle.sql_rows.specs.Image.{Moves};
-ghost use Rattle.table_rows.specs.Tables.{StoredWord, with_session_set, with_word};
+ghost use Rattle.table_rows.specs.After.{new_session};
+ghost use Rattle.table_rows.specs.Tables.{StoredBlank, StoredWord, with_blank, with_session};
+ghost use Rattle.table_rows.specs.Tables.{with_session_set, with_word};
 
 use job_core::SessionState;
 use sql_base::int;
+use sqlite::types::ValueRef;
 use sqlite::{Alter, Error, Transaction};
-use store_data::Cursor;
+use store_data::{Cursor, Name};
+use table_rows::RecordPlace;
 
 /// The number that stands for a session's state.
 pub fn session_code(stands: SessionState) -> u64
@@ -77,6 +81,68 @@ pub fn set_session<S: Alter>(
             int(u64::from(cursor.segment)),
             int(u64::from(cursor.offset)),
             int(u64::from(cursor.block)),
+        ],
+    )
+}
+
+/// Adds a session of a record, which runs and stands at its first command.
+pub fn add_session<S: Alter>(
+    tx: &mut Transaction<'_, S>,
+    id: u64,
+    place: &RecordPlace,
+    machine: &Name,
+    blank: u64,
+) -> Result<usize, Error>
+    requires id { id < 2 ^ 63 }
+    requires batch { place.now.batch < 2 ^ 63 }
+    requires place { place.now.place < 2 ^ 63 }
+    requires blank { blank < 2 ^ 63 }
+    ensures same_reference { tx.new.conn.ghost_name ≡ tx.old.conn.ghost_name }
+    ensures wrote { HasCleanDisk (state S.Store tx.new.conn.now)
+        → Wrote (Moves (with_session (new_session id place.now machine.now blank)))
+        (state S.Store tx.old.conn.now) (state S.Store tx.new.conn.now) result }
+    ensures survives { Survives (state S.Store tx.old.conn.now) (state S.Store tx.new.conn.now)
+        (λ _. ⊥) }
+{
+    tx.execute(
+        "INSERT INTO session (id, machine, batch, place, serial, state, ended, words, app, segment, \
+        at_offset, block) VALUES (?1, ?2, ?3, ?4, ?5, 0, 0, 0, 0, 0, 0, 0)",
+        &[
+            int(id),
+            ValueRef::Text(machine.bytes()),
+            int(place.batch),
+            int(place.place),
+            int(blank),
+        ],
+    )
+}
+
+/// Adds a blank of a lot, opened or discarded.
+pub fn add_blank<S: Alter>(
+    tx: &mut Transaction<'_, S>,
+    serial: u64,
+    lot: &Name,
+    discarded: bool,
+) -> Result<usize, Error>
+    requires { serial < 2 ^ 63 }
+    ensures same_reference { tx.new.conn.ghost_name ≡ tx.old.conn.ghost_name }
+    ensures wrote { let blank : StoredBlank = record {
+      serial = serial;
+      lot = lot.now;
+      discarded = discarded;
+    } in
+        HasCleanDisk (state S.Store tx.new.conn.now)
+        → Wrote (Moves (with_blank blank)) (state S.Store tx.old.conn.now)
+        (state S.Store tx.new.conn.now) result }
+    ensures survives { Survives (state S.Store tx.old.conn.now) (state S.Store tx.new.conn.now)
+        (λ _. ⊥) }
+{
+    tx.execute(
+        "INSERT INTO blank (serial, lot, kind) VALUES (?1, ?2, ?3)",
+        &[
+            int(serial),
+            ValueRef::Text(lot.bytes()),
+            int(u64::from(discarded)),
         ],
     )
 }

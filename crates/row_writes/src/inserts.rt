@@ -2,10 +2,11 @@
 ghost use Rattle.std.specs.Prelude.{◌≡◌, ◌<◌, ◌^◌};
 ghost use Rattle.sqlite.specs.Held.{state};
 ghost use Rattle.sqlite.specs.State.{HasCleanDisk, Survives};
-ghost use Rattle.job_core.specs.Contents.{Entry};
+ghost use Rattle.job_core.specs.Contents.{Entry, Mark};
 ghost use Rattle.sql_base.specs.Ends.{Wrote};
 ghost use Rattle.sql_rows.specs.Image.{Moves};
-ghost use Rattle.table_rows.specs.Tables.{StoredLot, StoredRemake, with_lot, with_product};
+ghost use Rattle.table_rows.specs.After.{new_lot};
+ghost use Rattle.table_rows.specs.Tables.{StoredRemake, with_lot, with_mark, with_product};
 ghost use Rattle.table_rows.specs.Tables.{with_remake, with_reply};
 
 use job_core::Lot;
@@ -38,9 +39,8 @@ pub fn add_product<S: Alter>(tx: &mut Transaction<'_, S>, product: &Product) -> 
 pub fn add_lot<S: Alter>(tx: &mut Transaction<'_, S>, lot: &Lot) -> Result<usize, Error>
     requires { lot.now.first < 2 ^ 63 }
     ensures same_reference { tx.new.conn.ghost_name ≡ tx.old.conn.ghost_name }
-    ensures wrote { let row : StoredLot = record { lot = lot.now; discarded = 0 } in
-        HasCleanDisk (state S.Store tx.new.conn.now)
-        → Wrote (Moves (with_lot row)) (state S.Store tx.old.conn.now)
+    ensures wrote { HasCleanDisk (state S.Store tx.new.conn.now)
+        → Wrote (Moves (with_lot (new_lot lot.now))) (state S.Store tx.old.conn.now)
         (state S.Store tx.new.conn.now) result }
     ensures survives { Survives (state S.Store tx.old.conn.now) (state S.Store tx.new.conn.now)
         (λ _. ⊥) }
@@ -117,5 +117,26 @@ pub fn add_reply<'x, S: Alter>(
             int(u64::from(status)),
             ValueRef::Blob(body),
         ],
+    )
+}
+
+/// Marks a client's numbers as released up to this one.
+pub fn add_mark<S: Alter>(
+    tx: &mut Transaction<'_, S>,
+    client: &Name,
+    upto: u64,
+) -> Result<usize, Error>
+    requires { upto < 2 ^ 63 }
+    ensures same_reference { tx.new.conn.ghost_name ≡ tx.old.conn.ghost_name }
+    ensures wrote { let mark : Mark = record { client = client.now; upto = upto } in
+        HasCleanDisk (state S.Store tx.new.conn.now)
+        → Wrote (Moves (with_mark mark)) (state S.Store tx.old.conn.now)
+        (state S.Store tx.new.conn.now) result }
+    ensures survives { Survives (state S.Store tx.old.conn.now) (state S.Store tx.new.conn.now)
+        (λ _. ⊥) }
+{
+    tx.execute(
+        "INSERT INTO mark (client, upto) VALUES (?1, ?2)",
+        &[ValueRef::Text(client.bytes()), int(upto)],
     )
 }

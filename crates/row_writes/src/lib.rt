@@ -1,8 +1,10 @@
 //! What each statement that writes does to the rows of our tables.
 #![tactic(auto)]
 
+mod batches;
 mod cards;
 mod inserts;
 
-pub use cards::{add_word, session_code, set_session};
-pub use inserts::{add_lot, add_product, add_remake, add_reply};
+pub use batches::{add_batch, add_grouping, add_record, enc_code};
+pub use cards::{add_blank, add_session, add_word, session_code, set_session};
+pub use inserts::{add_lot, add_mark, add_product, add_remake, add_reply};

@@ -27,7 +27,7 @@ use Rattle.rows_of_facts.proofs.Lists.{All-numbered, flat_map_same}
 
 -- ---- what an account is made of
 
-abbrev totals_by : List RecordState → List SessionState → BatchTotals
+abbrev pub totals_by : List RecordState → List SessionState → BatchTotals
 totals_by records sessions = record {
   records = length records;
   waiting = count_records records rec.Waiting;
@@ -39,11 +39,11 @@ totals_by records sessions = record {
   spoiled = count_sessions sessions session.Spoiled;
 }
 
-totals_are : (f : Facts) (b : List ℕ) → batch_totals f b ≡ totals_by (record_states f b) (session_states f b)
+pub totals_are : (f : Facts) (b : List ℕ) → batch_totals f b ≡ totals_by (record_states f b) (session_states f b)
 unfolding batch_totals
 totals_are f b = refl
 
-abbrev batch_by : ℕ × Batch → Bool → BatchTotals → StoredBatch
+abbrev pub batch_by : ℕ × Batch → Bool → BatchTotals → StoredBatch
 batch_by e closed totals = record {
   id = e.0;
   name = e.1.name;
@@ -59,7 +59,7 @@ batch_by e closed totals = record {
   spoiled = totals.spoiled;
 }
 
-abbrev session_by : ℕ × Session → ℕ → ℕ → SessionState → Cursor → StoredSession
+abbrev pub session_by : ℕ × Session → ℕ → ℕ → SessionState → Cursor → StoredSession
 session_by e batch place state cursor = record {
   id = e.0;
   machine = e.1.machine;
@@ -71,6 +71,34 @@ session_by e batch place state cursor = record {
   words = length e.1.words;
   cursor = cursor;
 }
+
+-- ---- where sessions stay, and what is known stays known
+
+module _ (f g : Facts) (sound : IsSound f) (more : KnowsMore f g) where
+  pub session_states_kept : g.sessions ≡ f.sessions → (n : List ℕ) → session_states g n ≡ session_states f n
+  unfolding session_states
+  session_states_kept sessions n =
+      let of_batch : Session → Bool = λ s. bytes_eq s.batch n in
+      ap (λ xs. map (session_state g) (filter of_batch xs)) sessions
+      ∙ map_same (session_state g) (session_state f) (filter of_batch f.sessions)
+      (All-filter of_batch (λ s. session_state g s ≡ session_state f s) f.sessions
+      (All-weaker (IsSession f) (λ s. session_state g s ≡ session_state f s) (state_kept f g more sound) f.sessions sound.sessions.each))
+
+  pub cursor_kept : (s : Session) → IsSession f s → session_cursor g s ≡ session_cursor f s
+  unfolding session_cursor
+  cursor_kept s is =
+      ap (λ (o : Option Plan). unwrap_or (option_and_then (λ (plan : Plan). cursor_at plan (going (commands_of plan) s.words)) o) (select_cursor 0))
+      (plan_kept f g more sound s.batch is.batch is.batch_is s.rec)
+
+-- ---- where batches stay, and what is told of records
+
+pub record_kept : (f g : Facts) → ((b r : List ℕ) → StandsSame f g b r) → (e : ℕ × Batch) (r : ℕ × List ℕ) → stored_record g e r ≡ stored_record f e r
+record_kept f g stands e r =
+    let as_told = stands e.1.name r.1 in
+    let states = as_told.states in
+    let remakes = as_told.remakes in
+    let state = as_told.stands in
+    rw (states, remakes, state) refl
 
 module _ (f g : Facts) (sound : IsSound f) (more : KnowsMore f g)
     (batches : g.batches ≡ f.batches) (stands : (b r : List ℕ) → StandsSame f g b r) where
@@ -107,13 +135,7 @@ module _ (f g : Facts) (sound : IsSound f) (more : KnowsMore f g)
   SessionsStand = (n : List ℕ) → session_states g n ≡ session_states f n
 
   pub session_states_same : g.sessions ≡ f.sessions → SessionsStand
-  unfolding session_states
-  session_states_same sessions n =
-      let of_batch : Session → Bool = λ s. bytes_eq s.batch n in
-      ap (λ xs. map (session_state g) (filter of_batch xs)) sessions
-      ∙ map_same (session_state g) (session_state f) (filter of_batch f.sessions)
-      (All-filter of_batch (λ s. session_state g s ≡ session_state f s) f.sessions
-      (All-weaker (IsSession f) (λ s. session_state g s ≡ session_state f s) (state_kept f g more sound) f.sessions sound.sessions.each))
+  session_states_same sessions n = session_states_kept f g sound more sessions n
 
   pub totals_same : SessionsStand → (n : List ℕ) → batch_totals g n ≡ batch_totals f n
   totals_same states n =
@@ -135,14 +157,6 @@ module _ (f g : Facts) (sound : IsSound f) (more : KnowsMore f g)
       ∙ map_same (stored_batch g) (stored_batch f) (batches_by_id f)
       (λ k d within. batch_same states closed _)
 
-  record_same : (e : ℕ × Batch) (r : ℕ × List ℕ) → stored_record g e r ≡ stored_record f e r
-  record_same e r =
-      let as_told = stands e.1.name r.1 in
-      let states = as_told.states in
-      let remakes = as_told.remakes in
-      let state = as_told.stands in
-      rw (states, remakes, state) refl
-
   pub records_stay : stored_records g ≡ stored_records f
   unfolding stored_records
   records_stay =
@@ -150,7 +164,7 @@ module _ (f g : Facts) (sound : IsSound f) (more : KnowsMore f g)
       ∙ flat_map_same (records_in g) (records_in f) (batches_by_id f)
       (All-weaker (λ (e : ℕ × Batch). IsBatch f.products e.1) (λ e. records_in g e ≡ records_in f e)
       (λ e is. ap (λ names. map (stored_record g e) (enumerate_from 0 names)) (records_same e.1 is)
-      ∙ map_same (stored_record g e) (stored_record f e) (placed_records f e) (λ k d within. record_same e _))
+      ∙ map_same (stored_record g e) (stored_record f e) (placed_records f e) (λ k d within. record_kept f g stands e _))
       (batches_by_id f) each_batch)
 
   pub remakes_stay : stored_remakes g ≡ stored_remakes f
@@ -173,18 +187,12 @@ module _ (f g : Facts) (sound : IsSound f) (more : KnowsMore f g)
       ∙ map_same (stored_grouping g e) (stored_grouping f e) (enumerate_from 2 (rows_of f.products e.1)) (λ k d within. rw (records_same e.1 is) refl))
       (batches_by_id f) each_batch)
 
-  cursor_same : (s : Session) → IsSession f s → session_cursor g s ≡ session_cursor f s
-  unfolding session_cursor
-  cursor_same s is =
-      ap (λ (o : Option Plan). unwrap_or (option_and_then (λ (plan : Plan). cursor_at plan (going (commands_of plan) s.words)) o) (select_cursor 0))
-      (plan_kept f g more sound s.batch is.batch is.batch_is s.rec)
-
   session_same : (e : ℕ × Session) → IsSession f e.1 → stored_session g e ≡ stored_session f e
   session_same e is =
       ap (λ bs. session_by e (batch_id bs e.1.batch) (place_in (records_named g e.1.batch) e.1.rec) (session_state g e.1) (session_cursor g e.1)) batches
       ∙ ap (λ names. session_by e (batch_id f.batches e.1.batch) (place_in names e.1.rec) (session_state g e.1) (session_cursor g e.1)) (named_same e.1.batch)
       ∙ ap (λ state. session_by e (batch_id f.batches e.1.batch) (place_in (records_named f e.1.batch) e.1.rec) state (session_cursor g e.1)) (state_kept f g more sound e.1 is)
-      ∙ ap (session_by e (batch_id f.batches e.1.batch) (place_in (records_named f e.1.batch) e.1.rec) (session_state f e.1)) (cursor_same e.1 is)
+      ∙ ap (session_by e (batch_id f.batches e.1.batch) (place_in (records_named f e.1.batch) e.1.rec) (session_state f e.1)) (cursor_kept f g sound more e.1 is)
 
   pub sessions_stay : g.sessions ≡ f.sessions → stored_sessions g ≡ stored_sessions f
   unfolding stored_sessions

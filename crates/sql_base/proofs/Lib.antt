@@ -1,5 +1,6 @@
 pub mod Inserting
 pub mod Updating
+pub mod Deleting
 pub mod Selecting
 pub mod Replacing
 pub mod Tests
@@ -7,5 +8,7 @@ pub mod Values
 pub mod Ending
 pub mod Creating
 pub mod Rowids
+pub mod Changing
+pub mod Typed
 pub mod Ordering
 pub mod Querying

@@ -28,7 +28,7 @@ turned Equal = refl
 turned Greater = refl
 
 -- apart one way round, apart the other
-back : (a b : Value) → is_eq (value_cmp a b) ≡ false → is_eq (value_cmp b a) ≡ false
+pub back : (a b : Value) → is_eq (value_cmp a b) ≡ false → is_eq (value_cmp b a) ≡ false
 back a b h = ap is_eq (value_cmp_total.antisymm b a) ∙ turned (value_cmp a b) ∙ h
 
 match_apart : (p : Row → Bool) (v : Value) (r : Row) (rows : List Row) → filter p rows ≡ r ∷ [] → AllByRecursion (λ y. is_eq (value_cmp v (rowid y)) ≡ false) rows → is_eq (value_cmp v (rowid r)) ≡ false

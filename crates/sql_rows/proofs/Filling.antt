@@ -1,11 +1,11 @@
 -- One table's rows change, and those of the others stay.
-use Rattle.std.proofs.Common.{◌≡◌, ◌≢◌, ℕ, true, List, [], ◌∷◌, ◌++◌, map, not, ◌==◌, arith, refl, sym, subst}
+use Rattle.std.proofs.Common.{◌≡◌, ◌≢◌, ℕ, pos, true, List, [], ◌∷◌, ◌++◌, map, not, ◌==◌, arith, refl, sym, subst}
 use Rattle.std.specs.List.{AllByRecursion, list_all}
 use Rattle.std.proofs.lemmas.Bool.{and_parts}
 use Rattle.std.proofs.lemmas.Bool.Decides.{nat_tests}
 use Rattle.std.specs.List.Sorted.{IsPermutation}
 use Rattle.std.proofs.lemmas.List.Sorted.{IsPermutation-cons, IsPermutation-trans}
-use Rattle.sqlite.specs.declared.types.Value.TheVariants.{Null}
+use Rattle.sqlite.specs.declared.types.Value.TheVariants.{Int, Null}
 use Rattle.sqlite.specs.Edit.{with_rowid}
 use Rattle.sqlite.specs.Order.{Row}
 use Rattle.sqlite.specs.Rowids.TheVariants.{Chosen}
@@ -14,11 +14,12 @@ use Rattle.sqlite.specs.Table.{Table}
 use Rattle.sqlite.specs.Tree.{Trees}
 use Rattle.sql_base.specs.Effects.{Inserted, SparesOthers}
 use Rattle.sql_base.specs.Rowids.{AreApart}
+use Rattle.sql_base.proofs.Inserting.{put_fresh}
 use Rattle.sql_base.proofs.Rowids.{put_apart}
 use Rattle.sql_base.proofs.Values.{one_more}
 use Rattle.sql_tables.specs.Tables.{our_schema}
 use Rattle.table_rows.specs.Tables.{Tables}
-use Rattle.sql_rows.specs.Image.{Filled, IsFilled, IsImage, filled, told, unnumbered}
+use Rattle.sql_rows.specs.Image.{Filled, IsFilled, IsImage, by_rowid, filled, told, unnumbered}
 
 module _ (key : ℕ) (old new : Trees) where
   -- all trees but this one stay
@@ -79,4 +80,15 @@ row_put table row rows old new it is =
     record {
       rows = IsPermutation-trans _ _ _ (IsPermutation-cons row _ _ is.rows) (one_more row stored (new.now.trees table.tree) (sym it.rows) it.fresh);
       apart = subst AreApart (sym it.rows) (put_apart (with_rowid Chosen stored (Null ∷ row)) stored refl it.fresh is.apart);
+    }
+
+-- one more row, under the rowid that the statement gave it
+pub row_put_under : (table : Table) (id : ℕ) (row : Row) (rows : List Row) (old new : State) → Inserted our_schema table (Int (pos id) ∷ row) old new
+    → IsFilled (by_rowid table rows) old.now.trees → IsFilled (by_rowid table ((Int (pos id) ∷ row) ∷ rows)) new.now.trees
+row_put_under table id row rows old new it is =
+    let stored = old.now.trees table.tree in
+    let whole : Row = Int (pos id) ∷ row in
+    record {
+      rows = subst (IsPermutation (whole ∷ rows)) (sym it.rows) (IsPermutation-trans _ _ _ (IsPermutation-cons whole _ _ is.rows) (put_fresh whole stored it.fresh));
+      apart = subst AreApart (sym it.rows) (put_apart whole stored refl it.fresh is.apart);
     }

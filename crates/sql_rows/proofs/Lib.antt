@@ -1,4 +1,5 @@
 pub mod Filling
+pub mod Changing
 pub mod SameRows
 pub mod Newly
 pub mod OneImage

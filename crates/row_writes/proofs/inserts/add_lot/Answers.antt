@@ -1,7 +1,8 @@
 use Rattle.sql_base.proofs.Ending.{wrote}
 use Rattle.sql_rows.specs.Image.{Moves}
+use Rattle.table_rows.specs.After.{new_lot}
 use Rattle.table_rows.specs.Tables.{with_lot}
-use Rattle.row_writes.proofs.Putting.{lot_added, new_lot}
+use Rattle.row_writes.proofs.Putting.{lot_added}
 use Rattle.row_writes.proofs.inserts.add_lot.Goals as goal
 
 pub returns-clause-wrote : goal.returns-clause-wrote

@@ -1,0 +1,84 @@
+-- What a query over one of our tables answers, by what its text asks and how the table's rows are encoded.
+use Rattle.std.proofs.Common.{◌≡◌, ℕ, Bool, true, false, List, [], ◌∷◌, drop, map, Option, Some, None, refl, ap, subst, ◌∙◌}
+use Rattle.std.specs.Prelude.{filter, find, option_map}
+use Rattle.std.specs.List.Sorted.{IsPermutation}
+use Rattle.std.specs.Option.{option_to_list}
+use Rattle.std.proofs.lemmas.List.Sorted.{IsPermutation-map}
+use Rattle.sqlite.specs.Command.TheVariants.{Select}
+use Rattle.sqlite.specs.declared.types.Value.{Value}
+use Rattle.sqlite.specs.declared.types.Value.TheVariants.{Null}
+use Rattle.sqlite.specs.Listing.{reads_listing, understood}
+use Rattle.sqlite.specs.Order.{Row}
+use Rattle.sqlite.specs.State.{Shown, State}
+use Rattle.sqlite.specs.Term.{Term}
+use Rattle.sqlite.proofs.Callers.{IsPlain, command_of}
+use Rattle.sql_base.specs.Queries.{from_tree}
+use Rattle.sql_base.proofs.Selecting.{map_map, map_same, passes, selected, shown}
+use Rattle.sql_tables.specs.Tables.{our_schema}
+use Rattle.sql_rows.specs.Image.{told}
+use Rattle.table_rows.specs.Tables.{PassesOnce}
+use Rattle.row_reads.specs.Decoding.{IsFirst}
+use Rattle.row_reads.proofs.Looking.{find_passes, looked_up, one_answered}
+
+-- at our schema the text asks for the rows of this tree that pass, each shown so
+pub record Asks (text : List ℕ) (tree : ℕ) (filters project : List Term) : Type 0 where
+  pub names : List (List ℕ)
+  pub is : command_of (understood our_schema text) ≡ Select (record { lets = []; body = from_tree tree filters project }) names
+  pub plain : IsPlain (understood our_schema text)
+  pub unlisted : reads_listing our_schema text ≡ false
+
+-- a row as a query sees it: before one that is told without its rowid stands a rowid that nothing looks at
+abbrev pub whole : Bool → Row → Row
+whole true row = row
+whole false row = Null ∷ row
+
+-- and as it is told
+abbrev pub part : Bool → Row → Row
+part true row = row
+part false row = drop 1 row
+
+part_told : (by_rowid : Bool) (rows : List Row) → told by_rowid rows ≡ map (part by_rowid) rows
+part_told true [] = refl
+part_told true (r ∷ rows) = ap (λ rs. r ∷ rs) (part_told true rows)
+part_told false rows = refl
+
+-- whether a row passes, and what is shown of it
+abbrev pub look : List Term → List Term → Row → Row → Bool × Row
+look filters project params row = (passes filters params row, shown project params row)
+
+-- what is shown of a row that is told so
+abbrev pub tells : Bool → List Term → Row → Row → Row
+tells by_rowid project params row = shown project params (whole by_rowid row)
+
+module _ {X : Type 0} (by_rowid : Bool) (encode : X → Row) (filters project : List Term) (params : Row) (key : X → Bool)
+    (none : look filters project params [] ≡ look filters project params (whole by_rowid (part by_rowid [])))
+    (some : (v : Value) (r : Row) → look filters project params (v ∷ r) ≡ look filters project params (whole by_rowid (part by_rowid (v ∷ r))))
+    (key_is : (x : X) → passes filters params (whole by_rowid (encode x)) ≡ key x) where
+  looks : (r : Row) → look filters project params r ≡ look filters project params (whole by_rowid (part by_rowid r))
+  looks [] = none
+  looks (v ∷ r) = some v r
+
+  -- what is answered is what the rows with the key tell
+  pub asked : (text : List ℕ) (tree : ℕ) → Asks text tree filters project → (old new : State) (rows : List Row) → Shown text params old new rows → old.now.schema ≡ our_schema
+      → (xs : List X) → IsPermutation (map encode xs) (told by_rowid (old.now.trees tree)) → IsPermutation (map (λ x. tells by_rowid project params (encode x)) (filter key xs)) rows
+  asked text tree asks old new rows h ours xs filled =
+      looked_up encode (part by_rowid) (passes filters params) (λ r. passes filters params (whole by_rowid r)) key (shown project params) (tells by_rowid project params)
+      (λ x. tells by_rowid project params (encode x)) (λ r. ap (λ (l : Bool × Row). l.0) (looks r)) (λ r. ap (λ (l : Bool × Row). l.1) (looks r)) key_is (λ x. refl) xs
+      (old.now.trees tree) rows (subst (IsPermutation (map encode xs)) (part_told by_rowid (old.now.trees tree)) filled)
+      (selected text params old new our_schema ours tree filters project asks.names asks.is asks.plain asks.unlisted rows h)
+
+-- what is made of the answer
+module _ {X Y : Type 0} (key : X → Bool) (tell : X → Row) (xs : List X) (rows : List Row) (got : IsPermutation (map tell (filter key xs)) rows) (decode : Row → Y) (f : X → Y) where
+  -- the first row's, where one row at most has the key
+  pub one_found : PassesOnce key xs → ((x : X) → key x ≡ true → decode (tell x) ≡ f x) → (found : Option Y) → IsFirst (map decode rows) found → found ≡ option_map f (find key xs)
+  one_found once back found first = from (find key xs) refl (subst (λ rs. IsFirst (map decode rs) found) (one_answered key tell xs rows once got) first)
+    where
+      from : (o : Option X) → find key xs ≡ o → IsFirst (map decode (map tell (option_to_list o))) found → found ≡ option_map f o
+      from None is none = none
+      from (Some x) is some = some ∙ ap Some (back x (find_passes key xs x is))
+
+  -- each row's
+  pub all_found : ((x : X) → decode (tell x) ≡ f x) → IsPermutation (map f (filter key xs)) (map decode rows)
+  all_found back =
+      subst (λ ys. IsPermutation ys (map decode rows)) (map_map decode tell (filter key xs) ∙ map_same (λ x. decode (tell x)) f back (filter key xs))
+      (IsPermutation-map decode (map tell (filter key xs)) rows got)

@@ -1,0 +1,132 @@
+//! Records are read.
+ghost use Rattle.std.specs.Prelude.{◌≡◌, ◌<◌, ◌^◌, false, find, option_map, IfOk, IfSome, IsTrue, map};
+ghost use Rattle.sqlite.specs.Held.{state};
+ghost use Rattle.sqlite.specs.State.{HasCleanDisk, Survives};
+ghost use Rattle.row_reads.specs.CardDecoding.{IsRecordAt, record_at, record_in, record_state_of};
+ghost use Rattle.row_reads.specs.CardKeys.{is_record_at, is_record_named};
+ghost use Rattle.row_reads.specs.Decoding.{IsFirst};
+ghost use Rattle.sql_base.specs.Ends.{IsKept};
+ghost use Rattle.sql_rows.specs.Image.{IsImage};
+ghost use Rattle.table_rows.specs.Tables.{PassesOnce, Tables};
+
+use crate::values::{name_at, number_at};
+use job_core::RecordState;
+use sql_base::{int, rows_of};
+use sqlite::types::ValueRef;
+use sqlite::{Alter, Connection, Error, Row};
+use store_data::Name;
+
+/// How a record of a batch stands.
+#[derive(Clone, Copy)]
+pub struct RecordAt {
+    /// Its place among the records of its batch, from 0.
+    pub place: u64,
+    pub name: Name,
+    pub stands: RecordState,
+    /// How many of its sessions are spoiled.
+    pub spoiled: u64,
+    /// How often it was remade.
+    pub remakes: u64,
+}
+
+// The state that a number stands for.
+fn record_state(code: u64) -> Result<RecordState, Error>
+    ensures { IfOk result (λ stands. stands ≡ record_state_of code) }
+{
+    match code {
+        0 => Ok(RecordState::Waiting),
+        1 => Ok(RecordState::Running),
+        2 => Ok(RecordState::Failed),
+        3 => Ok(RecordState::Withdrawn),
+        4 => Ok(RecordState::Good),
+        _ => Err(Error::InvalidQuery),
+    }
+}
+
+// The record in an answered row.
+fn record_in(row: &Row) -> Result<RecordAt, Error>
+    ensures value { IfOk result (λ r. r ≡ record_in row.now) }
+    ensures ranged { IfOk result IsRecordAt }
+{
+    let place = number_at(row, 0)?;
+    let name = name_at(row, 1)?;
+    let code = number_at(row, 2)?;
+    let stands = record_state(code)?;
+    let spoiled = number_at(row, 3)?;
+    let remakes = number_at(row, 4)?;
+    Ok(RecordAt {
+        place,
+        name,
+        stands,
+        spoiled,
+        remakes,
+    })
+}
+
+// The record in the first answered row, if there is one.
+fn first_record(rows: &[Row]) -> Result<Option<RecordAt>, Error>
+    ensures value { IfOk result (λ found. IsFirst (map record_in rows.now) found) }
+    ensures ranged { IfOk result (λ found. IfSome found IsRecordAt) }
+{
+    match rows.first() {
+        None => Ok(None),
+        Some(row) => Ok(Some(record_in(row)?)),
+    }
+}
+
+/// The record of this name in the batch with this id. Nothing is changed, and a crash leaves what it
+/// could leave before.
+pub fn record_named<S: Alter>(
+    conn: &mut Connection<S>,
+    batch: u64,
+    name: &Name,
+) -> Result<Option<RecordAt>, Error>
+    requires idle { conn.old.in_transaction ≡ false }
+    requires batch { batch < 2 ^ 63 }
+    ensures found { HasCleanDisk (state S.Store conn.new) → IfOk result
+        (λ found. IsTrue (state S.Store conn.old).is_open × ((t : Tables)
+        → IsImage t (state S.Store conn.old).now
+        → PassesOnce (is_record_named batch name.now) t.records
+        → found ≡ option_map record_at (find (is_record_named batch name.now) t.records))) }
+    ensures ranged { IfOk result (λ found. IfSome found IsRecordAt) }
+    ensures kept { HasCleanDisk (state S.Store conn.new)
+        → IsKept (state S.Store conn.old) (state S.Store conn.new) }
+    ensures idle { conn.new.in_transaction ≡ false }
+    ensures survives { Survives (state S.Store conn.old) (state S.Store conn.new) (λ _. ⊥) }
+{
+    let rows = rows_of(
+        conn,
+        "SELECT place, name, state, spoiled, remakes FROM record WHERE batch = ?1 AND name = ?2",
+        &[int(batch), ValueRef::Text(name.bytes())],
+    )?;
+    first_record(rows.as_slice())
+}
+
+/// The record at this place of the batch with this id. Nothing is changed, and a crash leaves what it
+/// could leave before.
+pub fn record_at<S: Alter>(
+    conn: &mut Connection<S>,
+    batch: u64,
+    place: u64,
+) -> Result<Option<RecordAt>, Error>
+    requires idle { conn.old.in_transaction ≡ false }
+    requires batch { batch < 2 ^ 63 }
+    requires place { place < 2 ^ 63 }
+    ensures found { HasCleanDisk (state S.Store conn.new) → IfOk result
+        (λ found. IsTrue (state S.Store conn.old).is_open × ((t : Tables)
+        → IsImage t (state S.Store conn.old).now
+        → PassesOnce (is_record_at batch place) t.records
+        → found ≡ option_map record_at (find (is_record_at batch place) t.records))) }
+    ensures ranged { IfOk result (λ found. IfSome found IsRecordAt) }
+    ensures kept { HasCleanDisk (state S.Store conn.new)
+        → IsKept (state S.Store conn.old) (state S.Store conn.new) }
+    ensures idle { conn.new.in_transaction ≡ false }
+    ensures survives { Survives (state S.Store conn.old) (state S.Store conn.new) (λ _. ⊥) }
+{
+    let rows = rows_of(
+        conn,
+        "SELECT place, name, state, spoiled, remakes FROM record WHERE batch = ?1 AND place = ?2",
+        &[int(batch), int(place)],
+    )?;
+    first_record(rows.as_slice())
+}

@@ -1,0 +1,64 @@
+//! Kept replies are read.
+ghost use Rattle.std.specs.Prelude.{◌≡◌, ◌<◌, ◌^◌, false, map, option_map, IfOk, IsTrue};
+ghost use Rattle.sqlite.specs.Held.{state};
+ghost use Rattle.sqlite.specs.State.{HasCleanDisk, Survives};
+ghost use Rattle.job_core.specs.Contents.{entry_of, reply_of_entry};
+ghost use Rattle.row_reads.specs.Decoding.{IsFirst, reply_in};
+ghost use Rattle.row_reads.specs.Keys.{is_kept_as};
+ghost use Rattle.sql_base.specs.Ends.{IsKept};
+ghost use Rattle.sql_rows.specs.Image.{IsImage};
+ghost use Rattle.table_rows.specs.Tables.{PassesOnce, Tables};
+
+use crate::values::{bytes_at, short_at};
+use job_core::KeptReply;
+use sql_base::{int, rows_of};
+use sqlite::types::ValueRef;
+use sqlite::{Alter, Connection, Error, Row};
+use store_data::Name;
+
+// The reply in an answered row.
+fn reply_in(row: &Row) -> Result<KeptReply, Error>
+    ensures { IfOk result (λ reply. reply ≡ reply_in row.now) }
+{
+    let ask = bytes_at(row, 0)?;
+    let status = short_at(row, 1)?;
+    let body = bytes_at(row, 2)?;
+    Ok(KeptReply { ask, status, body })
+}
+
+// The reply in the first answered row, if there is one.
+fn first_reply(rows: &[Row]) -> Result<Option<KeptReply>, Error>
+    ensures { IfOk result (λ found. IsFirst (map reply_in rows.now) found) }
+{
+    match rows.first() {
+        None => Ok(None),
+        Some(row) => Ok(Some(reply_in(row)?)),
+    }
+}
+
+/// The reply that is kept under a client's number. Nothing is changed, and a crash leaves what it
+/// could leave before.
+pub fn kept<S: Alter>(
+    conn: &mut Connection<S>,
+    client: &Name,
+    number: u64,
+) -> Result<Option<KeptReply>, Error>
+    requires idle { conn.old.in_transaction ≡ false }
+    requires number { number < 2 ^ 63 }
+    ensures found { HasCleanDisk (state S.Store conn.new) → IfOk result
+        (λ found. IsTrue (state S.Store conn.old).is_open × ((t : Tables)
+        → IsImage t (state S.Store conn.old).now
+        → PassesOnce (is_kept_as client.now number) t.replies
+        → found ≡ option_map reply_of_entry (entry_of t.replies client.now number))) }
+    ensures kept { HasCleanDisk (state S.Store conn.new)
+        → IsKept (state S.Store conn.old) (state S.Store conn.new) }
+    ensures idle { conn.new.in_transaction ≡ false }
+    ensures survives { Survives (state S.Store conn.old) (state S.Store conn.new) (λ _. ⊥) }
+{
+    let rows = rows_of(
+        conn,
+        "SELECT ask, status, body FROM reply WHERE client = ?1 AND number = ?2",
+        &[ValueRef::Text(client.bytes()), int(number)],
+    )?;
+    first_reply(rows.as_slice())
+}

@@ -1,0 +1,173 @@
+//! Sessions are read.
+ghost use Rattle.std.specs.Prelude.{◌≡◌, ◌<◌, ◌^◌, false, find, option_map, IfOk, IfSome, IsTrue, map};
+ghost use Rattle.sqlite.specs.Held.{state};
+ghost use Rattle.sqlite.specs.State.{HasCleanDisk, Survives};
+ghost use Rattle.store_data.specs.Cursor.{IsCursor};
+ghost use Rattle.row_reads.specs.CardDecoding.{IsSessionAt, cursor_in, number_in, session_at, session_in, session_state_of};
+ghost use Rattle.row_reads.specs.CardKeys.{has_id, is_running_on};
+ghost use Rattle.row_reads.specs.Decoding.{IsFirst};
+ghost use Rattle.sql_base.specs.Ends.{IsKept};
+ghost use Rattle.sql_rows.specs.Image.{IsImage};
+ghost use Rattle.table_rows.specs.Tables.{PassesOnce, StoredSession, Tables};
+
+use crate::values::{name_at, number_at};
+use job_core::SessionState;
+use sql_base::{int, rows_of};
+use sqlite::types::ValueRef;
+use sqlite::{Alter, Connection, Error, Row};
+use store_data::{Cursor, Name};
+
+/// Where a session stands.
+#[derive(Clone, Copy)]
+pub struct SessionAt {
+    pub machine: Name,
+    /// The id of its batch.
+    pub batch: u64,
+    /// The place of its record among those of the batch, from 0.
+    pub place: u64,
+    pub stands: SessionState,
+    /// How many words it has.
+    pub words: u64,
+    /// Where its card stands.
+    pub cursor: Cursor,
+}
+
+// The state that a number stands for.
+fn session_state(code: u64) -> Result<SessionState, Error>
+    ensures { IfOk result (λ stands. stands ≡ session_state_of code) }
+{
+    match code {
+        0 => Ok(SessionState::Running),
+        1 => Ok(SessionState::Good),
+        2 => Ok(SessionState::Spoiled),
+        _ => Err(Error::InvalidQuery),
+    }
+}
+
+// The cursor of these numbers, where they are one.
+fn cursor_of(app: u32, segment: u32, offset: u32, block: u32) -> Result<Cursor, Error>
+    ensures value { IfOk result (λ c. c ≡ record {
+      app = app;
+      segment = segment;
+      offset = offset;
+      block = block;
+    }) }
+    ensures ranged { IfOk result IsCursor }
+{
+    if app > 4096 || segment > 998 || offset > 65535 || block > 256 {
+        return Err(Error::InvalidQuery);
+    }
+    Ok(Cursor {
+        app: app as u16,
+        segment: segment as u16,
+        offset,
+        block: block as u16,
+    })
+}
+
+// The cursor in an answered row.
+fn cursor_in(row: &Row) -> Result<Cursor, Error>
+    ensures value { IfOk result (λ c. c ≡ cursor_in row.now) }
+    ensures ranged { IfOk result IsCursor }
+{
+    let app: u32 = row.get(5)?;
+    let segment: u32 = row.get(6)?;
+    let offset: u32 = row.get(7)?;
+    let block: u32 = row.get(8)?;
+    cursor_of(app, segment, offset, block)
+}
+
+// The session in an answered row.
+fn session_in(row: &Row) -> Result<SessionAt, Error>
+    ensures value { IfOk result (λ s. s ≡ session_in row.now) }
+    ensures ranged { IfOk result IsSessionAt }
+{
+    let machine = name_at(row, 0)?;
+    let batch = number_at(row, 1)?;
+    let place = number_at(row, 2)?;
+    let code = number_at(row, 3)?;
+    let stands = session_state(code)?;
+    let words = number_at(row, 4)?;
+    let cursor = cursor_in(row)?;
+    Ok(SessionAt {
+        machine,
+        batch,
+        place,
+        stands,
+        words,
+        cursor,
+    })
+}
+
+// The session in the first answered row, if there is one.
+fn first_session(rows: &[Row]) -> Result<Option<SessionAt>, Error>
+    ensures value { IfOk result (λ found. IsFirst (map session_in rows.now) found) }
+    ensures ranged { IfOk result (λ found. IfSome found IsSessionAt) }
+{
+    match rows.first() {
+        None => Ok(None),
+        Some(row) => Ok(Some(session_in(row)?)),
+    }
+}
+
+/// The session with this id. Nothing is changed, and a crash leaves what it could leave before.
+pub fn session<S: Alter>(conn: &mut Connection<S>, id: u64) -> Result<Option<SessionAt>, Error>
+    requires idle { conn.old.in_transaction ≡ false }
+    requires id { id < 2 ^ 63 }
+    ensures found { HasCleanDisk (state S.Store conn.new) → IfOk result
+        (λ found. IsTrue (state S.Store conn.old).is_open × ((t : Tables)
+        → IsImage t (state S.Store conn.old).now
+        → PassesOnce (has_id id) t.sessions
+        → found ≡ option_map session_at (find (has_id id) t.sessions))) }
+    ensures ranged { IfOk result (λ found. IfSome found IsSessionAt) }
+    ensures kept { HasCleanDisk (state S.Store conn.new)
+        → IsKept (state S.Store conn.old) (state S.Store conn.new) }
+    ensures idle { conn.new.in_transaction ≡ false }
+    ensures survives { Survives (state S.Store conn.old) (state S.Store conn.new) (λ _. ⊥) }
+{
+    let rows = rows_of(
+        conn,
+        "SELECT machine, batch, place, state, words, app, segment, at_offset, block FROM session \
+        WHERE id = ?1",
+        &[int(id)],
+    )?;
+    first_session(rows.as_slice())
+}
+
+// The number in the first answered row, if there is one.
+fn first_id(rows: &[Row]) -> Result<Option<u64>, Error>
+    ensures value { IfOk result (λ found. IsFirst (map number_in rows.now) found) }
+    ensures ranged { IfOk result (λ found. IfSome found (λ id. id < 2 ^ 63)) }
+{
+    match rows.first() {
+        None => Ok(None),
+        Some(row) => Ok(Some(number_at(row, 0)?)),
+    }
+}
+
+/// The id of the session that runs at a machine. Nothing is changed, and a crash leaves what it could
+/// leave before.
+pub fn running_session<S: Alter>(
+    conn: &mut Connection<S>,
+    machine: &Name,
+) -> Result<Option<u64>, Error>
+    requires { conn.old.in_transaction ≡ false }
+    ensures found { HasCleanDisk (state S.Store conn.new) → IfOk result
+        (λ found. IsTrue (state S.Store conn.old).is_open × ((t : Tables)
+        → IsImage t (state S.Store conn.old).now
+        → PassesOnce (is_running_on machine.now) t.sessions
+        → found ≡ option_map (λ (s : StoredSession). s.id)
+        (find (is_running_on machine.now) t.sessions))) }
+    ensures ranged { IfOk result (λ found. IfSome found (λ id. id < 2 ^ 63)) }
+    ensures kept { HasCleanDisk (state S.Store conn.new)
+        → IsKept (state S.Store conn.old) (state S.Store conn.new) }
+    ensures idle { conn.new.in_transaction ≡ false }
+    ensures survives { Survives (state S.Store conn.old) (state S.Store conn.new) (λ _. ⊥) }
+{
+    let rows = rows_of(
+        conn,
+        "SELECT id FROM session WHERE machine = ?1 AND state = 0",
+        &[ValueRef::Text(machine.bytes())],
+    )?;
+    first_id(rows.as_slice())
+}

@@ -1,0 +1,62 @@
+//! The values of an answered row.
+ghost use Rattle.std.specs.Prelude.{◌≡◌, ◌<◌, ◌^◌, IfOk};
+ghost use Rattle.sqlite.specs.Order.{column};
+ghost use Rattle.row_reads.specs.Decoding.{blob_in, nat_in, text_in};
+
+use sqlite::types::ValueRef;
+use sqlite::{Error, Row};
+use store_data::{Bytes, Name};
+
+// The name that a text is.
+fn name_of(text: &[u8]) -> Result<Name, Error>
+    ensures { IfOk result (λ name. name ≡ text.now) }
+{
+    match Name::new(text) {
+        Some(name) => Ok(name),
+        None => Err(Error::InvalidQuery),
+    }
+}
+
+// The name in this column.
+pub(crate) fn name_at(row: &Row, at: usize) -> Result<Name, Error>
+    ensures { IfOk result (λ name. name ≡ text_in (column row.now at)) }
+{
+    match row.get_ref(at)? {
+        ValueRef::Text(text) => name_of(text),
+        _ => Err(Error::InvalidQuery),
+    }
+}
+
+// The bytes in this column.
+pub(crate) fn bytes_at(row: &Row, at: usize) -> Result<Bytes, Error>
+    ensures { IfOk result (λ bytes. bytes ≡ blob_in (column row.now at)) }
+{
+    let items: Vec<u8> = row.get(at)?;
+    Ok(Bytes::from_vec(items))
+}
+
+// SQL's numbers end below it.
+const END: u64 = 1 << 63;
+
+// The number in this column.
+pub(crate) fn number_at(row: &Row, at: usize) -> Result<u64, Error>
+    ensures value { IfOk result (λ n. n ≡ nat_in (column row.now at)) }
+    ensures ranged { IfOk result (λ n. n < 2 ^ 63) }
+{
+    let n: u64 = row.get(at)?;
+    if n >= END {
+        return Err(Error::InvalidQuery);
+    }
+    Ok(n)
+}
+
+// The number below 2^16 in this column.
+pub(crate) fn short_at(row: &Row, at: usize) -> Result<u16, Error>
+    ensures { IfOk result (λ n. n ≡ nat_in (column row.now at)) }
+{
+    let n: u32 = row.get(at)?;
+    if n > 65535 {
+        return Err(Error::InvalidQuery);
+    }
+    Ok(n as u16)
+}

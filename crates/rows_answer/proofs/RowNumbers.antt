@@ -1,0 +1,35 @@
+-- How many rows there are, and their ids.
+use Rattle.std.proofs.Common.{◌≡◌, ℕ, ◌+◌, List, [], ◌∷◌, length, map, refl, sym, ap, ◌∙◌}
+use Rattle.std.specs.List.{enumerate_from, range_with_len}
+use Rattle.std.proofs.lemmas.List.{length-map}
+use Rattle.std.proofs.lemmas.List.FromFn.{length-enumerate_from}
+use Rattle.std.proofs.lemmas.Simd.{map-map}
+use Rattle.job_core.specs.Facts.{Facts}
+use Rattle.table_rows.specs.Tables.{StoredBatch, StoredSession}
+use Rattle.rows_of_facts.specs.Image.{batches_by_id, sessions_by_id, stored_batch, stored_batches, stored_lot, stored_lots, stored_session, stored_sessions}
+
+module _ {X : Type 0} where
+  numbers_are : (n : ℕ) (xs : List X) → map (λ (e : ℕ × X). e.0) (enumerate_from n xs) ≡ range_with_len n (length xs)
+  numbers_are n [] = refl
+  numbers_are n (x ∷ xs) = ap (λ ns. n ∷ ns) (numbers_are (n + 1) xs)
+
+module _ (f : Facts) where
+  pub session_ids : map (λ (s : StoredSession). s.id) (stored_sessions f) ≡ range_with_len 1 (length f.sessions)
+  unfolding stored_sessions
+  session_ids = map-map (λ (s : StoredSession). s.id) (stored_session f) (sessions_by_id f) ∙ numbers_are 1 f.sessions
+
+  pub batch_ids : map (λ (b : StoredBatch). b.id) (stored_batches f) ≡ range_with_len 1 (length f.batches)
+  unfolding stored_batches
+  batch_ids = map-map (λ (b : StoredBatch). b.id) (stored_batch f) (batches_by_id f) ∙ numbers_are 1 f.batches
+
+  pub session_count : length f.sessions ≡ length (stored_sessions f)
+  unfolding stored_sessions
+  session_count = sym (length-map (sessions_by_id f) (stored_session f) ∙ length-enumerate_from 1 f.sessions)
+
+  pub batch_count : length f.batches ≡ length (stored_batches f)
+  unfolding stored_batches
+  batch_count = sym (length-map (batches_by_id f) (stored_batch f) ∙ length-enumerate_from 1 f.batches)
+
+  pub lot_count : length f.lots ≡ length (stored_lots f)
+  unfolding stored_lots
+  lot_count = sym (length-map f.lots (stored_lot f))

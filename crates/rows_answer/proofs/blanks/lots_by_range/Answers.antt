@@ -1,0 +1,11 @@
+use Rattle.rows_answer.proofs.BlankRows.{lot_around, lot_around_once, lot_of_told, overlaps_found, overlaps_told}
+use Rattle.rows_answer.proofs.blanks.lots_by_range.Goals as goal
+
+pub returns : goal.returns
+returns call = record {
+  once = λ f serial sound. lot_around_once f sound serial;
+  found = lot_around;
+  lot = lot_of_told;
+  overlaps = overlaps_told;
+  shares = overlaps_found;
+}

@@ -1,0 +1,10 @@
+use Rattle.rows_answer.proofs.SessionRows.{place_of_session, row_told, session_at, session_once}
+use Rattle.rows_answer.proofs.sessions.sessions_by_number.Goals as goal
+
+pub returns : goal.returns
+returns call = record {
+  once = session_once;
+  found = session_at;
+  row = λ f id sound. row_told f sound id;
+  place = λ f id s b r sound. place_of_session f sound id s b r;
+}

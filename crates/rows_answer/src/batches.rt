@@ -1,0 +1,36 @@
+//! Batches by name and by id, and how they stand.
+ghost use Rattle.std.specs.Prelude.{◌≡◌, ℕ, List, Some, find, option_map};
+ghost use Rattle.job_core.specs.Accounts.{batch_totals};
+ghost use Rattle.job_core.specs.Facts.{Batch, Facts};
+ghost use Rattle.job_core.specs.Sound.{IsSound};
+ghost use Rattle.job_core.specs.States.{batch_named, is_batch_finished};
+ghost use Rattle.rows_answer.specs.Keys.{is_batch, is_batch_named};
+ghost use Rattle.rows_answer.specs.Telling.{is_over_in, totals_in};
+ghost use Rattle.rows_of_facts.specs.Image.{batch_id, stored_batch, stored_batches};
+ghost use Rattle.table_rows.specs.Tables.{PassesOnce};
+
+/// A name finds the row of the batch that has it.
+pub fn batches_by_name()
+    ensures once { (f : Facts) (n : List ℕ) → IsSound f
+        → PassesOnce (is_batch_named n) (stored_batches f) }
+    ensures found { (f : Facts) (n : List ℕ)
+        → find (is_batch_named n) (stored_batches f)
+        ≡ option_map (λ (b : Batch). stored_batch f (batch_id f.batches n, b))
+        (batch_named f.batches n) }
+{}
+
+/// A batch's id finds its row.
+pub fn batches_by_id()
+    ensures once { (f : Facts) (id : ℕ) → PassesOnce (is_batch id) (stored_batches f) }
+    ensures found { (f : Facts) (n : List ℕ) (b : Batch) → batch_named f.batches n ≡ Some b
+        → find (is_batch (batch_id f.batches n)) (stored_batches f)
+        ≡ Some (stored_batch f (batch_id f.batches n, b)) }
+{}
+
+/// A batch's row tells its totals, and whether it is finished.
+pub fn totals_by_rows()
+    ensures totals { (f : Facts) (n : List ℕ) → IsSound f
+        → batch_totals f n ≡ totals_in (find (is_batch_named n) (stored_batches f)) }
+    ensures finished { (f : Facts) (n : List ℕ) → IsSound f
+        → is_batch_finished f n ≡ is_over_in (find (is_batch_named n) (stored_batches f)) }
+{}

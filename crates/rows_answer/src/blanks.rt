@@ -1,0 +1,46 @@
+//! Blanks by serial, and lots by name and by range.
+ghost use Rattle.std.specs.Prelude.{◌≡◌, ℕ, List, Some, find, is_some, option_map};
+ghost use Rattle.std.specs.List.{list_any};
+ghost use Rattle.job_core.specs.Facts.{Facts};
+ghost use Rattle.job_core.specs.Sound.{IsSound};
+ghost use Rattle.job_core.specs.States.{any_overlaps, is_charged, lot_named, lot_of};
+ghost use Rattle.rows_answer.specs.Keys.{is_blank, is_lot_across, is_lot_around, is_lot_named};
+ghost use Rattle.rows_of_facts.specs.Image.{stored_blanks, stored_lot, stored_lots};
+ghost use Rattle.step_laws.specs.Sums.{discarded_in};
+ghost use Rattle.table_rows.specs.Tables.{PassesOnce, StoredLot};
+
+/// A serial has one row of a blank at most, and one just where it is charged.
+pub fn blanks_by_serial()
+    ensures once { (f : Facts) (n : ℕ) → IsSound f → PassesOnce (is_blank n) (stored_blanks f) }
+    ensures charged { (f : Facts) (n : ℕ) → is_charged f n ≡ list_any (is_blank n) (stored_blanks f) }
+    ensures found { (f : Facts) (n : ℕ)
+        → is_charged f n ≡ is_some (find (is_blank n) (stored_blanks f)) }
+{}
+
+/// A name finds the row of the lot that has it, which tells how many of its blanks are discarded.
+pub fn lots_by_name()
+    ensures once { (f : Facts) (n : List ℕ) → IsSound f
+        → PassesOnce (is_lot_named n) (stored_lots f) }
+    ensures found { (f : Facts) (n : List ℕ)
+        → find (is_lot_named n) (stored_lots f) ≡ option_map (stored_lot f) (lot_named f.lots n) }
+    ensures lot { (f : Facts) (n : List ℕ) → lot_named f.lots n
+        ≡ option_map (λ (l : StoredLot). l.lot) (find (is_lot_named n) (stored_lots f)) }
+    ensures discarded { (f : Facts) (n : List ℕ) (row : StoredLot)
+        → find (is_lot_named n) (stored_lots f) ≡ Some row
+        → (lot_named f.lots n ≡ Some row.lot) × (row.discarded ≡ discarded_in f row.lot) }
+{}
+
+/// A serial finds the row of the lot that it lies in, and a range those that share a serial with
+/// it.
+pub fn lots_by_range()
+    ensures once { (f : Facts) (serial : ℕ) → IsSound f
+        → PassesOnce (is_lot_around serial) (stored_lots f) }
+    ensures found { (f : Facts) (serial : ℕ)
+        → find (is_lot_around serial) (stored_lots f) ≡ option_map (stored_lot f) (lot_of f.lots serial) }
+    ensures lot { (f : Facts) (serial : ℕ) → lot_of f.lots serial
+        ≡ option_map (λ (l : StoredLot). l.lot) (find (is_lot_around serial) (stored_lots f)) }
+    ensures overlaps { (f : Facts) (first count : ℕ) → any_overlaps f.lots first count
+        ≡ list_any (is_lot_across first count) (stored_lots f) }
+    ensures shares { (f : Facts) (first count : ℕ) → any_overlaps f.lots first count
+        ≡ is_some (find (is_lot_across first count) (stored_lots f)) }
+{}

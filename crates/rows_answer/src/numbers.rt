@@ -1,0 +1,18 @@
+//! How many rows there are.
+ghost use Rattle.std.specs.Prelude.{◌≡◌, length, map};
+ghost use Rattle.std.specs.List.{range_with_len};
+ghost use Rattle.job_core.specs.Facts.{Facts};
+ghost use Rattle.rows_of_facts.specs.Image.{stored_batches, stored_lots, stored_sessions};
+ghost use Rattle.table_rows.specs.Tables.{StoredBatch, StoredSession};
+
+/// There is a row for each session, batch and lot; the ids of sessions and batches begin at 1 and
+/// go up by one.
+pub fn numbers_of_rows()
+    ensures sessions { (f : Facts) → length f.sessions ≡ length (stored_sessions f) }
+    ensures session_ids { (f : Facts) → map (λ (s : StoredSession). s.id) (stored_sessions f)
+        ≡ range_with_len 1 (length f.sessions) }
+    ensures batches { (f : Facts) → length f.batches ≡ length (stored_batches f) }
+    ensures batch_ids { (f : Facts) → map (λ (b : StoredBatch). b.id) (stored_batches f)
+        ≡ range_with_len 1 (length f.batches) }
+    ensures lots { (f : Facts) → length f.lots ≡ length (stored_lots f) }
+{}

@@ -1,0 +1,43 @@
+//! Records by name and by place.
+ghost use Rattle.std.specs.Prelude.{◌≡◌, ℕ, List, Some, None, bytes_eq, find, if◌then◌else◌};
+ghost use Rattle.std.specs.Prelude.{option_map};
+ghost use Rattle.std.specs.List.{list_any};
+ghost use Rattle.job_core.specs.Facts.{Batch, Facts};
+ghost use Rattle.job_core.specs.Sound.{IsRecord};
+ghost use Rattle.job_core.specs.States.{batch_named, record_state_of, records_named};
+ghost use Rattle.rows_answer.specs.Keys.{is_batch_named, is_record_at, is_record_named};
+ghost use Rattle.rows_answer.specs.Telling.{place_of, record_row};
+ghost use Rattle.rows_of_facts.specs.Before.{IsPlaceOf};
+ghost use Rattle.rows_of_facts.specs.Image.{batch_id, place_in, stored_batches, stored_record};
+ghost use Rattle.rows_of_facts.specs.Image.{stored_records};
+ghost use Rattle.table_rows.specs.Tables.{PassesOnce, StoredBatch, StoredRecord};
+
+/// A record's name with the id of its batch finds its row, which tells its state, and with its
+/// batch's row its place.
+pub fn records_by_name()
+    ensures once { (f : Facts) (id : ℕ) (n : List ℕ)
+        → PassesOnce (is_record_named id n) (stored_records f) }
+    ensures found { (f : Facts) (b n : List ℕ) (batch : Batch) → batch_named f.batches b ≡ Some batch
+        → find (is_record_named (batch_id f.batches b) n) (stored_records f)
+        ≡ (if list_any (bytes_eq n) (records_named f b) then
+        Some (stored_record f (batch_id f.batches b, batch) (place_in (records_named f b) n, n))
+        else None) }
+    ensures state { (f : Facts) (b r : List ℕ) → record_state_of f b r
+        ≡ option_map (λ (x : StoredRecord). x.state)
+        (record_row (stored_batches f) (stored_records f) b r) }
+    ensures place { (f : Facts) (b r : List ℕ) (row : StoredBatch) (x : StoredRecord)
+        → find (is_batch_named b) (stored_batches f) ≡ Some row
+        → find (is_record_named row.id r) (stored_records f) ≡ Some x
+        → IsPlaceOf f b r (place_of row x) }
+{}
+
+/// A record's place with the id of its batch finds its row.
+pub fn records_by_place()
+    ensures once { (f : Facts) (id place : ℕ)
+        → PassesOnce (is_record_at id place) (stored_records f) }
+    ensures found { (f : Facts) (b n : List ℕ) (batch : Batch) → batch_named f.batches b ≡ Some batch
+        → IsRecord f b n
+        → find (is_record_at (batch_id f.batches b) (place_in (records_named f b) n))
+        (stored_records f)
+        ≡ Some (stored_record f (batch_id f.batches b, batch) (place_in (records_named f b) n, n)) }
+{}
