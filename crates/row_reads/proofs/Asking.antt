@@ -1,9 +1,11 @@
 -- What a query over one of our tables answers, by what its text asks and how the table's rows are encoded.
-use Rattle.std.proofs.Common.{◌≡◌, ℕ, Bool, true, false, List, [], ◌∷◌, drop, map, Option, Some, None, refl, ap, subst, ◌∙◌}
+use Rattle.std.proofs.Common.{◌≡◌, ℕ, Bool, true, false, List, [], ◌∷◌, drop, length, map, Option, Some, None, inl, inr, refl, sym, ap, subst, ◌∙◌, arith}
 use Rattle.std.specs.Prelude.{filter, find, option_map}
+use Rattle.std.specs.List.{list_any}
 use Rattle.std.specs.List.Sorted.{IsPermutation}
 use Rattle.std.specs.Option.{option_to_list}
-use Rattle.std.proofs.lemmas.List.Sorted.{IsPermutation-map}
+use Rattle.std.proofs.lemmas.List.Sorted.{IsPermutation-map, length_permutation}
+use Rattle.std.proofs.lemmas.Bool.{cases_Bool}
 use Rattle.sqlite.specs.Command.TheVariants.{Select}
 use Rattle.sqlite.specs.declared.types.Value.{Value}
 use Rattle.sqlite.specs.declared.types.Value.TheVariants.{Null}
@@ -17,7 +19,7 @@ use Rattle.sql_base.proofs.Selecting.{map_map, map_same, passes, selected, shown
 use Rattle.sql_tables.specs.Tables.{our_schema}
 use Rattle.sql_rows.specs.Image.{told}
 use Rattle.table_rows.specs.Tables.{PassesOnce}
-use Rattle.row_reads.specs.Decoding.{IsFirst}
+use Rattle.row_reads.specs.Decoding.{IsFirst, has_rows}
 use Rattle.row_reads.proofs.Looking.{find_passes, looked_up, one_answered}
 
 -- at our schema the text asks for the rows of this tree that pass, each shown so
@@ -82,3 +84,21 @@ module _ {X Y : Type 0} (key : X → Bool) (tell : X → Row) (xs : List X) (row
   all_found back =
       subst (λ ys. IsPermutation ys (map decode rows)) (map_map decode tell (filter key xs) ∙ map_same (λ x. decode (tell x)) f back (filter key xs))
       (IsPermutation-map decode (map tell (filter key xs)) rows got)
+
+list_any_filter : {X : Type 0} (p : X → Bool) (tell : X → Row) (xs : List X) → list_any p xs ≡ has_rows (map tell (filter p xs))
+list_any_filter p tell [] = refl
+list_any_filter p tell (x ∷ xs) = elim (cases_Bool (p x)) [
+  | inl hit ↦ rw hit refl
+  | inr miss ↦ rw miss (list_any_filter p tell xs)
+]
+
+has_as_long : (xs ys : List Row) → length ys ≡ length xs → has_rows ys ≡ has_rows xs
+has_as_long [] [] same = refl
+has_as_long [] (y ∷ ys) same = absurd (omega (arith, same))
+has_as_long (x ∷ xs) [] same = absurd (omega (arith, same))
+has_as_long (x ∷ xs) (y ∷ ys) same = refl
+
+module _ {X : Type 0} (key : X → Bool) (tell : X → Row) (xs : List X) (rows : List Row) (got : IsPermutation (map tell (filter key xs)) rows) where
+  -- a row is answered where one has the key
+  pub any_found : has_rows rows ≡ list_any key xs
+  any_found = has_as_long _ rows (length_permutation _ rows got) ∙ sym (list_any_filter key tell xs)

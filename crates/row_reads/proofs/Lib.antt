@@ -4,5 +4,6 @@ pub mod Meanings
 pub mod Answering
 pub mod NameMeanings
 pub mod NameAnswers
+pub mod BatchAnswers
 pub mod CardMeanings
 pub mod CardAnswers

@@ -1,11 +1,13 @@
 -- What the values of an answered row tell.
-use Rattle.std.specs.Prelude.{◌≡◌, ℕ, pos, Bool, false, not, List, [], ◌∷◌, Option, Some, None}
+use Rattle.std.specs.Prelude.{◌≡◌, ◌+◌, ℕ, pos, Bool, true, false, not, List, [], ◌∷◌, Option, Some, None}
 use Rattle.std.specs.Ordering.{int_eq}
 use Rattle.sqlite.specs.declared.types.Value.{Value}
 use Rattle.sqlite.specs.declared.types.Value.TheVariants.{Blob, Int, Text}
 use Rattle.sqlite.specs.Order.{Row, column}
 use Rattle.store_data.specs.declared.row.Product.{Product}
+use Rattle.job_core.specs.declared.rows.BatchTotals.{BatchTotals}
 use Rattle.job_core.specs.declared.rows.KeptReply.{KeptReply}
+use Rattle.row_reads.specs.declared.batches.BatchHead.{BatchHead}
 
 abbrev pub nat_in : Value → ℕ
 nat_in (Int (pos n)) = n
@@ -30,6 +32,28 @@ product_in code row = record { code = code; max = nat_in (column row 0); low = n
 abbrev pub reply_in : Row → KeptReply
 reply_in row = record { ask = blob_in (column row 0); status = nat_in (column row 1); body = blob_in (column row 2) }
 
+abbrev pub id_in : Row → ℕ
+id_in row = nat_in (column row 0)
+
+abbrev pub name_in : Row → List ℕ
+name_in row = text_in (column row 0)
+
+-- the counters of a batch, from column 3 on
+abbrev pub totals_in : Row → BatchTotals
+totals_in row = record {
+  records = nat_in (column row 3) + nat_in (column row 4) + nat_in (column row 5) + nat_in (column row 6) + nat_in (column row 7);
+  waiting = nat_in (column row 3);
+  running = nat_in (column row 4);
+  failed = nat_in (column row 5);
+  withdrawn = nat_in (column row 6);
+  good = nat_in (column row 7);
+  sessions = nat_in (column row 8);
+  spoiled = nat_in (column row 9);
+}
+
+abbrev pub head_in : Row → BatchHead
+head_in row = record { id = nat_in (column row 0); product = text_in (column row 1); is_closed = flag_in (column row 2); totals = totals_in row }
+
 -- the first of them, if there is one
 abbrev pub IsFirst : {X : Type 0} → List X → Option X → Type 0
 IsFirst [] found = found ≡ None
@@ -39,3 +63,8 @@ IsFirst (x ∷ xs) found = found ≡ Some x
 abbrev pub first_number : List Row → ℕ
 first_number [] = 0
 first_number (row ∷ rows) = nat_in (column row 0)
+
+-- a row is answered
+abbrev pub has_rows : List Row → Bool
+has_rows [] = false
+has_rows (row ∷ rows) = true

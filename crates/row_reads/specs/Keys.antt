@@ -1,7 +1,20 @@
 -- Which rows are asked for.
 use Rattle.std.specs.Prelude.{◌==◌, ◌&&◌, ℕ, Bool, List, bytes_eq}
 use Rattle.job_core.specs.Contents.{Entry}
+use Rattle.table_rows.specs.Tables.{StoredBatch}
 
 -- it is kept under this number of this client
 abbrev pub is_kept_as : List ℕ → ℕ → Entry → Bool
 is_kept_as client number e = bytes_eq e.client client && (e.number == number)
+
+-- the batch has this name
+abbrev pub has_name : List ℕ → StoredBatch → Bool
+has_name name b = bytes_eq b.name name
+
+-- the batch has this id
+abbrev pub has_id : ℕ → StoredBatch → Bool
+has_id id b = b.id == id
+
+-- the batch has this name and these bytes
+abbrev pub has_bytes : List ℕ → List ℕ → StoredBatch → Bool
+has_bytes name raw b = bytes_eq b.name name && bytes_eq b.raw raw

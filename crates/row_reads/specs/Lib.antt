@@ -4,4 +4,5 @@ pub mod CardTexts
 pub mod Decoding
 pub mod CardDecoding
 pub mod Keys
+pub mod Telling
 pub mod CardKeys

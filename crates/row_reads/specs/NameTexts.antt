@@ -14,3 +14,38 @@ kept_columns = col 1 3 ∷ col 1 4 ∷ col 1 5 ∷ []
 -- the first two columns are the two parameters
 abbrev pub by_two_columns : List Term
 by_two_columns = is_equal (col 1 1) (col 0 0) ∷ is_equal (col 1 2) (col 0 1) ∷ []
+
+-- ---- batches
+
+abbrev pub batch_id_text : List ℕ
+batch_id_text = codes "SELECT id FROM batch WHERE name = ?1"
+
+abbrev pub batch_id_columns : List Term
+batch_id_columns = col 1 0 ∷ []
+
+-- the column behind the id is the first parameter
+abbrev pub by_batch_name : List Term
+by_batch_name = is_equal (col 1 2) (col 0 0) ∷ []
+
+abbrev pub batch_name_text : List ℕ
+batch_name_text = codes "SELECT name FROM batch WHERE id = ?1"
+
+abbrev pub batch_name_columns : List Term
+batch_name_columns = col 1 2 ∷ []
+
+-- the id is the first parameter
+abbrev pub by_id : List Term
+by_id = is_equal (col 1 0) (col 0 0) ∷ []
+
+abbrev pub batch_head_text : List ℕ
+batch_head_text = codes "SELECT id, product, closed, waiting, running, failed, withdrawn, good, sessions, spoiled FROM batch WHERE name = ?1"
+
+abbrev pub head_columns : List Term
+head_columns = col 1 0 ∷ col 1 3 ∷ col 1 5 ∷ col 1 6 ∷ col 1 7 ∷ col 1 8 ∷ col 1 9 ∷ col 1 10 ∷ col 1 11 ∷ col 1 12 ∷ []
+
+abbrev pub batch_has_text : List ℕ
+batch_has_text = codes "SELECT id FROM batch WHERE name = ?1 AND raw = ?2"
+
+-- the name and the bytes are the two parameters
+abbrev pub by_bytes : List Term
+by_bytes = is_equal (col 1 2) (col 0 0) ∷ is_equal (col 1 4) (col 0 1) ∷ []

@@ -1,6 +1,7 @@
 //! What each statement that reads answers of the rows of our tables.
 #![tactic(auto)]
 
+mod batches;
 mod marks;
 mod products;
 mod records;
@@ -8,6 +9,7 @@ mod replies;
 mod sessions;
 mod values;
 
+pub use batches::{BatchHead, batch_has, batch_head, batch_id, batch_name};
 pub use marks::mark;
 pub use products::product;
 pub use records::{RecordAt, record_at, record_named};

@@ -1,7 +1,7 @@
 //! The values of an answered row.
-ghost use Rattle.std.specs.Prelude.{◌≡◌, ◌<◌, ◌^◌, IfOk};
+ghost use Rattle.std.specs.Prelude.{◌≡◌, ◌<◌, ◌^◌, map, IfOk, IfSome};
 ghost use Rattle.sqlite.specs.Order.{column};
-ghost use Rattle.row_reads.specs.Decoding.{blob_in, nat_in, text_in};
+ghost use Rattle.row_reads.specs.Decoding.{IsFirst, blob_in, has_rows, id_in, name_in, nat_in, text_in};
 
 use sqlite::types::ValueRef;
 use sqlite::{Error, Row};
@@ -59,4 +59,47 @@ pub(crate) fn short_at(row: &Row, at: usize) -> Result<u16, Error>
         return Err(Error::InvalidQuery);
     }
     Ok(n as u16)
+}
+
+// ---- answered rows
+
+fn id_in(row: &Row) -> Result<u64, Error>
+    ensures value { IfOk result (λ id. id ≡ id_in row.now) }
+    ensures ranged { IfOk result (λ id. id < 2 ^ 63) }
+{
+    number_at(row, 0)
+}
+
+// The id in the first answered row, if there is one.
+pub(crate) fn first_id(rows: &[Row]) -> Result<Option<u64>, Error>
+    ensures value { IfOk result (λ found. IsFirst (map id_in rows.now) found) }
+    ensures ranged { IfOk result (λ found. IfSome found (λ id. id < 2 ^ 63)) }
+{
+    match rows.first() {
+        None => Ok(None),
+        Some(row) => Ok(Some(id_in(row)?)),
+    }
+}
+
+fn name_in(row: &Row) -> Result<Name, Error>
+    ensures { IfOk result (λ name. name ≡ name_in row.now) }
+{
+    name_at(row, 0)
+}
+
+// The name in the first answered row, if there is one.
+pub(crate) fn first_name(rows: &[Row]) -> Result<Option<Name>, Error>
+    ensures { IfOk result (λ found. IsFirst (map name_in rows.now) found) }
+{
+    match rows.first() {
+        None => Ok(None),
+        Some(row) => Ok(Some(name_in(row)?)),
+    }
+}
+
+// Whether a row is answered.
+pub(crate) fn has_rows(rows: &[Row]) -> bool
+    ensures { result ≡ has_rows rows.now }
+{
+    !rows.is_empty()
 }

@@ -7,11 +7,16 @@ pub mod Totals
 pub mod OneRecord
 pub mod Touching
 pub mod OneSession
+pub mod SessionRows
+pub mod Stopping
 pub mod Opening
+pub mod Remaking
 pub mod Products
 pub mod Lots
 pub mod Closing
 pub mod Releasing
 pub mod Importing
 pub mod Words
+pub mod Ending
+pub mod Changing
 mod Worked

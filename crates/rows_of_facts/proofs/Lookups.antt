@@ -93,7 +93,7 @@ module _ {X Y : Type 0} (g : ℕ × X → List Y) (q : Y → Bool) (id : ℕ) (o
       rw skipped (one_listed xs (n + 1) k (omega arith))
 
 -- rows of another element
-none_pass : {X Y : Type 0} (g : X → Y) (q : Y → Bool) (xs : List X) → ((x : X) → q (g x) ≡ false) → filter q (map g xs) ≡ []
+pub none_pass : {X Y : Type 0} (g : X → Y) (q : Y → Bool) (xs : List X) → ((x : X) → q (g x) ≡ false) → filter q (map g xs) ≡ []
 none_pass g q [] fails = refl
 none_pass g q (x ∷ xs) fails = rw (fails x) (none_pass g q xs fails)
 

@@ -39,7 +39,7 @@ name_once r [] distinct = tt
 name_once r (n ∷ names) distinct =
     (λ hit. ap (λ k. list_any (bytes_eq k) names) (same-bytes_eq r n hit) ∙ distinct.0, name_once r names distinct.1)
 
-records_once : (products : List Product) (batch : Batch) (r : List ℕ) → Once (bytes_eq r) (records_of products batch)
+pub records_once : (products : List Product) (batch : Batch) (r : List ℕ) → Once (bytes_eq r) (records_of products batch)
 unfolding records_of
 records_once products batch r =
     let names : List (List ℕ) = map (λ (row : Row). row.rec) (rows_of products batch) in

@@ -2,11 +2,15 @@
 ghost use Rattle.std.specs.Prelude.{◌+◌, ℕ};
 ghost use Rattle.store_data.specs.declared.cursor.Cursor.{Cursor as CursorValue};
 ghost use Rattle.store_data.specs.declared.row.Product.{Product as ProductValue};
+ghost use Rattle.job_core.specs.declared.change.Change.{Change};
 ghost use Rattle.job_core.specs.declared.change.Change.TheVariants as change;
 ghost use Rattle.job_core.specs.declared.facts.SessionState.TheVariants as session;
 ghost use Rattle.job_core.specs.Contents.{Contents, Entry, committed};
-ghost use Rattle.job_core.specs.Sound.{IsSound, IsSoundChange};
+ghost use Rattle.job_core.specs.Sound.{IsSound, IsSoundChange, changed};
+ghost use Rattle.rows_of_facts.specs.Before.{IsBefore};
 ghost use Rattle.rows_of_facts.specs.Image.{image};
+ghost use Rattle.table_rows.specs.declared.before.Before.{Before};
+ghost use Rattle.table_rows.specs.After.{rows_after};
 ghost use Rattle.table_rows.specs.Tables.{HaveSameRows, with_product, with_reply};
 ghost use Rattle.table_rows.specs.Tables.{with_session_set, with_word};
 
@@ -33,4 +37,12 @@ pub fn rows_with_going_word()
         (image (committed c (change.AddsWord s index sw session.Running cursor) entry))
         (with_reply entry (with_session_set s session.Running (index + 1) cursor
         (with_word (record { session = s; place = index; sw = sw }) (image c)))) }
+{}
+
+/// The rows after any change, by the change and by how what it touches stood before it.
+pub fn rows_after_change()
+    ensures { (c : Contents) (change : Change) (told : Before) → IsSound c.facts
+        → IsSoundChange c.facts change → IsBefore c.facts change told
+        → HaveSameRows (image (record c { facts = changed c.facts change }))
+        (rows_after change told (image c)) }
 {}

@@ -1,8 +1,8 @@
 //! What the database of a store tells of its contents.
 #![tactic(auto)]
 
-mod before;
 mod batches;
+mod changes;
 mod counts;
 mod lots;
 mod names;
@@ -12,7 +12,7 @@ mod reports;
 mod segments;
 mod sessions;
 
-pub use before::before;
+pub use changes::before;
 pub use batches::{batch, batch_has, batch_size, batch_totals, is_finished};
 pub use counts::{batch_count, lot_count, product_count, session_count};
 pub use lots::{is_charged, lot, lot_of, overlaps};

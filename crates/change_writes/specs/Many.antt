@@ -1,0 +1,24 @@
+-- Many rows of one table, put in by a part of a transaction.
+use Rattle.std.specs.Prelude.{◌≡◌, ◌++◌, IsTrue, List, OnOk, Result}
+use Rattle.sqlite.specs.Effect.{Database}
+use Rattle.sqlite.specs.State.{KeepsCommit, State}
+use Rattle.sqlite.specs.declared.error.Error.{Error}
+use Rattle.table_rows.specs.Tables.{StoredGrouping, StoredRecord, Tables}
+
+abbrev pub with_records : List StoredRecord → Tables → Tables
+with_records records t = record t { records = records ++ t.records }
+
+abbrev pub with_groupings : List StoredGrouping → Tables → Tables
+with_groupings groupings t = record t { groupings = groupings ++ t.groupings }
+
+module _ (R : Database → Database → Type 0) where
+  -- `R` relates the database before to the one after; nothing is committed, and a transaction goes on
+  pub record GoesOn (old new : State) : Type 0 where
+    pub made : R old.now new.now
+    pub committed : new.committed ≡ old.committed
+    pub inside : IsTrue old.in_transaction → IsTrue new.in_transaction
+
+  -- the same where each call went well, and in each case nothing is committed
+  pub record WroteMany {X : Type 0} (old new : State) (result : Result X Error) : Type 0 where
+    pub well : OnOk result (GoesOn old new)
+    pub kept : KeepsCommit old new

@@ -1,0 +1,69 @@
+-- What is answered of batches.
+use Rattle.std.proofs.Common.{◌≡◌, ◌==◌, ℕ, ◌&&◌, true, List, [], ◌∷◌, map, Option, pos, refl, ◌∙◌}
+use Rattle.std.specs.Prelude.{filter, find, option_map}
+use Rattle.std.specs.List.{list_any}
+use Rattle.std.specs.List.Sorted.{IsPermutation}
+use Rattle.sqlite.specs.declared.types.Value.TheVariants.{Blob, Int, Text}
+use Rattle.sqlite.specs.Collation.TheVariants.{Binary}
+use Rattle.sqlite.specs.Ops.{binary, is_true}
+use Rattle.sqlite.specs.Order.{Row}
+use Rattle.sqlite.specs.State.{Shown, State}
+use Rattle.sqlite.specs.Term.{Term}
+use Rattle.sqlite_sql.specs.declared.ops.BinaryOp.TheVariants.{Compare}
+use Rattle.sqlite_sql.specs.declared.ops.CompareOp.TheVariants.{Eq}
+use Rattle.sql_base.proofs.Tests.{alone, same_blob, same_int, same_text}
+use Rattle.sql_rows.specs.Encoding.{batch_row}
+use Rattle.sql_rows.specs.Image.{IsImage}
+use Rattle.table_rows.specs.Tables.{PassesOnce, StoredBatch, Tables}
+use Rattle.row_reads.specs.declared.batches.BatchHead.{BatchHead}
+use Rattle.row_reads.specs.Decoding.{IsFirst, has_rows, head_in, id_in, name_in}
+use Rattle.row_reads.specs.Keys.{has_bytes, has_id, has_name}
+use Rattle.row_reads.specs.NameTexts.{batch_has_text, batch_head_text, batch_id_columns, batch_id_text, batch_name_columns, batch_name_text, by_batch_name, by_bytes, by_id, head_columns}
+use Rattle.row_reads.specs.Telling.{head_of}
+use Rattle.row_reads.proofs.Answering.{flag_back, text_key}
+use Rattle.row_reads.proofs.Asking.{Asks, any_found, asked, one_found, tells}
+use Rattle.row_reads.proofs.NameMeanings.{batch_has_asks, batch_head_asks, batch_id_asks, batch_name_asks}
+
+int_key : (id n : ℕ) → (is_true (binary (Compare Eq Binary) (Int (pos n)) (Int (pos id))) && true) ≡ (n == id)
+int_key id n = alone (is_true (binary (Compare Eq Binary) (Int (pos n)) (Int (pos id)))) ∙ same_int n id
+
+-- the rows with this name
+named : (text : List ℕ) (project : List Term) → Asks text 5 by_batch_name project → (name : List ℕ) (old new : State) (rows : List Row) → Shown text (Text name ∷ []) old new rows
+    → (t : Tables) → IsImage t old.now → IsPermutation (map (λ b. tells true project (Text name ∷ []) (batch_row b)) (filter (has_name name) t.batches)) rows
+named text project asks name old new rows h t image =
+    asked true batch_row by_batch_name project (Text name ∷ []) (has_name name) refl (λ v r. refl) (λ b. text_key name b.name) text 5 asks old new rows h image.ours t.batches image.each.1.1.1.0.rows
+
+pub batch_id_found : (name : List ℕ) (old new : State) (rows : List Row) → Shown batch_id_text (Text name ∷ []) old new rows → (t : Tables) → IsImage t old.now
+    → PassesOnce (has_name name) t.batches → (found : Option ℕ) → IsFirst (map id_in rows) found → found ≡ option_map (λ (b : StoredBatch). b.id) (find (has_name name) t.batches)
+batch_id_found name old new rows h t image once found first =
+    one_found (has_name name) (λ b. tells true batch_id_columns (Text name ∷ []) (batch_row b)) t.batches rows (named batch_id_text batch_id_columns batch_id_asks name old new rows h t image)
+    id_in (λ b. b.id) once (λ b is. refl) found first
+
+head_back : (params : Row) (b : StoredBatch) → head_in (tells true head_columns params (batch_row b)) ≡ head_of b
+head_back params b = rw (flag_back b.closed) refl
+
+pub batch_head_found : (name : List ℕ) (old new : State) (rows : List Row) → Shown batch_head_text (Text name ∷ []) old new rows → (t : Tables) → IsImage t old.now
+    → PassesOnce (has_name name) t.batches → (found : Option BatchHead) → IsFirst (map head_in rows) found → found ≡ option_map head_of (find (has_name name) t.batches)
+batch_head_found name old new rows h t image once found first =
+    one_found (has_name name) (λ b. tells true head_columns (Text name ∷ []) (batch_row b)) t.batches rows (named batch_head_text head_columns batch_head_asks name old new rows h t image)
+    head_in head_of once (λ b is. head_back (Text name ∷ []) b) found first
+
+pub batch_name_found : (id : ℕ) (old new : State) (rows : List Row) → Shown batch_name_text (Int (pos id) ∷ []) old new rows → (t : Tables) → IsImage t old.now
+    → PassesOnce (has_id id) t.batches → (found : Option (List ℕ)) → IsFirst (map name_in rows) found → found ≡ option_map (λ (b : StoredBatch). b.name) (find (has_id id) t.batches)
+batch_name_found id old new rows h t image once found first =
+    one_found (has_id id) (λ b. tells true batch_name_columns (Int (pos id) ∷ []) (batch_row b)) t.batches rows
+    (asked true batch_row by_id batch_name_columns (Int (pos id) ∷ []) (has_id id) refl (λ v r. refl) (λ b. int_key id b.id) batch_name_text 5 batch_name_asks old new rows h image.ours t.batches
+    image.each.1.1.1.0.rows)
+    name_in (λ b. b.name) once (λ b is. refl) found first
+
+bytes_key : (name raw : List ℕ) (b : StoredBatch)
+    → (is_true (binary (Compare Eq Binary) (Text b.name) (Text name)) && (is_true (binary (Compare Eq Binary) (Blob b.raw) (Blob raw)) && true)) ≡ has_bytes name raw b
+bytes_key name raw b = rw (same_text b.name name, alone (is_true (binary (Compare Eq Binary) (Blob b.raw) (Blob raw))), same_blob b.raw raw) refl
+
+pub batch_has_found : (name raw : List ℕ) (old new : State) (rows : List Row) → Shown batch_has_text (Text name ∷ Blob raw ∷ []) old new rows → (t : Tables) → IsImage t old.now
+    → has_rows rows ≡ list_any (has_bytes name raw) t.batches
+batch_has_found name raw old new rows h t image =
+    let params = Text name ∷ Blob raw ∷ [] in
+    any_found (has_bytes name raw) (λ b. tells true batch_id_columns params (batch_row b)) t.batches rows
+    (asked true batch_row by_bytes batch_id_columns params (has_bytes name raw) refl (λ v r. refl) (bytes_key name raw) batch_has_text 5 batch_has_asks old new rows h image.ours t.batches
+    image.each.1.1.1.0.rows)

@@ -1,0 +1,37 @@
+-- What is told of a row.
+use Rattle.std.specs.Prelude.{◌+◌, ◌<◌, ◌^◌}
+use Rattle.job_core.specs.declared.rows.BatchTotals.{BatchTotals}
+use Rattle.table_rows.specs.Tables.{StoredBatch}
+use Rattle.row_reads.specs.declared.batches.BatchHead.{BatchHead}
+
+-- the counters of a batch; its records are those of each state
+abbrev pub totals_of : StoredBatch → BatchTotals
+totals_of b = record {
+  records = b.waiting + b.running + b.failed + b.withdrawn + b.good;
+  waiting = b.waiting;
+  running = b.running;
+  failed = b.failed;
+  withdrawn = b.withdrawn;
+  good = b.good;
+  sessions = b.sessions;
+  spoiled = b.spoiled;
+}
+
+-- a batch without its bytes
+abbrev pub head_of : StoredBatch → BatchHead
+head_of b = record { id = b.id; product = b.product; is_closed = b.closed; totals = totals_of b }
+
+-- each counter is a number of SQL
+pub record AreCounts (totals : BatchTotals) : Type 0 where
+  pub waiting : totals.waiting < 2 ^ 63
+  pub running : totals.running < 2 ^ 63
+  pub failed : totals.failed < 2 ^ 63
+  pub withdrawn : totals.withdrawn < 2 ^ 63
+  pub good : totals.good < 2 ^ 63
+  pub sessions : totals.sessions < 2 ^ 63
+  pub spoiled : totals.spoiled < 2 ^ 63
+
+-- so are its id and its counters
+pub record IsHead (h : BatchHead) : Type 0 where
+  pub id : h.id < 2 ^ 63
+  pub totals : AreCounts h.totals

@@ -1,0 +1,173 @@
+//! Batches are read.
+ghost use Rattle.std.specs.Prelude.{◌≡◌, ◌<◌, ◌^◌, false, map, find, option_map, IfOk, IfSome, IsTrue};
+ghost use Rattle.std.specs.List.{list_any};
+ghost use Rattle.sqlite.specs.Held.{state};
+ghost use Rattle.sqlite.specs.State.{HasCleanDisk, Survives};
+ghost use Rattle.row_reads.specs.Decoding.{IsFirst, head_in, totals_in};
+ghost use Rattle.row_reads.specs.Keys.{has_bytes, has_id, has_name};
+ghost use Rattle.row_reads.specs.Telling.{AreCounts, IsHead, head_of};
+ghost use Rattle.sql_base.specs.Ends.{IsKept};
+ghost use Rattle.sql_rows.specs.Image.{IsImage};
+ghost use Rattle.table_rows.specs.Tables.{PassesOnce, StoredBatch, Tables};
+
+use crate::values::{first_id, first_name, has_rows, name_at, number_at};
+use job_core::BatchTotals;
+use sql_base::{int, rows_of};
+use sqlite::types::ValueRef;
+use sqlite::{Alter, Connection, Error, Row};
+use store_data::Name;
+
+/// A batch without its bytes.
+#[derive(Clone, Copy)]
+pub struct BatchHead {
+    pub id: u64,
+    pub product: Name,
+    pub is_closed: bool,
+    pub totals: BatchTotals,
+}
+
+// ---- answered rows
+
+// The counters behind an id, a product and the mark of a close. Those of records are below 2^32, so
+// that their sum is a number.
+fn totals_in(row: &Row) -> Result<BatchTotals, Error>
+    ensures value { IfOk result (λ totals. totals ≡ totals_in row.now) }
+    ensures ranged { IfOk result AreCounts }
+{
+    let waiting: u32 = row.get(3)?;
+    let running: u32 = row.get(4)?;
+    let failed: u32 = row.get(5)?;
+    let withdrawn: u32 = row.get(6)?;
+    let good: u32 = row.get(7)?;
+    let sessions = number_at(row, 8)?;
+    let spoiled = number_at(row, 9)?;
+    Ok(BatchTotals {
+        records: u64::from(waiting)
+            + u64::from(running)
+            + u64::from(failed)
+            + u64::from(withdrawn)
+            + u64::from(good),
+        waiting: u64::from(waiting),
+        running: u64::from(running),
+        failed: u64::from(failed),
+        withdrawn: u64::from(withdrawn),
+        good: u64::from(good),
+        sessions,
+        spoiled,
+    })
+}
+
+fn head_in(row: &Row) -> Result<BatchHead, Error>
+    ensures value { IfOk result (λ head. head ≡ head_in row.now) }
+    ensures ranged { IfOk result IsHead }
+{
+    let id = number_at(row, 0)?;
+    let product = name_at(row, 1)?;
+    let is_closed: bool = row.get(2)?;
+    let totals = totals_in(row)?;
+    Ok(BatchHead {
+        id,
+        product,
+        is_closed,
+        totals,
+    })
+}
+
+fn first_head(rows: &[Row]) -> Result<Option<BatchHead>, Error>
+    ensures value { IfOk result (λ found. IsFirst (map head_in rows.now) found) }
+    ensures ranged { IfOk result (λ found. IfSome found IsHead) }
+{
+    match rows.first() {
+        None => Ok(None),
+        Some(row) => Ok(Some(head_in(row)?)),
+    }
+}
+
+// ---- queries
+
+/// The id of the batch of this name. Nothing is changed, and a crash leaves what it could leave
+/// before.
+pub fn batch_id<S: Alter>(conn: &mut Connection<S>, name: &Name) -> Result<Option<u64>, Error>
+    requires { conn.old.in_transaction ≡ false }
+    ensures found { HasCleanDisk (state S.Store conn.new) → IfOk result
+        (λ found. IsTrue (state S.Store conn.old).is_open × ((t : Tables)
+        → IsImage t (state S.Store conn.old).now → PassesOnce (has_name name.now) t.batches
+        → found ≡ option_map (λ (b : StoredBatch). b.id) (find (has_name name.now) t.batches))) }
+    ensures ranged { IfOk result (λ found. IfSome found (λ id. id < 2 ^ 63)) }
+    ensures kept { HasCleanDisk (state S.Store conn.new)
+        → IsKept (state S.Store conn.old) (state S.Store conn.new) }
+    ensures idle { conn.new.in_transaction ≡ false }
+    ensures survives { Survives (state S.Store conn.old) (state S.Store conn.new) (λ _. ⊥) }
+{
+    let rows = rows_of(
+        conn,
+        "SELECT id FROM batch WHERE name = ?1",
+        &[ValueRef::Text(name.bytes())],
+    )?;
+    first_id(rows.as_slice())
+}
+
+/// The name of the batch with this id. Nothing is changed, and a crash leaves what it could leave
+/// before.
+pub fn batch_name<S: Alter>(conn: &mut Connection<S>, id: u64) -> Result<Option<Name>, Error>
+    requires idle { conn.old.in_transaction ≡ false }
+    requires id { id < 2 ^ 63 }
+    ensures found { HasCleanDisk (state S.Store conn.new) → IfOk result
+        (λ found. IsTrue (state S.Store conn.old).is_open × ((t : Tables)
+        → IsImage t (state S.Store conn.old).now → PassesOnce (has_id id) t.batches
+        → found ≡ option_map (λ (b : StoredBatch). b.name) (find (has_id id) t.batches))) }
+    ensures kept { HasCleanDisk (state S.Store conn.new)
+        → IsKept (state S.Store conn.old) (state S.Store conn.new) }
+    ensures idle { conn.new.in_transaction ≡ false }
+    ensures survives { Survives (state S.Store conn.old) (state S.Store conn.new) (λ _. ⊥) }
+{
+    let rows = rows_of(conn, "SELECT name FROM batch WHERE id = ?1", &[int(id)])?;
+    first_name(rows.as_slice())
+}
+
+/// The batch of this name, without its bytes. Nothing is changed, and a crash leaves what it could
+/// leave before.
+pub fn batch_head<S: Alter>(
+    conn: &mut Connection<S>,
+    name: &Name,
+) -> Result<Option<BatchHead>, Error>
+    requires { conn.old.in_transaction ≡ false }
+    ensures found { HasCleanDisk (state S.Store conn.new) → IfOk result
+        (λ found. IsTrue (state S.Store conn.old).is_open × ((t : Tables)
+        → IsImage t (state S.Store conn.old).now → PassesOnce (has_name name.now) t.batches
+        → found ≡ option_map head_of (find (has_name name.now) t.batches))) }
+    ensures ranged { IfOk result (λ found. IfSome found IsHead) }
+    ensures kept { HasCleanDisk (state S.Store conn.new)
+        → IsKept (state S.Store conn.old) (state S.Store conn.new) }
+    ensures idle { conn.new.in_transaction ≡ false }
+    ensures survives { Survives (state S.Store conn.old) (state S.Store conn.new) (λ _. ⊥) }
+{
+    let rows = rows_of(
+        conn,
+        "SELECT id, product, closed, waiting, running, failed, withdrawn, good, sessions, spoiled \
+        FROM batch WHERE name = ?1",
+        &[ValueRef::Text(name.bytes())],
+    )?;
+    first_head(rows.as_slice())
+}
+
+/// Whether the batch of this name has these bytes. Nothing is changed, and a crash leaves what it
+/// could leave before.
+pub fn batch_has<S: Alter>(conn: &mut Connection<S>, name: &Name, raw: &[u8]) -> Result<bool, Error>
+    requires { conn.old.in_transaction ≡ false }
+    ensures found { HasCleanDisk (state S.Store conn.new) → IfOk result
+        (λ has. IsTrue (state S.Store conn.old).is_open × ((t : Tables)
+        → IsImage t (state S.Store conn.old).now
+        → has ≡ list_any (has_bytes name.now raw.now) t.batches)) }
+    ensures kept { HasCleanDisk (state S.Store conn.new)
+        → IsKept (state S.Store conn.old) (state S.Store conn.new) }
+    ensures idle { conn.new.in_transaction ≡ false }
+    ensures survives { Survives (state S.Store conn.old) (state S.Store conn.new) (λ _. ⊥) }
+{
+    let rows = rows_of(
+        conn,
+        "SELECT id FROM batch WHERE name = ?1 AND raw = ?2",
+        &[ValueRef::Text(name.bytes()), ValueRef::Blob(raw)],
+    )?;
+    Ok(has_rows(rows.as_slice()))
+}

@@ -1,0 +1,149 @@
+//! Rows that change, in an open transaction. A crash before its end leaves nothing of it.
+ghost use Rattle.std.specs.Prelude.{◌≡◌, ◌<◌, ◌^◌};
+ghost use Rattle.sqlite.specs.Held.{state};
+ghost use Rattle.sqlite.specs.State.{HasCleanDisk, Survives};
+ghost use Rattle.sql_base.specs.Ends.{Wrote};
+ghost use Rattle.sql_rows.specs.Encoding.{record_code};
+ghost use Rattle.sql_rows.specs.Image.{Moves};
+ghost use Rattle.table_rows.specs.Tables.{with_closed_set, with_end_set, with_lot_set};
+ghost use Rattle.table_rows.specs.Tables.{with_record_set, with_totals_set};
+
+use job_core::{BatchTotals, RecordState};
+use sql_base::int;
+use sqlite::types::ValueRef;
+use sqlite::{Alter, Error, Transaction};
+use store_data::Name;
+
+/// The number that stands for a record's state.
+pub fn record_code(stands: RecordState) -> u64
+    ensures { result ≡ record_code stands }
+{
+    match stands {
+        RecordState::Waiting => 0,
+        RecordState::Running => 1,
+        RecordState::Failed => 2,
+        RecordState::Withdrawn => 3,
+        RecordState::Good => 4,
+    }
+}
+
+/// Sets how many blanks of a lot are discarded.
+pub fn set_lot<S: Alter>(
+    tx: &mut Transaction<'_, S>,
+    name: &Name,
+    discarded: u64,
+) -> Result<usize, Error>
+    requires { discarded < 2 ^ 63 }
+    ensures same_reference { tx.new.conn.ghost_name ≡ tx.old.conn.ghost_name }
+    ensures wrote { HasCleanDisk (state S.Store tx.new.conn.now)
+        → Wrote (Moves (with_lot_set name.now discarded)) (state S.Store tx.old.conn.now)
+        (state S.Store tx.new.conn.now) result }
+    ensures survives { Survives (state S.Store tx.old.conn.now) (state S.Store tx.new.conn.now)
+        (λ _. ⊥) }
+{
+    tx.execute(
+        "UPDATE lot SET discarded = ?2 WHERE name = ?1",
+        &[ValueRef::Text(name.bytes()), int(discarded)],
+    )
+}
+
+/// Sets a batch's counters.
+pub fn set_totals<S: Alter>(
+    tx: &mut Transaction<'_, S>,
+    batch: u64,
+    totals: &BatchTotals,
+) -> Result<usize, Error>
+    requires batch { batch < 2 ^ 63 }
+    requires waiting { totals.now.waiting < 2 ^ 63 }
+    requires running { totals.now.running < 2 ^ 63 }
+    requires failed { totals.now.failed < 2 ^ 63 }
+    requires withdrawn { totals.now.withdrawn < 2 ^ 63 }
+    requires good { totals.now.good < 2 ^ 63 }
+    requires sessions { totals.now.sessions < 2 ^ 63 }
+    requires spoiled { totals.now.spoiled < 2 ^ 63 }
+    ensures same_reference { tx.new.conn.ghost_name ≡ tx.old.conn.ghost_name }
+    ensures wrote { HasCleanDisk (state S.Store tx.new.conn.now)
+        → Wrote (Moves (with_totals_set batch totals.now)) (state S.Store tx.old.conn.now)
+        (state S.Store tx.new.conn.now) result }
+    ensures survives { Survives (state S.Store tx.old.conn.now) (state S.Store tx.new.conn.now)
+        (λ _. ⊥) }
+{
+    tx.execute(
+        "UPDATE batch SET waiting = ?2, running = ?3, failed = ?4, withdrawn = ?5, good = ?6, \
+        sessions = ?7, spoiled = ?8 WHERE id = ?1",
+        &[
+            int(batch),
+            int(totals.waiting),
+            int(totals.running),
+            int(totals.failed),
+            int(totals.withdrawn),
+            int(totals.good),
+            int(totals.sessions),
+            int(totals.spoiled),
+        ],
+    )
+}
+
+/// Closes a batch.
+pub fn set_closed<S: Alter>(tx: &mut Transaction<'_, S>, name: &Name) -> Result<usize, Error>
+    ensures same_reference { tx.new.conn.ghost_name ≡ tx.old.conn.ghost_name }
+    ensures wrote { HasCleanDisk (state S.Store tx.new.conn.now)
+        → Wrote (Moves (with_closed_set name.now)) (state S.Store tx.old.conn.now)
+        (state S.Store tx.new.conn.now) result }
+    ensures survives { Survives (state S.Store tx.old.conn.now) (state S.Store tx.new.conn.now)
+        (λ _. ⊥) }
+{
+    tx.execute(
+        "UPDATE batch SET closed = 1 WHERE name = ?1",
+        &[ValueRef::Text(name.bytes())],
+    )
+}
+
+/// Sets how the record at a place of a batch stands, how many of its sessions are spoiled, and how
+/// often it was remade.
+pub fn set_record<S: Alter>(
+    tx: &mut Transaction<'_, S>,
+    batch: u64,
+    place: u64,
+    stands: RecordState,
+    spoiled: u64,
+    remakes: u64,
+) -> Result<usize, Error>
+    requires batch { batch < 2 ^ 63 }
+    requires place { place < 2 ^ 63 }
+    requires spoiled { spoiled < 2 ^ 63 }
+    requires remakes { remakes < 2 ^ 63 }
+    ensures same_reference { tx.new.conn.ghost_name ≡ tx.old.conn.ghost_name }
+    ensures wrote { HasCleanDisk (state S.Store tx.new.conn.now)
+        → Wrote (Moves (with_record_set batch place stands spoiled remakes))
+        (state S.Store tx.old.conn.now) (state S.Store tx.new.conn.now) result }
+    ensures survives { Survives (state S.Store tx.old.conn.now) (state S.Store tx.new.conn.now)
+        (λ _. ⊥) }
+{
+    tx.execute(
+        "UPDATE record SET state = ?3, spoiled = ?4, remakes = ?5 WHERE batch = ?1 AND place = ?2",
+        &[
+            int(batch),
+            int(place),
+            int(record_code(stands)),
+            int(spoiled),
+            int(remakes),
+        ],
+    )
+}
+
+/// Ends a session by a reset, so that it is spoiled.
+pub fn set_end<S: Alter>(tx: &mut Transaction<'_, S>, session: u64) -> Result<usize, Error>
+    requires { session < 2 ^ 63 }
+    ensures same_reference { tx.new.conn.ghost_name ≡ tx.old.conn.ghost_name }
+    ensures wrote { HasCleanDisk (state S.Store tx.new.conn.now)
+        → Wrote (Moves (with_end_set session)) (state S.Store tx.old.conn.now)
+        (state S.Store tx.new.conn.now) result }
+    ensures survives { Survives (state S.Store tx.old.conn.now) (state S.Store tx.new.conn.now)
+        (λ _. ⊥) }
+{
+    tx.execute(
+        "UPDATE session SET state = 2, ended = 1 WHERE id = ?1",
+        &[int(session)],
+    )
+}
