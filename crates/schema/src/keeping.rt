@@ -7,7 +7,7 @@ ghost use Rattle.sql_base.specs.Ends.{Ends, IsKept, IsLeft};
 ghost use Rattle.schema.specs.Takes.{Takes};
 
 use job_core::Change;
-use rows_of_facts::{rows_after_change, rows_after_release, rows_with_reply};
+use rows_of_facts::{rows_after_release, rows_with_reply};
 use sqlite::{Alter, Connection, Error};
 use store_commits::{Writing, commit};
 use store_data::Name;
@@ -49,7 +49,7 @@ pub(crate) fn keep<'x, S: Alter>(
         (IsLeft (Takes (IsOwed change.now entry) (λ c. committed c change.now entry))
         (state S.Store conn.old)) }
 {
-    rows_after_change();
+
     rows_with_reply();
     let before = before(conn, change)?;
     let writing = Writing::Change {
