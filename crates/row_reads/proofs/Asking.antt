@@ -60,14 +60,19 @@ module _ {X : Type 0} (by_rowid : Bool) (encode : X → Row) (filters project : 
   looks [] = none
   looks (v ∷ r) = some v r
 
-  -- what is answered is what the rows with the key tell
+  -- what the rows that pass show is what the rows with the key tell
+  pub told_as : (xs : List X) (stored rows : List Row) → IsPermutation (map encode xs) (told by_rowid stored)
+      → IsPermutation (map (shown project params) (filter (passes filters params) stored)) rows → IsPermutation (map (λ x. tells by_rowid project params (encode x)) (filter key xs)) rows
+  told_as xs stored rows filled got =
+      looked_up encode (part by_rowid) (passes filters params) (λ r. passes filters params (whole by_rowid r)) key (shown project params) (tells by_rowid project params)
+      (λ x. tells by_rowid project params (encode x)) (λ r. ap (λ (l : Bool × Row). l.0) (looks r)) (λ r. ap (λ (l : Bool × Row). l.1) (looks r)) key_is (λ x. refl) xs
+      stored rows (subst (IsPermutation (map encode xs)) (part_told by_rowid stored) filled) got
+
+  -- so that is answered
   pub asked : (text : List ℕ) (tree : ℕ) → Asks text tree filters project → (old new : State) (rows : List Row) → Shown text params old new rows → old.now.schema ≡ our_schema
       → (xs : List X) → IsPermutation (map encode xs) (told by_rowid (old.now.trees tree)) → IsPermutation (map (λ x. tells by_rowid project params (encode x)) (filter key xs)) rows
   asked text tree asks old new rows h ours xs filled =
-      looked_up encode (part by_rowid) (passes filters params) (λ r. passes filters params (whole by_rowid r)) key (shown project params) (tells by_rowid project params)
-      (λ x. tells by_rowid project params (encode x)) (λ r. ap (λ (l : Bool × Row). l.0) (looks r)) (λ r. ap (λ (l : Bool × Row). l.1) (looks r)) key_is (λ x. refl) xs
-      (old.now.trees tree) rows (subst (IsPermutation (map encode xs)) (part_told by_rowid (old.now.trees tree)) filled)
-      (selected text params old new our_schema ours tree filters project asks.names asks.is asks.plain asks.unlisted rows h)
+      told_as xs (old.now.trees tree) rows filled (selected text params old new our_schema ours tree filters project asks.names asks.is asks.plain asks.unlisted rows h)
 
 -- what is made of the answer
 module _ {X Y : Type 0} (key : X → Bool) (tell : X → Row) (xs : List X) (rows : List Row) (got : IsPermutation (map tell (filter key xs)) rows) (decode : Row → Y) (f : X → Y) where

@@ -19,10 +19,10 @@ use Rattle.sql_rows.specs.Encoding.{number, record_code, record_row, session_cod
 use Rattle.sql_rows.specs.Image.{IsImage}
 use Rattle.row_reads.specs.declared.records.RecordAt.{RecordAt}
 use Rattle.row_reads.specs.declared.sessions.SessionAt.{SessionAt}
-use Rattle.row_reads.specs.CardDecoding.{number_in, record_at, record_in, record_state_of, session_at, session_in, session_state_of}
+use Rattle.row_reads.specs.CardDecoding.{record_at, record_in, record_state_of, session_at, session_in, session_state_of}
 use Rattle.row_reads.specs.CardKeys.{has_id, is_record_at, is_record_named, is_running_on}
 use Rattle.row_reads.specs.CardTexts.{by_batch_and_name, by_id, by_running_machine, record_at_text, record_columns, record_named_text, running_columns, running_text, session_columns, session_text}
-use Rattle.row_reads.specs.Decoding.{IsFirst}
+use Rattle.row_reads.specs.Decoding.{IsFirst, id_in}
 use Rattle.row_reads.specs.NameTexts.{by_two_columns}
 use Rattle.row_reads.proofs.Asking.{asked, one_found, tells}
 use Rattle.row_reads.proofs.CardMeanings.{record_at_asks, record_named_asks, running_asks, session_asks}
@@ -59,14 +59,14 @@ running_key : (machine : List ℕ) (s : StoredSession)
 running_key machine s = rw (same_text s.machine machine, alone (is_true (binary (Compare Eq Binary) (number (session_code s.state)) (number 0))), same_int (session_code s.state) 0, running_code s.state) refl
 
 pub running_found : (machine : List ℕ) (old new : State) (rows : List Row) → Shown running_text (Text machine ∷ []) old new rows → (t : Tables) → IsImage t old.now
-    → PassesOnce (is_running_on machine) t.sessions → (found : Option ℕ) → IsFirst (map number_in rows) found
+    → PassesOnce (is_running_on machine) t.sessions → (found : Option ℕ) → IsFirst (map id_in rows) found
     → found ≡ option_map (λ (s : StoredSession). s.id) (find (is_running_on machine) t.sessions)
 running_found machine old new rows h t image once found first =
     let params = Text machine ∷ [] in
     one_found (is_running_on machine) (λ s. tells true running_columns params (session_row s)) t.sessions rows
     (asked true session_row by_running_machine running_columns params (is_running_on machine) refl (λ v r. refl) (running_key machine) running_text 12 running_asks old new rows h image.ours t.sessions
     image.each.1.1.1.1.1.1.0.rows)
-    number_in (λ (s : StoredSession). s.id) once (λ s is. refl) found first
+    id_in (λ (s : StoredSession). s.id) once (λ s is. refl) found first
 
 -- ---- records
 

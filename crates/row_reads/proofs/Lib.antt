@@ -1,5 +1,6 @@
 pub mod Looking
 pub mod Asking
+pub mod Sorting
 pub mod Meanings
 pub mod Answering
 pub mod NameMeanings

@@ -44,10 +44,6 @@ pub record IsSessionAt (s : SessionAt) : Type 0 where
   pub words : s.words < 2 ^ 63
   pub cursor : IsCursor s.cursor
 
--- the number of a row that shows a number alone
-abbrev pub number_in : Row → ℕ
-number_in row = nat_in (column row 0)
-
 -- ---- records
 
 -- the state that a number stands for

@@ -5,4 +5,5 @@ pub mod Decoding
 pub mod CardDecoding
 pub mod Keys
 pub mod Telling
+pub mod Extremes
 pub mod CardKeys

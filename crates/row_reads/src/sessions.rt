@@ -3,14 +3,14 @@ ghost use Rattle.std.specs.Prelude.{◌≡◌, ◌<◌, ◌^◌, false, find, op
 ghost use Rattle.sqlite.specs.Held.{state};
 ghost use Rattle.sqlite.specs.State.{HasCleanDisk, Survives};
 ghost use Rattle.store_data.specs.Cursor.{IsCursor};
-ghost use Rattle.row_reads.specs.CardDecoding.{IsSessionAt, cursor_in, number_in, session_at, session_in, session_state_of};
+ghost use Rattle.row_reads.specs.CardDecoding.{IsSessionAt, cursor_in, session_at, session_in, session_state_of};
 ghost use Rattle.row_reads.specs.CardKeys.{has_id, is_running_on};
 ghost use Rattle.row_reads.specs.Decoding.{IsFirst};
 ghost use Rattle.sql_base.specs.Ends.{IsKept};
 ghost use Rattle.sql_rows.specs.Image.{IsImage};
 ghost use Rattle.table_rows.specs.Tables.{PassesOnce, StoredSession, Tables};
 
-use crate::values::{name_at, number_at};
+use crate::values::{first_id, name_at, number_at};
 use job_core::SessionState;
 use sql_base::{int, rows_of};
 use sqlite::types::ValueRef;
@@ -132,17 +132,6 @@ pub fn session<S: Alter>(conn: &mut Connection<S>, id: u64) -> Result<Option<Ses
         &[int(id)],
     )?;
     first_session(rows.as_slice())
-}
-
-// The number in the first answered row, if there is one.
-fn first_id(rows: &[Row]) -> Result<Option<u64>, Error>
-    ensures value { IfOk result (λ found. IsFirst (map number_in rows.now) found) }
-    ensures ranged { IfOk result (λ found. IfSome found (λ id. id < 2 ^ 63)) }
-{
-    match rows.first() {
-        None => Ok(None),
-        Some(row) => Ok(Some(number_at(row, 0)?)),
-    }
 }
 
 /// The id of the session that runs at a machine. Nothing is changed, and a crash leaves what it could

@@ -1,6 +1,6 @@
 -- The rows of blanks by serial, and those of lots by name and by range.
 use Rattle.std.proofs.Common.{◌≡◌, ◌≢◌, ℕ, ◌==◌, Bool, true, false, ◌||◌, List, [], ◌∷◌, ◌++◌, get_or, map, Option, Some, None, inl, inr, refl, sym, ap, ◌∙◌, subst, arith}
-use Rattle.std.specs.Prelude.{AllPairs, find, is_some, option_map}
+use Rattle.std.specs.Prelude.{AllPairs, bytes_eq, find, is_some, option_map}
 use Rattle.std.specs.List.{list_any}
 use Rattle.std.proofs.lemmas.Bool.{cases_Bool}
 use Rattle.std.proofs.lemmas.Bool.Decides.{nat_tests}
@@ -8,17 +8,18 @@ use Rattle.std.proofs.lemmas.List.{map-append, map-id}
 use Rattle.std.proofs.lemmas.List.Folds.{list_any-append}
 use Rattle.std.proofs.lemmas.Simd.{map-map}
 use Rattle.store_data.proofs.FaultLemmas.{list_any-map}
+use Rattle.store_data.proofs.GroupLemmas.{bytes_eq-same}
 use Rattle.job_core.specs.declared.facts.Lot.{Lot}
 use Rattle.job_core.specs.Facts.{Facts, Session}
 use Rattle.job_core.specs.Sound.{IsSound, charges}
-use Rattle.job_core.specs.States.{any_overlaps, is_charged, lot_named, lot_of}
+use Rattle.job_core.specs.States.{any_overlaps, is_charged, is_in, lot_named, lot_of}
 use Rattle.job_core.proofs.Lists.{mapped}
 use Rattle.step_laws.specs.Sums.{discarded_in}
 use Rattle.step_laws.proofs.BlankSums.{apart_once, named_once}
 use Rattle.table_rows.specs.Tables.{PassesOnce, StoredBlank, StoredLot}
 use Rattle.rows_of_facts.specs.Image.{stored_blank, stored_blanks, stored_lot, stored_lots}
 use Rattle.rows_answer.specs.Keys.{is_blank, is_lot_across, is_lot_around, is_lot_named}
-use Rattle.rows_answer.proofs.Finding.{AllPairs-from_map, AllPairs-map, find-map}
+use Rattle.rows_answer.proofs.Finding.{AllPairs-from_map, AllPairs-map, find-map, found_also}
 
 is_some_found : {X : Type 0} (p : X → Bool) (xs : List X) → is_some (find p xs) ≡ list_any p xs
 is_some_found p [] = refl
@@ -97,6 +98,11 @@ module _ (f : Facts) where
 
   pub overlaps_found : (first count : ℕ) → any_overlaps f.lots first count ≡ is_some (find (is_lot_across first count) (stored_lots f))
   overlaps_found first count = overlaps_told first count ∙ sym (is_some_found (is_lot_across first count) (stored_lots f))
+
+  -- the lot of a blank under its name
+  pub own_name_found : IsSound f → (serial : ℕ) (l : Lot) → lot_of f.lots serial ≡ Some l → lot_named f.lots l.name ≡ Some l
+  own_name_found sound serial l at =
+      found_also (λ (m : Lot). bytes_eq m.name l.name) (is_in serial) f.lots l (named_once (λ (m : Lot). m.name) f.lots l.name sound.named.lots.once) at (bytes_eq-same l.name)
 
   pub discarded_told : (n : List ℕ) (row : StoredLot) → find (is_lot_named n) (stored_lots f) ≡ Some row → (lot_named f.lots n ≡ Some row.lot) × (row.discarded ≡ discarded_in f row.lot)
   discarded_told n row at =

@@ -1,25 +1,19 @@
 -- What is found by a key, in lists that are mapped, numbered or joined.
-use Rattle.std.proofs.Common.{◌≡◌, ℕ, zero, suc, ◌+◌, ◌<◌, ◌≤◌, ◌==◌, Bool, true, false, cond, List, [], ◌∷◌, ◌++◌, map, All, Option, Some, None, inl, inr, refl, sym, ap, ◌∙◌, arith}
-use Rattle.std.specs.Prelude.{AllPairs, bytes_eq, count_by, filter, find, option_map, slice_get}
-use Rattle.std.specs.List.{enumerate_from, flat_map, position_or_len}
+use Rattle.std.proofs.Common.{◌≡◌, ℕ, zero, suc, ◌+◌, ◌<◌, ◌≤◌, ◌==◌, ◌&&◌, ◌||◌, Bool, true, false, cond, List, [], ◌∷◌, ◌++◌, get_or, map, All, Option, Some, None, inl, inr, refl, sym, ap, ◌∙◌, arith}
+use Rattle.std.specs.Prelude.{AllPairs, count_by, filter, find, option_map, slice_get, unwrap_or}
+use Rattle.std.specs.List.{enumerate_from, flat_map, list_any, position_or_len}
 use Rattle.std.specs.Option.{option_or}
-use Rattle.std.proofs.lemmas.Bool.{both_ways, cases_Bool, cond-false, cond-true, false_from_ne_true}
+use Rattle.std.proofs.Math.Bool.{or-false}
+use Rattle.std.proofs.lemmas.Bool.{and_left, both_ways, cases_Bool, cond-false, cond-true}
 use Rattle.std.proofs.lemmas.Bool.Decides.{nat_tests}
 use Rattle.std.proofs.lemmas.List.{append-nil}
 use Rattle.std.proofs.lemmas.List.Elements.{All-append, All-cons, All-head, All-map, All-nil, All-tail, filter-append}
-use Rattle.std.proofs.lemmas.List.Folds.{find-append}
+use Rattle.std.proofs.lemmas.List.Folds.{find-append, list_any_none}
 use Rattle.std.proofs.lemmas.List.Kept.{AllPairs-cons}
 use Rattle.std.proofs.lemmas.List.Sums.{sum_by-cons}
 use Rattle.store_data.proofs.FaultLemmas.{All-from_map}
-use Rattle.store_data.proofs.GroupLemmas.{bytes_eq-same, same-bytes_eq}
+use Rattle.job_core.proofs.Lists.{find-All}
 use Rattle.table_rows.specs.Tables.{PassesOnce}
-
-pub bytes_eq_turned : (m n : List ℕ) → bytes_eq m n ≡ bytes_eq n m
-bytes_eq_turned m n = elim (cases_Bool (bytes_eq n m)) [
-  | inl same ↦ ap (λ k. bytes_eq m k) (same-bytes_eq n m same) ∙ bytes_eq-same m ∙ sym same
-  | inr differ ↦
-      false_from_ne_true (bytes_eq m n) (λ same. both_ways (bytes_eq n m) differ (ap (bytes_eq n) (same-bytes_eq m n same) ∙ bytes_eq-same n)) ∙ sym differ
-]
 
 pub option_map-map : {X Y Z : Type 0} (g : Y → Z) (h : X → Y) (o : Option X) → option_map g (option_map h o) ≡ option_map (λ x. g (h x)) o
 option_map-map g h None = refl
@@ -55,6 +49,18 @@ module _ {X : Type 0} (R : X → X → Type 0) where
   AllPairs-from_map f (w ∷ ws) pairs =
       AllPairs-cons (λ v w. R (f v) (f w)) w ws (All-from_map f (R (f w)) ws (pairs_head (f w) (map f ws) pairs)) (AllPairs-from_map f ws (pairs_tail (f w) (map f ws) pairs))
 
+  -- joined, where what is of an earlier one stands before what is of a later one
+  All-joined : {W : Type 0} (P : X → Type 0) (g : W → List X) (ws : List W) → All (λ w. All P (g w)) ws → All P (flat_map g ws)
+  All-joined P g [] each = All-nil P
+  All-joined P g (w ∷ ws) each = All-append P (g w) (flat_map g ws) (All-head (λ v. All P (g v)) w ws each) (All-joined P g ws (All-tail (λ v. All P (g v)) w ws each))
+
+  pub AllPairs-joined : {W : Type 0} (Q : W → W → Type 0) (g : W → List X) → ((w : W) → AllPairs R (g w)) → ((v w : W) → Q v w → All (λ x. All (R x) (g w)) (g v))
+      → (ws : List W) → AllPairs Q ws → AllPairs R (flat_map g ws)
+  AllPairs-joined Q g own across [] pairs = pairs_nil
+  AllPairs-joined Q g own across (w ∷ ws) pairs =
+      AllPairs-append (g w) (flat_map g ws) (own w) (AllPairs-joined Q g own across ws (λ i j d before within. pairs (suc i) (suc j) d (omega arith) (omega arith)))
+      (λ k d within. All-joined (R (get_or (g w) k d)) g ws (λ i e inside. across w (get_or ws i e) (pairs 0 (suc i) e (omega arith) (omega arith)) k d within))
+
   -- with their numbers
   numbered_beside : (x : X) (n : ℕ) (xs : List X) → All (R x) xs → All (λ (e : ℕ × X). R x e.1) (enumerate_from n xs)
   numbered_beside x n [] each = All-nil (λ (e : ℕ × X). R x e.1)
@@ -82,6 +88,41 @@ module _ {X : Type 0} (p : X → Bool) where
       let miss : p x ≡ false = All-head (λ y. p y ≡ false) x xs none in
       cond-false (p x) (x ∷ filter p xs) (filter p xs) miss ∙ filter_none xs (All-tail (λ y. p y ≡ false) x xs none)
 
+  pub filter_all : (xs : List X) → All (λ x. p x ≡ true) xs → filter p xs ≡ xs
+  filter_all [] all = refl
+  filter_all (x ∷ xs) all =
+      let hit : p x ≡ true = All-head (λ y. p y ≡ true) x xs all in
+      cond-true (p x) (x ∷ filter p xs) (filter p xs) hit ∙ ap (λ ys. x ∷ ys) (filter_all xs (All-tail (λ y. p y ≡ true) x xs all))
+
+  -- tests that agree at each
+  pub filter_alike : (q : X → Bool) (xs : List X) → All (λ x. p x ≡ q x) xs → filter p xs ≡ filter q xs
+  filter_alike q [] alike = refl
+  filter_alike q (x ∷ xs) alike =
+      ap (λ b. cond b (x ∷ filter p xs) (filter p xs)) (All-head (λ y. p y ≡ q y) x xs alike)
+      ∙ ap (λ ys. cond (q x) (x ∷ ys) ys) (filter_alike q xs (All-tail (λ y. p y ≡ q y) x xs alike))
+
+  pub find_alike : (q : X → Bool) (xs : List X) → All (λ x. p x ≡ q x) xs → find p xs ≡ find q xs
+  find_alike q [] alike = refl
+  find_alike q (x ∷ xs) alike =
+      ap (λ b. cond b (Some x) (find p xs)) (All-head (λ y. p y ≡ q y) x xs alike) ∙ ap (cond (q x) (Some x)) (find_alike q xs (All-tail (λ y. p y ≡ q y) x xs alike))
+
+  pub find-filter : (q : X → Bool) (xs : List X) → find p (filter q xs) ≡ find (λ x. q x && p x) xs
+  find-filter q [] = refl
+  find-filter q (x ∷ xs) = elim (q x) as (λ b. find p (cond b (x ∷ filter q xs) (filter q xs)) ≡ cond (b && p x) (Some x) (find (λ y. q y && p y) xs)) [
+    | true ↦ ap (cond (p x) (Some x)) (find-filter q xs)
+    | false ↦ find-filter q xs
+  ]
+
+  -- whether the one that passes passes another test too
+  pub any_beside : (q : X → Bool) (xs : List X) → PassesOnce p xs → list_any (λ x. p x && q x) xs ≡ unwrap_or (option_map q (find p xs)) false
+  any_beside q [] once = refl
+  any_beside q (x ∷ xs) once = elim (cases_Bool (p x)) [
+    | inl hit ↦
+        let none : list_any (λ y. p y && q y) xs ≡ false = list_any_none (λ y. p y && q y) xs (λ k d within. and_left _ _ (once 0 (suc k) d (omega arith) (omega arith) hit)) in
+        rw hit (ap (λ b. q x || b) none ∙ or-false (q x))
+    | inr miss ↦ rw miss (any_beside q xs (λ i j d before within. once (suc i) (suc j) d (omega arith) (omega arith)))
+  ]
+
   -- what is found passes
   pub find_passes : (xs : List X) (x : X) → find p xs ≡ Some x → p x ≡ true
   find_passes [] x is = absurd (cc)
@@ -90,7 +131,25 @@ module _ {X : Type 0} (p : X → Bool) where
     | inr miss ↦ find_passes xs x (sym (cond-false (p y) (Some y) (find p xs) miss) ∙ is)
   ]
 
-  none_counted : (xs : List X) → count_by p xs ≡ 0 → All (λ x. p x ≡ false) xs
+  -- what another test finds is found, where it passes and no other does
+  pub found_also : (q : X → Bool) (xs : List X) (x : X) → PassesOnce p xs → find q xs ≡ Some x → p x ≡ true → find p xs ≡ Some x
+  found_also q [] x once is passes = absurd (cc)
+  found_also q (y ∷ xs) x once is passes = elim (cases_Bool (q y)) [
+    | inl here ↦
+        let same : y ≡ x = cc (cond-true (q y) (Some y) (find q xs) here) in
+        cond-true (p y) (Some y) (find p xs) (ap p same ∙ passes) ∙ ap Some same
+    | inr other ↦
+        let later : find q xs ≡ Some x = sym (cond-false (q y) (Some y) (find q xs) other) ∙ is in
+        elim (cases_Bool (p y)) [
+          | inl hit ↦
+              let none : All (λ z. p z ≡ false) xs = λ k d within. once 0 (suc k) d (omega arith) (omega arith) hit in
+              absurd (both_ways (p x) (find-All q (λ z. p z ≡ false) xs x none later) passes)
+          | inr miss ↦
+              cond-false (p y) (Some y) (find p xs) miss ∙ found_also q xs x (λ i j d before within. once (suc i) (suc j) d (omega arith) (omega arith)) later passes
+        ]
+  ]
+
+  pub none_counted : (xs : List X) → count_by p xs ≡ 0 → All (λ x. p x ≡ false) xs
   none_counted [] none = All-nil (λ x. p x ≡ false)
   none_counted (x ∷ xs) none =
       let sum = sum_by-cons (λ y. cond {A = ℕ} (p y) 1 0) x xs in
@@ -152,6 +211,28 @@ module _ {X : Type 0} where
       later k m n (x ∷ xs) less =
           All-cons (λ (e : ℕ × X). (k == m) ≡ true → (e.0 == m) ≡ false) (n, x) (enumerate_from (n + 1) xs)
           (λ hit. grind (arith, nat_tests)) (later k m (n + 1) xs (omega arith))
+
+  -- the numbers rise
+  pub numbers_rise : (n : ℕ) (xs : List X) → AllPairs (λ (d e : ℕ × X). d.0 < e.0) (enumerate_from n xs)
+  numbers_rise n [] = λ i j d before within. absurd (omega arith)
+  numbers_rise n (x ∷ xs) =
+      AllPairs-cons (λ (d e : ℕ × X). d.0 < e.0) (n, x) (enumerate_from (n + 1) xs) (later n (n + 1) xs (omega arith)) (numbers_rise (n + 1) xs)
+    where
+      later : (k n : ℕ) (xs : List X) → k < n → All (λ (e : ℕ × X). k < e.0) (enumerate_from n xs)
+      later k n [] less = All-nil (λ (e : ℕ × X). k < e.0)
+      later k n (x ∷ xs) less = All-cons (λ (e : ℕ × X). k < e.0) (n, x) (enumerate_from (n + 1) xs) less (later k (n + 1) xs (omega arith))
+
+  pub unnumbered : (n : ℕ) (xs : List X) → map (λ (e : ℕ × X). e.1) (enumerate_from n xs) ≡ xs
+  unnumbered n [] = refl
+  unnumbered n (x ∷ xs) = ap (λ ys. x ∷ ys) (unnumbered (n + 1) xs)
+
+  pub kept_numbered : (p : X → Bool) (n : ℕ) (xs : List X) → map (λ (e : ℕ × X). e.1) (filter (λ (e : ℕ × X). p e.1) (enumerate_from n xs)) ≡ filter p xs
+  kept_numbered p n [] = refl
+  kept_numbered p n (x ∷ xs) = elim (p x) as (λ b.
+      map (λ (e : ℕ × X). e.1) (cond b ((n, x) ∷ filter (λ (e : ℕ × X). p e.1) (enumerate_from (n + 1) xs)) (filter (λ (e : ℕ × X). p e.1) (enumerate_from (n + 1) xs))) ≡ cond b (x ∷ filter p xs) (filter p xs)) [
+        | true ↦ ap (λ ys. x ∷ ys) (kept_numbered p (n + 1) xs)
+        | false ↦ kept_numbered p (n + 1) xs
+      ]
 
   -- by what is numbered
   pub found_numbered : (p : X → Bool) (n : ℕ) (xs : List X) → find (λ (e : ℕ × X). p e.1) (enumerate_from n xs) ≡ option_map (λ x. (n + position_or_len p xs, x)) (find p xs)

@@ -5,3 +5,9 @@ pub mod SessionRows
 pub mod BlankRows
 pub mod ReplyRows
 pub mod RowNumbers
+pub mod BatchRecords
+pub mod GroupingRows
+pub mod BatchTold
+pub mod LineRows
+pub mod TotalRows
+pub mod InOrder

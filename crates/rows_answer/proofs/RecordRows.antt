@@ -1,6 +1,6 @@
 -- The rows of records by name and by place.
 use Rattle.std.proofs.Common.{◌≡◌, ℕ, ◌+◌, ◌==◌, Bool, true, false, cond, ◌&&◌, List, [], ◌∷◌, map, All, Option, Some, None, refl, sym, ap, ◌∙◌, subst, arith}
-use Rattle.std.specs.Prelude.{AllPairs, bytes_eq, count_by, find, if◌then◌else◌, option_map}
+use Rattle.std.specs.Prelude.{AllPairs, bytes_eq, count_by, find, if◌then◌else◌, option_and_then, option_map, slice_get}
 use Rattle.std.specs.List.{enumerate_from, list_any}
 use Rattle.std.proofs.lemmas.Bool.{and_left, and_parts, and_right, cond-true}
 use Rattle.std.proofs.lemmas.Bool.Decides.{nat_tests}
@@ -14,16 +14,19 @@ use Rattle.store_data.specs.declared.row.Product.{Product}
 use Rattle.store_data.specs.declared.row.Row.{Row}
 use Rattle.store_data.proofs.GroupLemmas.{Distinct, Distinct-first_appearances, same-bytes_eq}
 use Rattle.store_data.proofs.IsPlanLemmas.{All-from_list_any}
+use Rattle.job_core.specs.declared.facts.RecordState.{RecordState}
 use Rattle.job_core.specs.Facts.{Batch, Facts}
 use Rattle.job_core.specs.Sound.{IsRecord}
 use Rattle.job_core.specs.States.{batch_named, is_spoiled, record_state, record_state_of, records_named, records_of, records_under, remakes_of, rows_of, states_of}
+use Rattle.job_core.proofs.Lists.{mapped}
+use Rattle.step_laws.proofs.BlankSums.{bytes_eq_either}
 use Rattle.table_rows.specs.Tables.{PassesOnce, StoredBatch, StoredRecord}
 use Rattle.rows_of_facts.specs.Before.{IsPlaceOf}
 use Rattle.rows_of_facts.specs.Image.{batch_id, batches_by_id, place_in, placed_records, records_in, stored_batch, stored_batches, stored_record, stored_records}
 use Rattle.rows_answer.specs.Keys.{is_batch_named, is_record_at, is_record_named}
 use Rattle.rows_answer.specs.Telling.{place_of, record_row}
 use Rattle.rows_answer.proofs.BatchRows.{batch_at, named_row, own_name, totals_are}
-use Rattle.rows_answer.proofs.Finding.{AllPairs-map, AllPairs-numbered, bytes_eq_turned, find-map, found_joined, found_numbered, number_found, number_once, once_joined}
+use Rattle.rows_answer.proofs.Finding.{AllPairs-map, AllPairs-numbered, find-map, found_joined, found_numbered, number_found, number_once, once_joined}
 
 -- ---- names of one batch
 
@@ -37,7 +40,7 @@ unfolding records_of
 names_once products b = distinct_once (records_of products b) (Distinct-first_appearances [] (map (λ (row : Row). row.rec) (rows_of products b)) tt)
 
 pub name_alone : (n m k : List ℕ) → bytes_eq m k ≡ false → bytes_eq m n ≡ true → bytes_eq k n ≡ false
-name_alone n m k differ hit = bytes_eq_turned k n ∙ ap (λ z. bytes_eq z k) (sym (same-bytes_eq m n hit)) ∙ differ
+name_alone n m k differ hit = bytes_eq_either k n ∙ ap (λ z. bytes_eq z k) (sym (same-bytes_eq m n hit)) ∙ differ
 
 pub mapped_cond : {X Y : Type 0} (g : X → Y) (t : Bool) (x : X) → option_map g (cond t (Some x) None) ≡ cond t (Some (g x)) None
 mapped_cond g true x = refl
@@ -51,24 +54,28 @@ found_place : (n : List ℕ) (names : List (List ℕ))
     → find (λ (r : ℕ × List ℕ). bytes_eq r.1 n) (enumerate_from 0 names) ≡ cond (list_any (bytes_eq n) names) (Some (place_in names n, n)) None
 found_place n names =
     let place : 0 + place_in names n ≡ place_in names n = omega arith in
-    (λ i. find (λ (r : ℕ × List ℕ). bytes_eq_turned r.1 n i) (enumerate_from 0 names))
+    (λ i. find (λ (r : ℕ × List ℕ). bytes_eq_either r.1 n i) (enumerate_from 0 names))
     ∙ found_numbered (bytes_eq n) 0 names
     ∙ ap (λ k. option_map (λ (m : List ℕ). (k, m)) (find (bytes_eq n) names)) place
     ∙ ap (option_map (λ (m : List ℕ). (place_in names n, m))) (find_same bytes_eq-Decides n names)
     ∙ mapped_cond (λ (m : List ℕ). (place_in names n, m)) (list_any (bytes_eq n) names) n
+
+pub name_at : (n : List ℕ) (names : List (List ℕ)) → list_any (bytes_eq n) names ≡ true → slice_get names (place_in names n) ≡ Some n
+name_at n names among =
+    sym (find_at (bytes_eq n) names) ∙ find_same bytes_eq-Decides n names ∙ cond-true (list_any (bytes_eq n) names) (Some n) None among
 
 -- the place among places
 found_at : (n : List ℕ) (names : List (List ℕ)) → list_any (bytes_eq n) names ≡ true
     → find (λ (r : ℕ × List ℕ). r.0 == place_in names n) (enumerate_from 0 names) ≡ Some (place_in names n, n)
 found_at n names among =
     number_found (place_in names n) (place_in names n) 0 names (omega arith)
-    ∙ ap (option_map (λ (m : List ℕ). (place_in names n, m))) (sym (find_at (bytes_eq n) names) ∙ find_same bytes_eq-Decides n names ∙ cond-true (list_any (bytes_eq n) names) (Some n) None among)
+    ∙ ap (option_map (λ (m : List ℕ). (place_in names n, m))) (name_at n names among)
 
 module _ (f : Facts) where
   abbrev of_batch : ℕ → ℕ × Batch → Bool
   of_batch id e = e.0 == id
 
-  names_are : (b : List ℕ) (batch : Batch) → batch_named f.batches b ≡ Some batch → records_of f.products batch ≡ records_named f b
+  pub names_are : (b : List ℕ) (batch : Batch) → batch_named f.batches b ≡ Some batch → records_of f.products batch ≡ records_named f b
   names_are b batch there = sym (ap (records_under f.products) there)
 
   -- ---- by name
@@ -188,3 +195,15 @@ module _ (f : Facts) where
           (sym (name_row b r batch is) ∙ ap (λ k. find (is_record_named k r) (stored_records f)) id ∙ at_x) in
           subst (λ y. IsPlaceOf f b r (place_of row y)) second.1
           (subst (λ y. IsPlaceOf f b r (place_of y (stored_record f e (place_in (records_named f b) r, r)))) first (place_is b r batch is))
+
+  -- a record that stands has its rows
+  pub rows_there : (b r : List ℕ) (state : RecordState) → record_state_of f b r ≡ Some state
+      → (row : StoredBatch) × (x : StoredRecord) × (find (is_batch_named b) (stored_batches f) ≡ Some row) × (find (is_record_named row.id r) (stored_records f) ≡ Some x)
+  rows_there b r state is =
+      let it = mapped (λ (x : StoredRecord). x.state) (record_row (stored_batches f) (stored_records f) b r) state (sym (state_told b r) ∙ is) in
+      by_row it.0 it.1 (find (is_batch_named b) (stored_batches f)) refl
+    where
+      by_row : (x : StoredRecord) → record_row (stored_batches f) (stored_records f) b r ≡ Some x → (o : Option StoredBatch) → find (is_batch_named b) (stored_batches f) ≡ o
+          → (row : StoredBatch) × (y : StoredRecord) × (find (is_batch_named b) (stored_batches f) ≡ Some row) × (find (is_record_named row.id r) (stored_records f) ≡ Some y)
+      by_row x at None none = absurd (none-some x (sym (ap (option_and_then (λ (row : StoredBatch). find (is_record_named row.id r) (stored_records f))) none) ∙ at))
+      by_row x at (Some row) there = (row, x, there, sym (ap (option_and_then (λ (y : StoredBatch). find (is_record_named y.id r) (stored_records f))) there) ∙ at)

@@ -1,8 +1,9 @@
 -- How many rows there are, and their ids.
-use Rattle.std.proofs.Common.{◌≡◌, ℕ, ◌+◌, List, [], ◌∷◌, length, map, refl, sym, ap, ◌∙◌}
+use Rattle.std.proofs.Common.{◌≡◌, ℕ, ◌+◌, ◌≤◌, ◌<◌, List, [], ◌∷◌, All, length, map, refl, sym, ap, ◌∙◌, subst, arith}
 use Rattle.std.specs.List.{enumerate_from, range_with_len}
 use Rattle.std.proofs.lemmas.List.{length-map}
-use Rattle.std.proofs.lemmas.List.FromFn.{length-enumerate_from}
+use Rattle.std.proofs.lemmas.List.Elements.{All-map}
+use Rattle.std.proofs.lemmas.List.FromFn.{get_or-enumerate_from, length-enumerate_from}
 use Rattle.std.proofs.lemmas.Simd.{map-map}
 use Rattle.job_core.specs.Facts.{Facts}
 use Rattle.table_rows.specs.Tables.{StoredBatch, StoredSession}
@@ -13,6 +14,11 @@ module _ {X : Type 0} where
   numbers_are n [] = refl
   numbers_are n (x ∷ xs) = ap (λ ns. n ∷ ns) (numbers_are (n + 1) xs)
 
+  ids_within : (xs : List X) → All (λ (e : ℕ × X). (1 ≤ e.0) × (e.0 ≤ length xs)) (enumerate_from 1 xs)
+  ids_within xs k d within =
+      let inside : k < length xs = omega (arith, within, length-enumerate_from 1 xs) in
+      subst (λ (e : ℕ × X). (1 ≤ e.0) × (e.0 ≤ length xs)) (sym (get_or-enumerate_from 1 xs k d inside)) (omega arith, omega arith)
+
 module _ (f : Facts) where
   pub session_ids : map (λ (s : StoredSession). s.id) (stored_sessions f) ≡ range_with_len 1 (length f.sessions)
   unfolding stored_sessions
@@ -21,6 +27,15 @@ module _ (f : Facts) where
   pub batch_ids : map (λ (b : StoredBatch). b.id) (stored_batches f) ≡ range_with_len 1 (length f.batches)
   unfolding stored_batches
   batch_ids = map-map (λ (b : StoredBatch). b.id) (stored_batch f) (batches_by_id f) ∙ numbers_are 1 f.batches
+
+  -- the last id is the number of rows
+  pub session_ids_within : All (λ (s : StoredSession). (1 ≤ s.id) × (s.id ≤ length f.sessions)) (stored_sessions f)
+  unfolding stored_sessions
+  session_ids_within = All-map (λ (s : StoredSession). (1 ≤ s.id) × (s.id ≤ length f.sessions)) (stored_session f) (sessions_by_id f) (ids_within f.sessions)
+
+  pub batch_ids_within : All (λ (b : StoredBatch). (1 ≤ b.id) × (b.id ≤ length f.batches)) (stored_batches f)
+  unfolding stored_batches
+  batch_ids_within = All-map (λ (b : StoredBatch). (1 ≤ b.id) × (b.id ≤ length f.batches)) (stored_batch f) (batches_by_id f) (ids_within f.batches)
 
   pub session_count : length f.sessions ≡ length (stored_sessions f)
   unfolding stored_sessions

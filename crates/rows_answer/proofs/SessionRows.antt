@@ -58,9 +58,6 @@ module _ (f : Facts) where
     row_is : session_of own own_batch own_record ≡ session_row f x
     row_is = ap (λ m. let r : SessionRow = record (session_row f x) { batch = m } in r) (own_name f x.batch is.batch is.batch_is)
 
-    row_found : session_row f x ≡ session_of own own_batch own_record
-    row_found = sym row_is
-
     told_in : option_and_then (λ (b : StoredBatch). option_map (session_of own b) (find (is_record_at own.batch own.place) (stored_records f))) (find (is_batch own.batch) (stored_batches f)) ≡ Some (session_row f x)
     told_in =
         ap (option_and_then (λ (b : StoredBatch). option_map (session_of own b) (find (is_record_at own.batch own.place) (stored_records f)))) batch_found
@@ -99,6 +96,13 @@ module _ (f : Facts) where
           let at_batch = subst (λ (y : StoredSession). find (is_batch y.batch) (stored_batches f) ≡ Some b) own_is at_b in
           let at_record = subst (λ (y : StoredSession). find (is_record_at y.batch y.place) (stored_records f) ≡ Some r) own_is at_r in
           (x, is, place_found id x (session_sound f id x sound is) b r at_batch at_record)
+
+  pub rows_there : IsSound f → (id : ℕ) (x : Session) → session_numbered f.sessions id ≡ Some x
+      → (s : StoredSession) × (b : StoredBatch) × (r : StoredRecord)
+      × (find (is_session id) (stored_sessions f) ≡ Some s) × (find (is_batch s.batch) (stored_batches f) ≡ Some b) × (find (is_record_at s.batch s.place) (stored_records f) ≡ Some r)
+  rows_there sound id x there =
+      let is = session_sound f id x sound there in
+      (own id x is, own_batch id x is, own_record id x is, session_at id ∙ ap (option_map (λ (y : Session). stored_session f (id, y))) there, batch_found id x is, record_found id x is)
 
   -- ---- by machine
 

@@ -1,10 +1,20 @@
--- What rows tell: how a batch stands, where a record does, and a session with the names of its batch and its record.
-use Rattle.std.specs.Prelude.{◌+◌, ◌==◌, ◌&&◌, ℕ, Bool, true, List, find, Option, Some, None, option_and_then, option_map}
+-- What rows tell: how a batch stands, where a record does, what its plan is, and a session with the names of its batch and its record.
+use Rattle.std.specs.Prelude.{◌+◌, ◌==◌, ◌&&◌, ℕ, Bool, true, false, List, [], length, map, filter, find, sum_by, bytes_eq, Option, Some, None, option_and_then, option_map}
+use Rattle.store_data.specs.declared.row.Product.{Product}
+use Rattle.store_data.specs.declared.row.Row.{Row}
+use Rattle.store_data.specs.Sequence.{Plan, plan_of}
+use Rattle.job_core.specs.declared.facts.RecordState.{RecordState}
+use Rattle.job_core.specs.declared.facts.RecordState.TheVariants as rec
+use Rattle.job_core.specs.declared.rows.BatchRow.{BatchRow}
+use Rattle.job_core.specs.declared.rows.BatchSize.{BatchSize}
 use Rattle.job_core.specs.declared.rows.BatchTotals.{BatchTotals}
+use Rattle.job_core.specs.declared.rows.BlankTotals.{BlankTotals}
+use Rattle.job_core.specs.declared.rows.RecordLine.{RecordLine}
 use Rattle.job_core.specs.declared.rows.SessionRow.{SessionRow}
+use Rattle.job_core.specs.States.{product_named}
 use Rattle.table_rows.specs.declared.before.RecordPlace.{RecordPlace}
-use Rattle.table_rows.specs.Tables.{StoredBatch, StoredRecord, StoredSession}
-use Rattle.rows_answer.specs.Keys.{is_batch, is_batch_named, is_record_at, is_record_named, is_session}
+use Rattle.table_rows.specs.Tables.{StoredBatch, StoredGrouping, StoredLot, StoredRecord, StoredSession}
+use Rattle.rows_answer.specs.Keys.{is_batch, is_batch_named, is_grouping_at, is_good_of, is_grouping_of, is_record_at, is_record_named, is_record_of, is_session, is_waiting_of}
 
 -- ---- how a batch stands
 
@@ -21,6 +31,7 @@ totals_of b = record {
   spoiled = b.spoiled;
 }
 
+-- nothing in it
 abbrev pub no_totals : BatchTotals
 no_totals = record {
   records = 0;
@@ -42,6 +53,7 @@ totals_in (Some b) = totals_of b
 abbrev pub is_over : StoredBatch → Bool
 is_over b = (b.waiting == 0) && ((b.running == 0) && (b.failed == 0))
 
+-- a name that no batch has has none that does
 abbrev pub is_over_in : Option StoredBatch → Bool
 is_over_in None = true
 is_over_in (Some b) = is_over b
@@ -72,3 +84,78 @@ abbrev pub session_in : List StoredSession → List StoredBatch → List StoredR
 session_in sessions batches records s =
     option_and_then (λ (x : StoredSession). option_and_then (λ (b : StoredBatch). option_map (session_of x b) (find (is_record_at x.batch x.place) records)) (find (is_batch x.batch) batches))
     (find (is_session s) sessions)
+
+-- ---- a batch
+
+-- the name of its first record that waits
+abbrev pub waiting_in : List StoredBatch → List StoredRecord → List ℕ → Option (List ℕ)
+waiting_in batches records b =
+    option_and_then (λ (row : StoredBatch). option_map (λ (r : StoredRecord). r.name) (find (is_waiting_of row.id) records)) (find (is_batch_named b) batches)
+
+-- its product, and whether it is closed
+abbrev pub batch_of_row : StoredBatch → BatchRow
+batch_of_row b = record { product = b.product; is_closed = b.closed }
+
+-- a grouping is a row of its file
+abbrev pub size_of : List StoredGrouping → StoredBatch → BatchSize
+size_of groupings b = record { rows = length (filter (is_grouping_of b.id) groupings); records = (totals_of b).records }
+
+-- it is there, with these bytes
+abbrev pub has_raw_in : List ℕ → Option StoredBatch → Bool
+has_raw_in raw None = false
+has_raw_in raw (Some b) = bytes_eq b.raw raw
+
+-- ---- the rows of a record, and its plan
+
+-- the row of a batch file, for the record of this name
+abbrev pub row_of : List ℕ → StoredGrouping → Row
+row_of r g = record { rec = r; aid = g.aid; rank = g.rank; enc = g.enc; tol = g.tol; coded = g.coded }
+
+-- the groupings of a record, if it is there
+abbrev pub groupings_for : List StoredGrouping → Option StoredRecord → List StoredGrouping
+groupings_for groupings None = []
+groupings_for groupings (Some x) = filter (is_grouping_at x.batch x.place) groupings
+
+-- the plan of a record: its rows, under the product of its batch
+abbrev pub plan_in : List Product → List StoredBatch → List StoredRecord → List StoredGrouping → List ℕ → List ℕ → Option Plan
+plan_in products batches records groupings b r =
+    option_and_then (λ (row : StoredBatch).
+    option_map (λ (p : Product). plan_of p (map (row_of r) (groupings_for groupings (find (is_record_named row.id r) records)))) (product_named products row.product))
+    (find (is_batch_named b) batches)
+
+-- ---- accounts
+
+-- how many of a record's sessions are not spoiled
+abbrev pub cards : RecordState → ℕ
+cards rec.Running = 1
+cards rec.Good = 1
+cards _ = 0
+
+-- the line of a record, by its row and the good sessions of its batch
+abbrev pub line_of : List StoredSession → StoredRecord → RecordLine
+line_of good x = record {
+  rec = x.name;
+  stands = x.state;
+  sessions = x.spoiled + cards x.state;
+  blank = option_map (λ (s : StoredSession). s.serial) (find (λ (s : StoredSession). s.place == x.place) good);
+}
+
+-- the lines of a batch's records, if it is there
+abbrev pub lines_at : List StoredRecord → List StoredSession → Option StoredBatch → List RecordLine
+lines_at records sessions None = []
+lines_at records sessions (Some b) = map (line_of (filter (is_good_of b.id) sessions)) (filter (is_record_of b.id) records)
+
+-- those of the batch of this name
+abbrev pub lines_in : List StoredBatch → List StoredRecord → List StoredSession → List ℕ → List RecordLine
+lines_in batches records sessions b = lines_at records sessions (find (is_batch_named b) batches)
+
+-- how a product's blanks stand, by the rows of its lots and its batches
+abbrev pub blanks_of : List StoredLot → List StoredBatch → BlankTotals
+blanks_of lots batches = record {
+  lots = length lots;
+  total = sum_by (λ (l : StoredLot). l.lot.count) lots;
+  good = sum_by (λ (b : StoredBatch). b.good) batches;
+  running = sum_by (λ (b : StoredBatch). b.running) batches;
+  spoiled = sum_by (λ (b : StoredBatch). b.spoiled) batches;
+  discarded = sum_by (λ (l : StoredLot). l.discarded) lots;
+}

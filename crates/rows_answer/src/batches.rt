@@ -1,12 +1,16 @@
 //! Batches by name and by id, and how they stand.
 ghost use Rattle.std.specs.Prelude.{◌≡◌, ℕ, List, Some, find, option_map};
+ghost use Rattle.std.specs.List.{list_any};
 ghost use Rattle.job_core.specs.Accounts.{batch_totals};
 ghost use Rattle.job_core.specs.Facts.{Batch, Facts};
+ghost use Rattle.job_core.specs.Rows.{batch_has, batch_row_of, batch_size_of};
 ghost use Rattle.job_core.specs.Sound.{IsSound};
 ghost use Rattle.job_core.specs.States.{batch_named, is_batch_finished};
-ghost use Rattle.rows_answer.specs.Keys.{is_batch, is_batch_named};
-ghost use Rattle.rows_answer.specs.Telling.{is_over_in, totals_in};
+ghost use Rattle.rows_answer.specs.Keys.{is_batch, is_batch_named, is_batch_with};
+ghost use Rattle.rows_answer.specs.Telling.{batch_of_row, has_raw_in, is_over_in, size_of};
+ghost use Rattle.rows_answer.specs.Telling.{totals_in};
 ghost use Rattle.rows_of_facts.specs.Image.{batch_id, stored_batch, stored_batches};
+ghost use Rattle.rows_of_facts.specs.Image.{stored_groupings};
 ghost use Rattle.table_rows.specs.Tables.{PassesOnce};
 
 /// A name finds the row of the batch that has it.
@@ -33,4 +37,18 @@ pub fn totals_by_rows()
         → batch_totals f n ≡ totals_in (find (is_batch_named n) (stored_batches f)) }
     ensures finished { (f : Facts) (n : List ℕ) → IsSound f
         → is_batch_finished f n ≡ is_over_in (find (is_batch_named n) (stored_batches f)) }
+{}
+
+/// A batch's row tells its product and whether it is closed, its bytes, and with the rows of its
+/// groupings how many rows and records it has.
+pub fn batches_by_rows()
+    ensures row { (f : Facts) (b : List ℕ)
+        → batch_row_of f b ≡ option_map batch_of_row (find (is_batch_named b) (stored_batches f)) }
+    ensures bytes { (f : Facts) (b raw : List ℕ)
+        → batch_has f b raw ≡ has_raw_in raw (find (is_batch_named b) (stored_batches f)) }
+    ensures any_with { (f : Facts) (b raw : List ℕ) → IsSound f
+        → batch_has f b raw ≡ list_any (is_batch_with b raw) (stored_batches f) }
+    ensures size { (f : Facts) (b : List ℕ)
+        → batch_size_of f b
+        ≡ option_map (size_of (stored_groupings f)) (find (is_batch_named b) (stored_batches f)) }
 {}

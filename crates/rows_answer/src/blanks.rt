@@ -1,6 +1,7 @@
 //! Blanks by serial, and lots by name and by range.
-ghost use Rattle.std.specs.Prelude.{◌≡◌, ℕ, List, Some, find, is_some, option_map};
+ghost use Rattle.std.specs.Prelude.{◌≡◌, ℕ, List, Some, find, is_some, map, option_map};
 ghost use Rattle.std.specs.List.{list_any};
+ghost use Rattle.job_core.specs.declared.facts.Lot.{Lot as LotValue};
 ghost use Rattle.job_core.specs.Facts.{Facts};
 ghost use Rattle.job_core.specs.Sound.{IsSound};
 ghost use Rattle.job_core.specs.States.{any_overlaps, is_charged, lot_named, lot_of};
@@ -12,7 +13,8 @@ ghost use Rattle.table_rows.specs.Tables.{PassesOnce, StoredLot};
 /// A serial has one row of a blank at most, and one just where it is charged.
 pub fn blanks_by_serial()
     ensures once { (f : Facts) (n : ℕ) → IsSound f → PassesOnce (is_blank n) (stored_blanks f) }
-    ensures charged { (f : Facts) (n : ℕ) → is_charged f n ≡ list_any (is_blank n) (stored_blanks f) }
+    ensures charged { (f : Facts) (n : ℕ)
+        → is_charged f n ≡ list_any (is_blank n) (stored_blanks f) }
     ensures found { (f : Facts) (n : ℕ)
         → is_charged f n ≡ is_some (find (is_blank n) (stored_blanks f)) }
 {}
@@ -25,6 +27,7 @@ pub fn lots_by_name()
         → find (is_lot_named n) (stored_lots f) ≡ option_map (stored_lot f) (lot_named f.lots n) }
     ensures lot { (f : Facts) (n : List ℕ) → lot_named f.lots n
         ≡ option_map (λ (l : StoredLot). l.lot) (find (is_lot_named n) (stored_lots f)) }
+    ensures all { (f : Facts) → map (λ (l : StoredLot). l.lot) (stored_lots f) ≡ f.lots }
     ensures discarded { (f : Facts) (n : List ℕ) (row : StoredLot)
         → find (is_lot_named n) (stored_lots f) ≡ Some row
         → (lot_named f.lots n ≡ Some row.lot) × (row.discarded ≡ discarded_in f row.lot) }
@@ -36,9 +39,12 @@ pub fn lots_by_range()
     ensures once { (f : Facts) (serial : ℕ) → IsSound f
         → PassesOnce (is_lot_around serial) (stored_lots f) }
     ensures found { (f : Facts) (serial : ℕ)
-        → find (is_lot_around serial) (stored_lots f) ≡ option_map (stored_lot f) (lot_of f.lots serial) }
+        → find (is_lot_around serial) (stored_lots f)
+        ≡ option_map (stored_lot f) (lot_of f.lots serial) }
     ensures lot { (f : Facts) (serial : ℕ) → lot_of f.lots serial
         ≡ option_map (λ (l : StoredLot). l.lot) (find (is_lot_around serial) (stored_lots f)) }
+    ensures named { (f : Facts) (serial : ℕ) (l : LotValue) → IsSound f
+        → lot_of f.lots serial ≡ Some l → lot_named f.lots l.name ≡ Some l }
     ensures overlaps { (f : Facts) (first count : ℕ) → any_overlaps f.lots first count
         ≡ list_any (is_lot_across first count) (stored_lots f) }
     ensures shares { (f : Facts) (first count : ℕ) → any_overlaps f.lots first count

@@ -25,6 +25,12 @@ pub fn sessions_by_number()
         → find (is_batch s.batch) (stored_batches f) ≡ Some b
         → find (is_record_at s.batch s.place) (stored_records f) ≡ Some r
         → IsPlaceOfSession f id (place_of b r) }
+    ensures there { (f : Facts) (id : ℕ) (x : Session) → IsSound f
+        → session_numbered f.sessions id ≡ Some x
+        → (s : StoredSession) × (b : StoredBatch) × (r : StoredRecord)
+        × (find (is_session id) (stored_sessions f) ≡ Some s)
+        × (find (is_batch s.batch) (stored_batches f) ≡ Some b)
+        × (find (is_record_at s.batch s.place) (stored_records f) ≡ Some r) }
 {}
 
 /// A machine has one row of a running session at most, which tells its number.

@@ -8,7 +8,7 @@ use Rattle.job_core.specs.Facts.{Facts, Session, ended, with_end}
 use Rattle.job_core.specs.Sound.{IsSound, IsSoundChange, changed}
 use Rattle.job_core.specs.States.{is_record, record_state, session_state}
 use Rattle.step_laws.specs.Records.{StandsSame}
-use Rattle.step_laws.proofs.ChangeStands.{touched_stands, touched_stood}
+use Rattle.step_laws.proofs.ChangeStands.{record_of_there, touched_stands, touched_stood}
 use Rattle.step_laws.proofs.RecordStands.{named}
 use Rattle.table_rows.specs.After.{rows_after}
 use Rattle.table_rows.specs.Tables.{HaveSameRows}
@@ -21,7 +21,7 @@ use Rattle.rows_of_facts.proofs.Lists.{unmoved}
 use Rattle.rows_of_facts.proofs.OneRecord.{batches_set, records_set}
 use Rattle.rows_of_facts.proofs.OneSession.{blanks_same, sessions_elsewhere}
 use Rattle.rows_of_facts.proofs.SessionRows.{ended_set, words_stay}
-use Rattle.rows_of_facts.proofs.Stopping.{other_records, own_place, spoiled_more, told_there, totals_spoiled}
+use Rattle.rows_of_facts.proofs.Stopping.{other_records, own_place, spoiled_more, totals_spoiled}
 use Rattle.rows_of_facts.proofs.Touching.{groupings_stay, lots_stay, place_of, remakes_stay}
 
 ended_stands : (f : Facts) (x : Session) → session_state f (ended x) ≡ session.Spoiled
@@ -40,8 +40,8 @@ rows_after_end c s (before.OfRecord p) sound keeps is =
     let g : Facts = with_end f s in
     let stands = ended_stands f x in
     let beside : (d q : List ℕ) → is_record d q (named x.batch x.rec) ≡ false → StandsSame f g d q = other_records f s x there end refl sound keeps.before in
-    let ran : record_state f x.batch x.rec ≡ rec.Running = touched_stood f end sound keeps.before (named x.batch x.rec) rec.Running (told_there f s x there) refl in
-    let now : record_state g x.batch x.rec ≡ rec.Failed = touched_stands f end sound keeps.before keeps.after (named x.batch x.rec) rec.Failed (told_there f s x there) refl in
+    let ran : record_state f x.batch x.rec ≡ rec.Running = touched_stood f end sound keeps.before (named x.batch x.rec) rec.Running (record_of_there f s x there) refl in
+    let now : record_state g x.batch x.rec ≡ rec.Failed = touched_stands f end sound keeps.before keeps.after (named x.batch x.rec) rec.Failed (record_of_there f s x there) refl in
     let totals = totals_spoiled f s x ended there refl refl runs sound beside ran stands now in
     let spoiled = spoiled_more f s x ended there refl refl runs stands in
     let at : RecordPlace = place_of f x.batch x.rec in

@@ -1,12 +1,12 @@
 -- The rows of records and batches, where one record alone comes to stand otherwise, by its sessions, remakes and withdrawal.
-use Rattle.std.proofs.Common.{◌≡◌, ℕ, ◌+◌, ◌==◌, ◌&&◌, Bool, true, false, cond, List, [], ◌∷◌, ◌++◌, All, map, Option, Some, None, inl, inr, refl, sym, ap, ◌∙◌, subst, arith}
+use Rattle.std.proofs.Common.{◌≡◌, ℕ, ◌==◌, ◌&&◌, Bool, true, false, List, [], ◌∷◌, ◌++◌, All, map, Option, Some, None, inl, inr, refl, sym, ap, ◌∙◌, subst, arith}
 use Rattle.std.specs.Prelude.{bytes_eq, count_by}
-use Rattle.std.specs.List.{enumerate_from, flat_map, list_any}
-use Rattle.std.proofs.lemmas.Bool.{and_from, and_left, and_right, both_ways, cases_Bool, cond-false, cond-true, false_from_ne_true}
+use Rattle.std.specs.List.{enumerate_from, list_any}
+use Rattle.std.proofs.lemmas.Bool.{and_from, and_left, and_right, cases_Bool, cond-false, cond-true}
 use Rattle.std.proofs.lemmas.List.{map-append}
 use Rattle.std.proofs.lemmas.List.Elements.{All-weaker}
 use Rattle.std.proofs.lemmas.Simd.{map-map}
-use Rattle.store_data.proofs.GroupLemmas.{Distinct, Distinct-first_appearances, bytes_eq-same, same-bytes_eq}
+use Rattle.store_data.proofs.GroupLemmas.{Distinct, Distinct-first_appearances, same-bytes_eq}
 use Rattle.store_data.proofs.IsPlanLemmas.{All-from_list_any}
 use Rattle.store_data.specs.declared.row.Product.{Product}
 use Rattle.store_data.specs.declared.row.Row.{Row}
@@ -19,7 +19,7 @@ use Rattle.job_core.specs.Sound.{IsRecord, IsSound}
 use Rattle.job_core.specs.States.{batch_named, is_closed, is_record, is_spoiled, record_state, records_named, records_of, records_under, remakes_of, rows_of, states_of}
 use Rattle.job_core.proofs.Lists.{map_same}
 use Rattle.step_laws.specs.Records.{StandsSame}
-use Rattle.step_laws.proofs.BlankSums.{named_once}
+use Rattle.step_laws.proofs.BlankSums.{bytes_eq_either, named_once}
 use Rattle.step_laws.proofs.RecordStands.{named}
 use Rattle.table_rows.specs.After.{less, more}
 use Rattle.table_rows.specs.Tables.{StoredBatch, StoredRecord, record_set, totals_set}
@@ -32,7 +32,7 @@ use Rattle.rows_of_facts.proofs.Totals.{passes_to}
 -- ---- where a record stands
 
 pub turned : (m n : List ℕ) → bytes_eq m n ≡ false → bytes_eq n m ≡ false
-turned m n differ = false_from_ne_true (bytes_eq n m) (λ same. both_ways (bytes_eq m n) differ (ap (bytes_eq m) (same-bytes_eq n m same) ∙ bytes_eq-same m))
+turned m n differ = bytes_eq_either n m ∙ differ
 
 name_once : (r : List ℕ) (names : List (List ℕ)) → Distinct names → Once (bytes_eq r) names
 name_once r [] distinct = tt

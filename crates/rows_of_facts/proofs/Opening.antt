@@ -1,8 +1,8 @@
 -- The rows after an opening.
-use Rattle.std.proofs.Common.{◌≡◌, ℕ, ◌+◌, Bool, true, false, cond, List, [], ◌∷◌, ◌++◌, length, map, Some, refl, sym, ap, subst, ◌∙◌, arith, append-nil, append_assoc, IsPermutation}
+use Rattle.std.proofs.Common.{◌≡◌, ℕ, ◌+◌, Bool, true, false, List, [], ◌∷◌, ◌++◌, length, map, refl, sym, ap, subst, ◌∙◌, arith, append-nil, append_assoc, IsPermutation}
 use Rattle.std.specs.Prelude.{bytes_eq, count_by, filter, option_and_then, unwrap_or}
 use Rattle.std.specs.List.{enumerate_from, flat_map}
-use Rattle.std.proofs.lemmas.Bool.{cond-false, cond-true, ne_eqb}
+use Rattle.std.proofs.lemmas.Bool.{cond-false, cond-true}
 use Rattle.std.proofs.lemmas.Grind.{flat_map-append}
 use Rattle.std.proofs.lemmas.List.{map-append}
 use Rattle.std.proofs.lemmas.List.Elements.{filter-append}
@@ -13,37 +13,35 @@ use Rattle.store_data.proofs.CommandLemmas.{enumerate_from-append}
 use Rattle.store_data.proofs.CursorLemmas.{first_there_of}
 use Rattle.store_data.proofs.GroupLemmas.{bytes_eq-same}
 use Rattle.job_core.specs.declared.change.Change.TheVariants as change
-use Rattle.job_core.specs.declared.facts.Lot.{Lot}
 use Rattle.job_core.specs.declared.facts.RecordState.TheVariants as rec
 use Rattle.job_core.specs.declared.facts.SessionState.{SessionState}
 use Rattle.job_core.specs.declared.facts.SessionState.TheVariants as session
-use Rattle.job_core.specs.declared.rows.BatchTotals.{BatchTotals}
 use Rattle.job_core.specs.Accounts.{batch_totals, record_states, session_states}
 use Rattle.job_core.specs.Contents.{Contents}
 use Rattle.job_core.specs.Facts.{Facts, Session, new_session, with_session}
 use Rattle.job_core.specs.Sound.{IsRecord, IsSound, IsSoundChange, changed}
-use Rattle.job_core.specs.States.{commands_for, going, is_record, is_spoiled, plan_for, record_state, remakes_of, session_cursor, session_state, states_of}
+use Rattle.job_core.specs.States.{going, is_record, is_spoiled, plan_for, record_state, session_cursor, session_state, states_of}
 use Rattle.job_core.proofs.Lists.{count_by-at}
 use Rattle.job_core.proofs.PlanLemmas.{plan_there}
 use Rattle.job_core.proofs.SoundFacts.{is_for, states_are}
 use Rattle.step_laws.specs.Records.{StandsSame}
-use Rattle.step_laws.proofs.ChangeStands.{others_same, touched_stands, touched_stood}
-use Rattle.step_laws.proofs.Commands.{commands_some}
+use Rattle.step_laws.proofs.ChangeStands.{others_same, told_state, touched_stands}
 use Rattle.step_laws.proofs.GoodCards.{for_own}
 use Rattle.step_laws.proofs.RecordStands.{named, states_around}
+use Rattle.step_laws.proofs.ReplyFacts.{new_runs}
 use Rattle.table_rows.specs.After.{less, more, one_opened, rows_after}
 use Rattle.table_rows.specs.After as after
-use Rattle.table_rows.specs.Tables.{HaveSameRows, StoredBlank, StoredSession, StoredWord}
+use Rattle.table_rows.specs.Tables.{HaveSameRows, StoredBlank}
 use Rattle.table_rows.specs.declared.before.Before.{Before}
 use Rattle.table_rows.specs.declared.before.Before.TheVariants as before
 use Rattle.table_rows.specs.declared.before.RecordPlace.{RecordPlace}
 use Rattle.rows_of_facts.specs.Before.{IsBefore}
-use Rattle.rows_of_facts.specs.Image.{image, lot_name, name_of, stored_blank, stored_blanks, stored_session, stored_sessions, stored_words, words_in}
+use Rattle.rows_of_facts.specs.Image.{image, name_of, stored_blank, stored_blanks, stored_session, stored_sessions, stored_words, words_in}
 use Rattle.rows_of_facts.proofs.Lists.{pushed, unmoved}
 use Rattle.rows_of_facts.proofs.OneRecord.{batches_set, records_set, totals_pass}
 use Rattle.rows_of_facts.proofs.Staying.{totals_are, totals_by}
 use Rattle.rows_of_facts.proofs.Totals.{session_opened}
-use Rattle.rows_of_facts.proofs.Touching.{groupings_stay, is_place, lots_stay, place_of, remakes_stay, stood_there}
+use Rattle.rows_of_facts.proofs.Touching.{groupings_stay, is_place, lots_stay, place_of, remakes_stay}
 
 module _ (f : Facts) (machine b r : List ℕ) (blank : ℕ) where
   abbrev new : Session
@@ -54,13 +52,7 @@ module _ (f : Facts) (machine b r : List ℕ) (blank : ℕ) where
 
   -- ---- the new rows
 
-  module _ (sound : IsSound f) (there : IsRecord f b r) where
-    new_runs : session_state f new ≡ session.Running
-    unfolding session_state
-    new_runs =
-        let some = commands_some f b r sound there in
-        rw (ne_eqb 0 (length (commands_for f b r)) (λ e. omega (arith, some, e))) refl
-
+  module _ (sound : IsSound f) (there : IsRecord f b r) (waits : record_state f b r ≡ rec.Waiting) where
     new_cursor : session_cursor f new ≡ select_cursor 0
     unfolding session_cursor
     new_cursor =
@@ -72,7 +64,7 @@ module _ (f : Facts) (machine b r : List ℕ) (blank : ℕ) where
     new_row =
         let id : 1 + length f.sessions ≡ length f.sessions + 1 = omega arith in
         ap (λ n. stored_session f (n, new)) id
-        ∙ ap (λ state. record (stored_session f (length f.sessions + 1, new)) { state = state }) new_runs
+        ∙ ap (λ state. record (stored_session f (length f.sessions + 1, new)) { state = state }) (new_runs f machine b blank r sound there waits)
         ∙ ap (λ cursor. record (after.new_session (length f.sessions + 1) (place_of f b r) machine blank) { cursor = cursor }) new_cursor
 
   sessions_more : stored_sessions next ≡ stored_sessions f ++ stored_session f (1 + length f.sessions, new) ∷ []
@@ -141,8 +133,8 @@ rows_after_opening c machine b r blank lot (before.Opening id p) sound keeps is 
     let g : Facts = changed f opens in
     let new : Session = new_session machine b r blank in
     let sessions : List Session = f.sessions ++ new ∷ [] in
-    let told : IsRecord f b r × (record_state f b r ≡ rec.Waiting) = stood_there f b r rec.Waiting keeps.before.0 in
-    let runs = new_runs f machine b r blank sound told.0 in
+    let told : IsRecord f b r × (record_state f b r ≡ rec.Waiting) = told_state f b r rec.Waiting keeps.before.0 in
+    let runs = new_runs f machine b blank r sound told.0 told.1 in
     let others : (d q : List ℕ) → is_record d q (named b r) ≡ false → StandsSame f g d q = others_same f opens sound keeps.before in
     let now : record_state g b r ≡ rec.Running = touched_stands f opens sound keeps.before keeps.after (named b r) rec.Running refl refl in
     let spoiled = spoiled_stay f machine b r blank runs in
@@ -164,7 +156,7 @@ rows_after_opening c machine b r blank lot (before.Opening id p) sound keeps is 
       groupings = unmoved _ _ (groupings_stay f f.remakes f.withdrawn sessions);
       sessions = subst (λ ss. IsPermutation ss (after.new_session (length f.sessions + 1) at machine blank ∷ stored_sessions f)) (sym (sessions_more f machine b r blank))
           (subst (λ row. IsPermutation (stored_sessions f ++ row ∷ []) (after.new_session (length f.sessions + 1) at machine blank ∷ stored_sessions f))
-          (sym (new_row f machine b r blank sound told.0)) (pushed (stored_sessions f) (after.new_session (length f.sessions + 1) at machine blank)));
+          (sym (new_row f machine b r blank sound told.0 told.1)) (pushed (stored_sessions f) (after.new_session (length f.sessions + 1) at machine blank)));
       words = unmoved _ _ (words_stay f machine b r blank);
       blanks = subst (λ row. IsPermutation (stored_blanks g) (row ∷ stored_blanks f)) blank_row (blank_more f machine b r blank);
       remakes = unmoved _ _ (remakes_stay f f.remakes f.withdrawn sessions refl);

@@ -1,7 +1,7 @@
 -- The rows after a remake, and after a withdrawal.
-use Rattle.std.proofs.Common.{◌≡◌, ℕ, ◌+◌, ◌==◌, ◌||◌, Bool, true, false, cond, List, [], ◌∷◌, ◌++◌, All, map, Some, inl, inr, refl, sym, ap, subst, ◌∙◌, arith, IsPermutation}
-use Rattle.std.specs.Prelude.{bytes_eq, count_by, find}
-use Rattle.std.specs.List.{enumerate_from, flat_map, list_any, range_with_len}
+use Rattle.std.proofs.Common.{◌≡◌, ℕ, ◌+◌, ◌==◌, ◌||◌, true, false, cond, List, [], ◌∷◌, ◌++◌, map, Some, inl, inr, refl, sym, ap, subst, ◌∙◌, arith, IsPermutation}
+use Rattle.std.specs.Prelude.{bytes_eq, count_by}
+use Rattle.std.specs.List.{list_any, range_with_len}
 use Rattle.std.proofs.lemmas.Bool.{and_left, and_right, both_ways, cases_Bool, eqb-true, or_left}
 use Rattle.std.proofs.lemmas.List.FromFn.{map-range_with_len_more}
 use Rattle.std.proofs.lemmas.List.Sums.{sum_by_push}
@@ -16,7 +16,7 @@ use Rattle.job_core.specs.Facts.{Batch, Facts, RecordName, with_remake}
 use Rattle.job_core.specs.Sound.{IsRecord, IsSound, IsSoundChange, changed}
 use Rattle.job_core.specs.States.{batch_named, is_record, is_spoiled, plan_for, record_state, records_named, records_of, records_under, remakes_of, session_state, states_of}
 use Rattle.step_laws.specs.Records.{StandsSame}
-use Rattle.step_laws.proofs.ChangeStands.{others_same, touched_stands}
+use Rattle.step_laws.proofs.ChangeStands.{others_same, told_state, touched_stands}
 use Rattle.step_laws.proofs.RecordStands.{named, same_states}
 use Rattle.table_rows.specs.After.{less, more, rows_after}
 use Rattle.table_rows.specs.Tables.{HaveSameRows, StoredRemake}
@@ -29,7 +29,7 @@ use Rattle.rows_of_facts.proofs.Lists.{flat_map_same, pushed, unmoved}
 use Rattle.rows_of_facts.proofs.OneRecord.{batch_once, batches_set, has_name, ids, named_alone, places_in, records_once, records_set, totals_pass, turned}
 use Rattle.rows_of_facts.proofs.Places.{AddsOne, StaysBut, any_numbered, once_numbered, one_added}
 use Rattle.rows_of_facts.proofs.Staying.{totals_are, totals_by}
-use Rattle.rows_of_facts.proofs.Touching.{blanks_stay, groupings_stay, is_place, lots_stay, place_of, remakes_stay, sessions_stay, stood_there, words_stay}
+use Rattle.rows_of_facts.proofs.Touching.{blanks_stay, groupings_stay, is_place, lots_stay, place_of, remakes_stay, sessions_stay, words_stay}
 
 -- ---- the batch and the record are there
 
@@ -134,7 +134,7 @@ rows_after_remake c b r (before.OfRecord p) sound keeps is =
     let f : Facts = c.facts in
     let remake = change.Remakes b r in
     let g : Facts = changed f remake in
-    let told : IsRecord f b r × (record_state f b r ≡ rec.Failed) = stood_there f b r rec.Failed keeps.before in
+    let told : IsRecord f b r × (record_state f b r ≡ rec.Failed) = told_state f b r rec.Failed keeps.before in
     let others : (d q : List ℕ) → is_record d q (named b r) ≡ false → StandsSame f g d q = others_same f remake sound keeps.before in
     let now : record_state g b r ≡ rec.Waiting = touched_stands f remake sound keeps.before keeps.after (named b r) rec.Waiting refl refl in
     let totals = counters f g.remakes f.withdrawn b r sound told.0 others rec.Failed rec.Waiting told.1 now in
@@ -163,7 +163,7 @@ rows_after_withdrawal c b r was (before.OfRecord p) sound keeps is =
     let f : Facts = c.facts in
     let withdrawal = change.Withdraws b r was in
     let g : Facts = changed f withdrawal in
-    let told : IsRecord f b r × (record_state f b r ≡ was) = stood_there f b r was keeps.before.0 in
+    let told : IsRecord f b r × (record_state f b r ≡ was) = told_state f b r was keeps.before.0 in
     let others : (d q : List ℕ) → is_record d q (named b r) ≡ false → StandsSame f g d q = others_same f withdrawal sound keeps.before in
     let now : record_state g b r ≡ rec.Withdrawn = touched_stands f withdrawal sound keeps.before keeps.after (named b r) rec.Withdrawn refl refl in
     let totals = counters f f.remakes g.withdrawn b r sound told.0 others was rec.Withdrawn told.1 now in

@@ -1,6 +1,6 @@
 -- How a record and its batch stand once its session runs no more, and what is told of them before.
-use Rattle.std.proofs.Common.{◌≡◌, ℕ, ◌+◌, false, List, Some, refl, sym, ap, subst, ◌∙◌, arith}
-use Rattle.std.specs.Prelude.{count_by, option_map}
+use Rattle.std.proofs.Common.{◌≡◌, ℕ, ◌+◌, false, List, Some, sym, ap, subst, ◌∙◌, arith}
+use Rattle.std.specs.Prelude.{count_by}
 use Rattle.std.proofs.lemmas.Option.{same_Some}
 use Rattle.job_core.specs.declared.change.Change.{Change}
 use Rattle.job_core.specs.declared.facts.RecordState.TheVariants as rec
@@ -12,7 +12,7 @@ use Rattle.job_core.specs.Sound.{IsRecord, IsSound, TellsBefore, changed}
 use Rattle.job_core.specs.States.{is_record, is_spoiled, record_state, session_numbered, session_state, states_of}
 use Rattle.job_core.proofs.Lists.{count_by-at}
 use Rattle.step_laws.specs.Records.{StandsSame, is_told, record_of_session, touches}
-use Rattle.step_laws.proofs.ChangeStands.{others_same}
+use Rattle.step_laws.proofs.ChangeStands.{others_same, record_of_there}
 use Rattle.step_laws.proofs.Numbered.{session_sound}
 use Rattle.step_laws.proofs.RecordStands.{named}
 use Rattle.table_rows.specs.After.{less, more, one_spoiled}
@@ -87,12 +87,9 @@ module _ (f : Facts) (s : ℕ) (x : Session) (change : Session → Session) (the
 
 -- it is the session's record
 module _ (f : Facts) (s : ℕ) (x : Session) (there : session_numbered f.sessions s ≡ Some x) where
-  pub told_there : record_of_session f s ≡ Some (named x.batch x.rec)
-  told_there = ap (option_map (λ (z : Session). record { batch = z.batch; rec = z.rec })) there
-
   pub other_records : (change : Change) → touches f change ≡ record_of_session f s → IsSound f → TellsBefore f change
       → (c q : List ℕ) → is_record c q (named x.batch x.rec) ≡ false → StandsSame f (changed f change) c q
-  other_records change own sound tells c q other = others_same f change sound tells c q (ap (is_told c q) (own ∙ told_there) ∙ other)
+  other_records change own sound tells c q other = others_same f change sound tells c q (ap (is_told c q) (own ∙ record_of_there f s x there) ∙ other)
 
   pub own_place : (p : RecordPlace) → IsPlaceOfSession f s p → p ≡ place_of f x.batch x.rec
   own_place p told =

@@ -1,13 +1,9 @@
 -- What is told of a record that a change touches, and the rows that no such change moves.
-use Rattle.std.proofs.Common.{◌≡◌, ℕ, List, Some, refl, ap, ◌∙◌}
-use Rattle.std.specs.Prelude.{bytes_eq, count_by}
-use Rattle.std.specs.List.{list_any}
-use Rattle.std.proofs.lemmas.Option.{cond_some}
-use Rattle.job_core.specs.declared.facts.RecordState.{RecordState}
+use Rattle.std.proofs.Common.{◌≡◌, ℕ, List, refl, ap, ◌∙◌}
+use Rattle.std.specs.Prelude.{count_by}
 use Rattle.job_core.specs.Accounts.{batch_totals}
 use Rattle.job_core.specs.Facts.{Facts, RecordName, Session}
-use Rattle.job_core.specs.Sound.{IsRecord}
-use Rattle.job_core.specs.States.{is_spoiled, plan_for, record_state, record_state_of, records_named, remakes_of, session_cursor, session_state, states_of}
+use Rattle.job_core.specs.States.{is_spoiled, plan_for, records_named, remakes_of, session_cursor, session_state, states_of}
 use Rattle.table_rows.specs.declared.before.RecordPlace.{RecordPlace}
 use Rattle.rows_of_facts.specs.Before.{IsPlaceOf}
 use Rattle.rows_of_facts.specs.Image.{batch_id, place_in, stored_blanks, stored_groupings, stored_lots, stored_remakes, stored_sessions, stored_words}
@@ -30,11 +26,6 @@ is_place f b r p is =
     ∙ ap (λ n. record (place_of f b r) { spoiled = n; remakes = p.remakes; totals = p.totals }) is.spoiled
     ∙ ap (λ n. record (place_of f b r) { remakes = n; totals = p.totals }) is.remakes
     ∙ ap (λ n. record (place_of f b r) { totals = n }) is.totals
-
--- a record that stands so is one of its batch
-pub stood_there : (f : Facts) (b r : List ℕ) (state : RecordState) → record_state_of f b r ≡ Some state → IsRecord f b r × (record_state f b r ≡ state)
-unfolding record_state_of
-stood_there f b r state told = cond_some (list_any (bytes_eq r) (records_named f b)) (record_state f b r) state told
 
 -- ---- rows that stay
 

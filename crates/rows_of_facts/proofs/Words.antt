@@ -18,10 +18,10 @@ use Rattle.job_core.specs.States.{is_record, plan_for, record_state, session_cur
 use Rattle.job_core.proofs.SessionLemmas.{session_changed}
 use Rattle.step_laws.specs.Later.{KnowsMore}
 use Rattle.step_laws.specs.Records.{StandsSame}
-use Rattle.step_laws.proofs.ChangeStands.{touched_stands, touched_stood}
+use Rattle.step_laws.proofs.ChangeStands.{record_of_there, touched_stands, touched_stood}
 use Rattle.step_laws.proofs.Kept.{no_more, state_same}
 use Rattle.step_laws.proofs.RecordStands.{named}
-use Rattle.table_rows.specs.After.{less, more, one_spoiled, rows_after}
+use Rattle.table_rows.specs.After.{rows_after}
 use Rattle.table_rows.specs.Tables.{HaveSameRows, session_set, with_reply, with_session_set}
 use Rattle.table_rows.specs.Tables as tables
 use Rattle.table_rows.specs.declared.before.Before.{Before}
@@ -34,7 +34,7 @@ use Rattle.rows_of_facts.proofs.OneRecord.{batches_set, records_set}
 use Rattle.rows_of_facts.proofs.OneSession.{blanks_same, sessions_elsewhere, sessions_same, stand_same}
 use Rattle.rows_of_facts.proofs.SessionRows.{word_put, word_set}
 use Rattle.rows_of_facts.proofs.Staying.{batches_stay, records_stay}
-use Rattle.rows_of_facts.proofs.Stopping.{other_records, own_place, spoiled_good, spoiled_more, told_there, totals_good, totals_spoiled}
+use Rattle.rows_of_facts.proofs.Stopping.{other_records, own_place, spoiled_good, spoiled_more, totals_good, totals_spoiled}
 use Rattle.rows_of_facts.proofs.Touching.{groupings_stay, lots_stay, place_of, remakes_stay}
 
 module _ (f : Facts) (s index sw : ℕ) (stands : SessionState) (cursor : Cursor) (keeps : IsSoundChange f (change.AddsWord s index sw stands cursor)) where
@@ -103,7 +103,7 @@ module _ (f : Facts) (s index sw : ℕ) (stands : SessionState) (cursor : Cursor
     others = other_records f s own keeps.before.1 word_change refl sound keeps.before
 
     ran : record_state f own.batch own.rec ≡ rec.Running
-    ran = touched_stood f word_change sound keeps.before (named own.batch own.rec) rec.Running (told_there f s own keeps.before.1) refl
+    ran = touched_stood f word_change sound keeps.before (named own.batch own.rec) rec.Running (record_of_there f s own keeps.before.1) refl
 
 pub rows_after_word : (c : Contents) (s index sw : ℕ) (stands : SessionState) (cursor : Cursor) (told : Before) → IsSound c.facts
     → IsSoundChange c.facts (change.AddsWord s index sw stands cursor) → IsBefore c.facts (change.AddsWord s index sw stands cursor) told
@@ -139,7 +139,7 @@ rows_after_word c s index sw session.Good cursor (before.OfRecord p) sound keeps
     let g : Facts = with_word f s sw in
     let stands = stands_then f s index sw good cursor keeps in
     let beside = others f s index sw good cursor keeps sound in
-    let now : record_state g x.batch x.rec ≡ rec.Good = touched_stands f word sound keeps.before keeps.after (named x.batch x.rec) rec.Good (told_there f s x there) refl in
+    let now : record_state g x.batch x.rec ≡ rec.Good = touched_stands f word sound keeps.before keeps.after (named x.batch x.rec) rec.Good (record_of_there f s x there) refl in
     let totals = totals_good f s x (worded sw) there refl refl runs sound beside (ran f s index sw good cursor keeps sound) stands now in
     let spoiled = spoiled_good f s x (worded sw) there refl refl runs stands in
     let at : RecordPlace = place_of f x.batch x.rec in
@@ -167,7 +167,7 @@ rows_after_word c s index sw session.Spoiled cursor (before.OfRecord p) sound ke
     let g : Facts = with_word f s sw in
     let stands = stands_then f s index sw over cursor keeps in
     let beside = others f s index sw over cursor keeps sound in
-    let now : record_state g x.batch x.rec ≡ rec.Failed = touched_stands f word sound keeps.before keeps.after (named x.batch x.rec) rec.Failed (told_there f s x there) refl in
+    let now : record_state g x.batch x.rec ≡ rec.Failed = touched_stands f word sound keeps.before keeps.after (named x.batch x.rec) rec.Failed (record_of_there f s x there) refl in
     let totals = totals_spoiled f s x (worded sw) there refl refl runs sound beside (ran f s index sw over cursor keeps sound) stands now in
     let spoiled = spoiled_more f s x (worded sw) there refl refl runs stands in
     let at : RecordPlace = place_of f x.batch x.rec in

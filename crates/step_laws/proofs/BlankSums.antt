@@ -17,7 +17,7 @@ use Rattle.job_core.specs.States.{is_in, lot_of, same_session_state, session_sta
 use Rattle.step_laws.specs.Sums.{AreBlankSums, batches_of, discarded_in, sessions_by_batch}
 use Rattle.step_laws.proofs.GoodCards.{count_among}
 
-abbrev one : Bool → ℕ
+abbrev pub one : Bool → ℕ
 one b = cond {A = ℕ} b 1 0
 
 -- ---- what fits one key at most
@@ -68,16 +68,16 @@ sum_by_both : {K : Type 0} (g h : K → ℕ) (ks : List K) → sum_by (λ k. g k
 sum_by_both g h [] = refl
 sum_by_both g h (k ∷ ks) = omega (arith, sum_by-cons (λ k. g k + h k) k ks, sum_by-cons g k ks, sum_by-cons h k ks, sum_by_both g h ks)
 
-sum_by_nothing : {K : Type 0} (ks : List K) → sum_by (λ (k : K). 0) ks ≡ 0
+pub sum_by_nothing : {K : Type 0} (ks : List K) → sum_by (λ (k : K). 0) ks ≡ 0
 sum_by_nothing [] = refl
 sum_by_nothing {K = K} (k ∷ ks) = omega (arith, sum_by-cons (λ (k : K). 0) k ks, sum_by_nothing ks)
 
 module _ {X K : Type 0} (fits : X → K → Bool) (p : X → Bool) (ks : List K) where
   -- an item that passes is one key's, and no other is any's
-  abbrev IsOneKeys : X → Type 0
+  abbrev pub IsOneKeys : X → Type 0
   IsOneKeys x = count_by (fits x) ks ≡ one (p x)
 
-  by_keys : (xs : List X) → All IsOneKeys xs → count_by p xs ≡ sum_by (λ k. count_by (λ x. fits x k) xs) ks
+  pub by_keys : (xs : List X) → All IsOneKeys xs → count_by p xs ≡ sum_by (λ k. count_by (λ x. fits x k) xs) ks
   by_keys [] each = sym (sum_by_nothing ks)
   by_keys (x ∷ xs) each =
       let here = All-head IsOneKeys x xs each in
@@ -95,7 +95,7 @@ and_false true b miss = ap one miss
 and_false false b miss = refl
 
 -- with a test that is no matter of the key
-count_beside : {K : Type 0} (fits : K → Bool) (p q : Bool) (ks : List K) → count_by fits ks ≡ one p → count_by (λ k. fits k && q) ks ≡ one (p && q)
+pub count_beside : {K : Type 0} (fits : K → Bool) (p q : Bool) (ks : List K) → count_by fits ks ≡ one p → count_by (λ k. fits k && q) ks ≡ one (p && q)
 count_beside fits p q ks is = elim (cases_Bool q) [
   | inl hit ↦ sum_by-agree (λ k. one (fits k && q)) (λ k. one (fits k)) (λ k. and_true (fits k) q hit) ks ∙ is ∙ sym (and_true p q hit)
   | inr miss ↦ sum_by-agree (λ k. one (fits k && q)) (λ k. 0) (λ k. and_false (fits k) q miss) ks ∙ sum_by_nothing ks ∙ sym (and_false p q miss)
@@ -103,7 +103,7 @@ count_beside fits p q ks is = elim (cases_Bool q) [
 
 -- ---- batches by names, and lots by ranges
 
-bytes_eq_either : (m n : List ℕ) → bytes_eq m n ≡ bytes_eq n m
+pub bytes_eq_either : (m n : List ℕ) → bytes_eq m n ≡ bytes_eq n m
 bytes_eq_either m n = elim (cases_Bool (bytes_eq n m)) [
   | inl same ↦ ap (λ k. bytes_eq m k) (same-bytes_eq n m same) ∙ bytes_eq-same m ∙ sym same
   | inr differ ↦

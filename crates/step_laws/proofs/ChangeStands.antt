@@ -27,7 +27,7 @@ use Rattle.step_laws.proofs.StepCases.{IsOwn}
 as_much : (f g : Facts) (b r : List ℕ) → states_of g b r ≡ states_of f b r → is_withdrawn g b r ≡ is_withdrawn f b r → remakes_of g b r ≡ remakes_of f b r → StandsSame f g b r
 as_much f g b r states withdrawn remakes = record { states = states; withdrawn = withdrawn; remakes = remakes; stands = record_same f g b r states withdrawn remakes }
 
-record_of_there : (f : Facts) (s : ℕ) (x : Session) → session_numbered f.sessions s ≡ Some x → record_of_session f s ≡ Some (named x.batch x.rec)
+pub record_of_there : (f : Facts) (s : ℕ) (x : Session) → session_numbered f.sessions s ≡ Some x → record_of_session f s ≡ Some (named x.batch x.rec)
 record_of_there f s x there = ap (option_map (λ (y : Session). record { batch = y.batch; rec = y.rec })) there
 
 -- it is not for the record of the session
@@ -58,7 +58,7 @@ at_name : (g : Facts) (m n : RecordName) (s t : RecordState) → record_state g 
 at_name g m n s t is name state = subst (λ (k : RecordName). record_state g k.batch k.rec ≡ t) (same_Some m n name) (is ∙ same_Some s t state)
 
 -- what a record of its batch stands as
-told_state : (f : Facts) (b r : List ℕ) (state : RecordState) → record_state_of f b r ≡ Some state → IsRecord f b r × (record_state f b r ≡ state)
+pub told_state : (f : Facts) (b r : List ℕ) (state : RecordState) → record_state_of f b r ≡ Some state → IsRecord f b r × (record_state f b r ≡ state)
 unfolding record_state_of
 told_state f b r state told = cond_some (list_any (bytes_eq r) (records_named f b)) (record_state f b r) state told
 

@@ -98,7 +98,7 @@ module _ (f : Facts) (client b : List ℕ) (blank : ℕ) (r : List ℕ) (sound :
   abbrev with_new : Facts
   with_new = with_session f new
 
-  new_runs : session_state f new ≡ session.Running
+  pub new_runs : session_state f new ≡ session.Running
   unfolding session_state
   new_runs =
       let some = commands_some f b r sound there in

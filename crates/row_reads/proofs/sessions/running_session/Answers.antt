@@ -2,8 +2,7 @@ use Rattle.std.proofs.Common.{true, map, subst}
 use Rattle.sqlite.specs.Held.{state}
 use Rattle.sql_base.proofs.Querying.{shown_open}
 use Rattle.sql_base.proofs.Selecting.{if_ok}
-use Rattle.row_reads.specs.CardDecoding.{number_in}
-use Rattle.row_reads.specs.Decoding.{IsFirst}
+use Rattle.row_reads.specs.Decoding.{IsFirst, id_in}
 use Rattle.row_reads.proofs.CardAnswers.{running_found}
 use Rattle.row_reads.proofs.sessions.running_session.Goals as goal
 
@@ -15,5 +14,5 @@ returns-clause-found g c clean =
     if_ok c.first_id.result _ _ (λ found is. (
       shown_open begun end _ _ c.in_ok-rows.rows.items shown.1,
       λ t image once. running_found c.args.machine.now begun end c.in_ok-rows.rows.items shown.1 t image once found
-          (subst (λ rows. IsFirst (map number_in rows) found) c.as_slice.ensures.value is),
+          (subst (λ rows. IsFirst (map id_in rows) found) c.as_slice.ensures.value is),
     )) c.first_id.ensures.value

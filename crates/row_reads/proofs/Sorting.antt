@@ -1,0 +1,136 @@
+-- What a query with ORDER BY answers.
+use Rattle.std.proofs.Common.{◌≡◌, ℕ, zero, suc, ◌+◌, ◌≤◌, ◌<◌, pos, Bool, true, false, List, [], ◌∷◌, map, take, length, get_or, Option, Some, None, All, Contains, refl, sym, ap, subst, ◌∙◌, arith, nat_cmp, add-one}
+use Rattle.std.specs.Prelude.{filter}
+use Rattle.std.specs.Ordering.{is_lt}
+use Rattle.std.specs.List.Sorted.{IsNonDecreasingBy, IsPermutation, IsSortedByKey}
+use Rattle.std.proofs.lemmas.Bool.Decides.{nat_tests}
+use Rattle.std.proofs.lemmas.List.{get_or-map, length-map}
+use Rattle.std.proofs.lemmas.List.Elements.{All-contains_itself}
+use Rattle.std.proofs.lemmas.List.Sorted.{All-permutation, IsNonDecreasingBy-from_sort, IsPermutation-map, IsPermutation-sym, length_permutation}
+use Rattle.sqlite.specs.Collation.TheVariants.{Binary}
+use Rattle.sqlite.specs.Command.TheVariants.{Select}
+use Rattle.sqlite.specs.declared.types.Value.{Value}
+use Rattle.sqlite.specs.declared.types.Value.TheVariants.{Null}
+use Rattle.sqlite.specs.Listing.{reads_listing, understood}
+use Rattle.sqlite.specs.Order.{Row, column}
+use Rattle.sqlite.specs.Program.{overlay}
+use Rattle.sqlite.specs.Query.{IsAnswer, Output, Query, as_count, limited, output}
+use Rattle.sqlite.specs.State.{Shown, State}
+use Rattle.sqlite.specs.Term.{Env, Term, eval, eval_all}
+use Rattle.sqlite.specs.Tree.{Trees}
+use Rattle.sqlite.proofs.Callers.{IsPlain, command_of, reads_as}
+use Rattle.sqlite_value.specs.Keys.{directed}
+use Rattle.sqlite_value.specs.Order.{value_cmp}
+use Rattle.sqlite_value.proofs.OrderLemmas.{then-Equal, value_cmp-Int}
+use Rattle.sql_base.specs.Queries.{from_tree}
+use Rattle.sql_base.proofs.Replacing.{nothing_found}
+use Rattle.sql_base.proofs.Selecting.{map_map, matched, no_overlay, passes, shown}
+use Rattle.sql_tables.specs.Tables.{our_schema}
+use Rattle.sql_rows.specs.Encoding.{number}
+use Rattle.sql_rows.specs.Image.{told}
+use Rattle.row_reads.specs.Decoding.{IsFirst, nat_in}
+use Rattle.row_reads.specs.Extremes.{IsGreatest, IsLeastBy}
+use Rattle.row_reads.proofs.Asking.{look, part, tells, told_as, whole}
+
+-- the rows of one tree that pass, by the first column that is shown, up or down, and as many as the limit says
+abbrev pub sorted_query : Bool → Term → ℕ → List Term → Term → List Term → Query
+sorted_query descending limit tree filters first more =
+    record (from_tree tree filters (first ∷ more)) { order = (first, record { collation = Binary; descending = descending }) ∷ []; limit = limit }
+
+-- at our schema the text asks for them
+pub record AsksSorted (descending : Bool) (limit : Term) (text : List ℕ) (tree : ℕ) (filters : List Term) (first : Term) (more : List Term) : Type 0 where
+  pub names : List (List ℕ)
+  pub is : command_of (understood our_schema text) ≡ Select (record { lets = []; body = sorted_query descending limit tree filters first more }) names
+  pub plain : IsPlain (understood our_schema text)
+  pub unlisted : reads_listing our_schema text ≡ false
+
+abbrev pub IsInOrder : Bool → List Row → Type 0
+IsInOrder descending = IsSortedByKey (λ (r : Row). column r 0) (directed descending value_cmp)
+
+-- what it is sorted by is its first column
+abbrev Keyed : Output → Type 0
+Keyed o = column o.0 0 ≡ column o.1 0
+
+module _ (descending : Bool) (limit : Term) (tree : ℕ) (filters : List Term) (first : Term) (more : List Term) where
+  all_keyed : (envs : List Env) → All Keyed (map (output (sorted_query descending limit tree filters first more)) envs)
+  all_keyed [] i d low = absurd (omega arith)
+  all_keyed (e ∷ envs) zero d low = refl
+  all_keyed (e ∷ envs) (suc i) d low = all_keyed envs i d (omega arith)
+
+  -- the rows that pass, shown, in the order of the first column, and as many as the limit says
+  in_order : (db : Trees) (params : Row) (rows : List Row) → IsAnswer (sorted_query descending limit tree filters first more) (overlay db []) params rows
+      → (all : List Row) × IsPermutation (map (shown (first ∷ more) params) (filter (passes filters params) (db tree))) all × IsInOrder descending all
+      × (rows ≡ limited (as_count (eval limit (params ∷ []))) all)
+  in_order db params rows a =
+      let q = sorted_query descending limit tree filters first more in
+      let found : a.staged ≡ map (λ r. params ∷ r ∷ []) (filter (passes filters params) (db tree)) = a.grouped ∙ matched filters params (overlay db [] tree) ∙ ap (λ rs. map (λ r. params ∷ r ∷ []) (filter (passes filters params) rs)) (no_overlay db tree) in
+      let all : map (λ (p : Output). p.1) a.kept ≡ map (shown (first ∷ more) params) (filter (passes filters params) (db tree)) =
+      ap (map (λ (p : Output). p.1)) (a.distinct ∙ ap (map (output q)) found)
+      ∙ map_map (λ (p : Output). p.1) (output q) (map (λ r. params ∷ r ∷ []) (filter (passes filters params) (db tree)))
+      ∙ map_map (λ (e : Env). eval_all (first ∷ more) e) (λ r. params ∷ r ∷ []) (filter (passes filters params) (db tree)) in
+      let keyed : All Keyed a.ordered = All-permutation Keyed _ _ a.same (subst (All Keyed) (sym a.distinct) (all_keyed a.staged)) in
+      let cmp = directed descending value_cmp in
+      let rises : IsInOrder descending (map (λ (p : Output). p.1) a.ordered) = λ k d least low.
+      let e : Output = (d, d) in
+      let within : k + 1 < length a.ordered = omega (arith, length-map a.ordered (λ (p : Output). p.1)) in
+      let x = get_or a.ordered (k + 1) e in
+      let y = get_or a.ordered k e in
+      let below : is_lt (cmp (column x.0 0) (column y.0 0)) ≡ false = ap is_lt (sym (then-Equal (cmp (column x.0 0) (column y.0 0)))) ∙ a.sorted k e (omega arith) within in
+      let typed : is_lt (cmp (column x.1 0) (column y.1 0)) ≡ false = ap (λ v. is_lt (cmp v (column y.1 0))) (sym (keyed (k + 1) e within)) ∙ ap (λ v. is_lt (cmp (column x.0 0) v)) (sym (keyed k e (omega arith))) ∙ below in
+      ap (λ (r : Row). is_lt (cmp (column r 0) (column (get_or (map (λ (p : Output). p.1) a.ordered) k d) 0))) (get_or-map (λ (p : Output). p.1) a.ordered (k + 1) e d within)
+      ∙ ap (λ (r : Row). is_lt (cmp (column x.1 0) (column r 0))) (get_or-map (λ (p : Output). p.1) a.ordered k e d (omega arith)) ∙ typed in (
+        map (λ (p : Output). p.1) a.ordered,
+        subst (λ xs. IsPermutation xs (map (λ (p : Output). p.1) a.ordered)) all (IsPermutation-map (λ (p : Output). p.1) a.kept a.ordered a.same),
+        rises,
+        a.shown,
+      )
+
+module _ {X : Type 0} (by_rowid : Bool) (encode : X → Row) (filters : List Term) (first : Term) (more : List Term) (params : Row) (key : X → Bool)
+    (none : look filters (first ∷ more) params [] ≡ look filters (first ∷ more) params (whole by_rowid (part by_rowid [])))
+    (some : (v : Value) (r : Row) → look filters (first ∷ more) params (v ∷ r) ≡ look filters (first ∷ more) params (whole by_rowid (part by_rowid (v ∷ r))))
+    (key_is : (x : X) → passes filters params (whole by_rowid (encode x)) ≡ key x) where
+  -- what is answered is what the rows with the key tell, in order, and as many as the limit says
+  pub asked_sorted : (descending : Bool) (limit : Term) (text : List ℕ) (tree : ℕ) → AsksSorted descending limit text tree filters first more
+      → (old new : State) (rows : List Row) → Shown text params old new rows → old.now.schema ≡ our_schema → (xs : List X) → IsPermutation (map encode xs) (told by_rowid (old.now.trees tree))
+      → (all : List Row) × IsPermutation (map (λ x. tells by_rowid (first ∷ more) params (encode x)) (filter key xs)) all × IsInOrder descending all
+      × (rows ≡ limited (as_count (eval limit (params ∷ []))) all)
+  asked_sorted descending limit text tree asks old new rows h ours xs filled =
+      let command = Select (record { lets = []; body = sorted_query descending limit tree filters first more }) asks.names in
+      let it = in_order descending limit tree filters first more old.now.trees params rows ((reads_as text params old new our_schema ours command asks.is asks.plain asks.unlisted rows h).answer Null) in
+      (it.0, told_as by_rowid encode filters (first ∷ more) params key none some key_is xs (old.now.trees tree) it.0 filled it.1, it.2, it.3)
+
+not_below : (a b : ℕ) → is_lt (value_cmp (number a) (number b)) ≡ is_lt (nat_cmp a b)
+not_below a b = ap is_lt (value_cmp-Int (pos a) (pos b)) ∙ grind (arith, nat_tests)
+
+at_most : (a b : ℕ) → is_lt (nat_cmp a b) ≡ false → b ≤ a
+at_most a b h = grind (arith, nat_tests)
+
+abbrev IsNumbered : Row → Type 0
+IsNumbered r = column r 0 ≡ number (nat_in (column r 0))
+
+below_as_numbers : (r s : Row) → IsNumbered r → IsNumbered s → is_lt (value_cmp (column r 0) (column s 0)) ≡ is_lt (nat_cmp (nat_in (column r 0)) (nat_in (column s 0)))
+below_as_numbers r s a b =
+    ap (λ v. is_lt (value_cmp v (column s 0))) a ∙ ap (λ v. is_lt (value_cmp (number (nat_in (column r 0))) v)) b ∙ not_below (nat_in (column r 0)) (nat_in (column s 0))
+
+module _ {X : Type 0} (tell : X → Row) (rank : X → ℕ) (first_is : (x : X) → column (tell x) 0 ≡ number (rank x)) where
+  told_numbers : (xs : List X) → All IsNumbered (map tell xs)
+  told_numbers [] k d low = absurd (omega arith)
+  told_numbers (x ∷ xs) zero d low = first_is x ∙ ap (λ v. number (nat_in v)) (sym (first_is x))
+  told_numbers (x ∷ xs) (suc k) d low = told_numbers xs k d (omega arith)
+
+  pub numbered : (xs : List X) (all : List Row) → IsPermutation (map tell xs) all → All IsNumbered all
+  numbered xs all got = All-permutation IsNumbered _ _ got (told_numbers xs)
+
+-- decoded rows in order
+module _ {Y : Type 0} (decode : Row → Y) (rank : Y → ℕ) (rank_is : (r : Row) → rank (decode r) ≡ nat_in (column r 0)) where
+  pub rises : (all : List Row) → All IsNumbered all → IsInOrder false all → IsNonDecreasingBy rank (map decode all)
+  rises all numbers sorted =
+      let none : Row = [] in
+      IsNonDecreasingBy-from_sort rank (map decode all) (λ k d least low.
+        let within : k + 1 < length all = omega (arith, length-map all decode) in
+        let r = get_or all (k + 1) none in
+        let s = get_or all k none in
+        ap (λ y. is_lt (nat_cmp (rank y) (rank (get_or (map decode all) k d)))) (get_or-map decode all (k + 1) none d within)
+        ∙ ap (λ y. is_lt (nat_cmp (rank (decode r)) (rank y))) (get_or-map decode all k none d (omega arith))
+        ∙ ap (λ n. is_lt (nat_cmp n (rank (decode s)))) (rank_is r) ∙ ap (λ n. is_lt (nat_cmp (nat_in (column r 0)) n)) (rank_is s)
+        ∙ sym (below_as_numbers r s (numbers (k + 1) none within) (numbers k none (omega arith))) ∙ sorted k none (omega arith) within)
