@@ -84,3 +84,10 @@ module _ (law : RowsLaw) (Owed : Contents → Type 0) (after : Contents → Cont
     crash = left_by;
     settled = tt;
   }
+
+  -- what went well is taken, and what is told as a fault leaves all as it was
+  pub told_commits : (r : Result (Unit {0}) Error) (told : Result (Unit {0}) StoreFault) → IsTold r told → (HasCleanDisk new → OnOk r (Ends (Takes Owed after) old new))
+      → (HasCleanDisk new → OnErr r (IsKept old new)) → Commits (link old a b) (link new m n) told Owed after
+  told_commits (Ok u) told is ok err = subst (λ t. Commits (link old a b) (link new m n) t Owed after) (sym is) (commits ok)
+  told_commits (Err e) (Ok u) is ok err = absurd (cc)
+  told_commits (Err e) (Err why) is ok err = fails why err

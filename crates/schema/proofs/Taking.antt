@@ -56,7 +56,7 @@ abbrev pub Tells : Change → Before → Entry → Database → Type 0
 Tells change told entry db = (c : Contents) → AreSound c → IsOwed change entry c → IsImage (image c) db → IsBefore c.facts change told
 
 pub change_taken : ReplyLaw → ChangeLaw → (change : Change) (told : Before) (entry : Entry) (a b : Database) → Tells change told entry a
-    → Moves (rows_written (writing.Change change told) entry) a b → Takes (IsOwed change entry) (λ c. committed c change entry) a b
+    → Moves (λ t. with_reply entry (rows_after change told t)) a b → Takes (IsOwed change entry) (λ c. committed c change entry) a b
 change_taken reply law change told entry a b has moves c sound owed holds =
     let next : Contents = record c { facts = changed c.facts change } in
     let rows = law c change told sound.facts owed.keeps (has c sound owed holds) in

@@ -1,7 +1,7 @@
 //! What a store says of an error, and how often it said so.
-ghost use Rattle.std.specs.Prelude.{◌≡◌, Result, IfOk, OnErr};
+ghost use Rattle.std.specs.Prelude.{◌≡◌};
 ghost use Rattle.job_core.specs.Store.{failed_after, full_after};
-ghost use Rattle.schema.specs.Link.{AreTold};
+ghost use Rattle.schema.specs.Link.{IsTold};
 
 use job_core::StoreFault;
 use sqlite::{Error, ErrorCode};

@@ -7,7 +7,7 @@ ghost use Rattle.sql_base.specs.Ends.{Ends, IsKept, IsLeft};
 ghost use Rattle.schema.specs.Takes.{Takes};
 
 use job_core::Change;
-use rows_of_facts::{rows_after_release, rows_with_reply};
+use rows_of_facts::{rows_after_change, rows_after_release, rows_with_reply};
 use sqlite::{Alter, Connection, Error};
 use store_commits::{Writing, commit};
 use store_data::Name;
@@ -21,7 +21,7 @@ pub(crate) fn keep<'x, S: Alter>(
     ask: &'x [u8],
     status: u16,
     body: &'x [u8],
-    change: &Change<'x>,
+    change: &Change<'_>,
 ) -> Result<(), Error>
     requires idle { conn.old.in_transaction ≡ false }
     requires number { number < 2 ^ 63 }
@@ -49,12 +49,12 @@ pub(crate) fn keep<'x, S: Alter>(
         (IsLeft (Takes (IsOwed change.now entry) (λ c. committed c change.now entry))
         (state S.Store conn.old)) }
 {
-
+    rows_after_change();
     rows_with_reply();
     let before = before(conn, change)?;
     let writing = Writing::Change {
-        change: *change,
-        before,
+        change,
+        before: &before,
     };
     commit(conn, client, number, ask, status, body, &writing)
 }
@@ -97,5 +97,13 @@ pub(crate) fn release<'x, S: Alter>(
         (state S.Store conn.old)) }
 {
     rows_after_release();
-    commit(conn, client, number, ask, status, body, &Writing::Release { upto })
+    commit(
+        conn,
+        client,
+        number,
+        ask,
+        status,
+        body,
+        &Writing::Release { upto },
+    )
 }

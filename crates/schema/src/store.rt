@@ -5,6 +5,7 @@ ghost use Rattle.schema.specs.Link.{link};
 
 use crate::faults::Counts;
 use crate::keeping::{keep, release};
+use facts_of_rows::same_rows_same_contents;
 use job_core::{
     BatchRow, BatchSize, BatchTotals, BlankTotals, Change, JobStore, KeptReply, Lot, RecordLine,
     RecordState, SegmentRow, SessionRow, StoreFault,
@@ -165,6 +166,7 @@ impl<S: Alter> JobStore for SqlStore<S> {
         if number >= LIMIT {
             return self.counts.told(Err(Error::InvalidQuery));
         }
+        same_rows_same_contents();
         let answer = keep(&mut self.conn, client, number, ask, status, body, change);
         self.counts.told(answer)
     }
@@ -181,6 +183,7 @@ impl<S: Alter> JobStore for SqlStore<S> {
         if number >= LIMIT {
             return self.counts.told(Err(Error::InvalidQuery));
         }
+        same_rows_same_contents();
         let answer = release(&mut self.conn, client, number, ask, status, body, mark);
         self.counts.told(answer)
     }

@@ -6,5 +6,5 @@ use Rattle.store_commits.specs.declared.writing.Writing.{Writing}
 use Rattle.store_commits.specs.declared.writing.Writing.TheVariants as writing
 
 abbrev pub rows_written : Writing → Entry → Tables → Tables
-rows_written (writing.Change change told) entry t = with_reply entry (rows_after change told t)
+rows_written (writing.Change change told) entry t = with_reply entry (rows_after change.now told.now t)
 rows_written (writing.Release upto) entry t = rows_after_release upto entry t

@@ -6,7 +6,12 @@ use table_rows::Before;
 #[derive(Clone, Copy)]
 pub enum Writing<'a> {
     /// A change of the facts, and how what it touches stood before it.
-    Change { change: Change<'a>, before: Before },
+    Change {
+        change: &'a Change<'a>,
+        before: &'a Before,
+    },
     /// The client's numbers are released up to this one.
-    Release { upto: u64 },
+    Release {
+        upto: u64,
+    },
 }
