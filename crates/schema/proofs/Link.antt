@@ -45,7 +45,7 @@ module _ {T : Type 0} where
 -- ---- commits
 
 -- what is found at the trees of a database of ours
-at_trees : (t : Tables) (db : Database) (trees : Trees) → db.schema ≡ our_schema → trees ≡ db.trees → IsImage t (record { schema = our_schema; trees = trees }) → IsImage t db
+pub at_trees : (t : Tables) (db : Database) (trees : Trees) → db.schema ≡ our_schema → trees ≡ db.trees → IsImage t (record { schema = our_schema; trees = trees }) → IsImage t db
 at_trees t db trees ours is found =
     subst (IsImage t) (sym (ap (λ s. let d : Database = record { schema = s; trees = db.trees } in d) ours)) (subst (λ (x : Trees). IsImage t (record { schema = our_schema; trees = x })) is found)
 

@@ -14,7 +14,7 @@ pub(crate) struct Counts {
 }
 
 // Rows of sound contents are refused nothing, so what is no want of memory is told of the device.
-fn fault_of(error: Error) -> StoreFault {
+pub(crate) fn fault_of(error: Error) -> StoreFault {
     match error {
         Error::SqliteFailure(ErrorCode::OutOfMemory) => StoreFault::Memory,
         Error::SqliteFailure(ErrorCode::DiskFull) => StoreFault::Full,

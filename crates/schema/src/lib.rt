@@ -3,6 +3,8 @@
 
 mod faults;
 mod keeping;
-mod store;
+pub mod opening;
+pub mod store;
 
+pub use opening::OpenFault;
 pub use store::SqlStore;

@@ -19,8 +19,8 @@ const LIMIT: u64 = 1 << 63;
 
 /// A store over a connection to our tables. No transaction is open between its calls.
 pub struct SqlStore<S: Alter> {
-    conn: Connection<S>,
-    counts: Counts,
+    pub(crate) conn: Connection<S>,
+    pub(crate) counts: Counts,
     ghost idle: { conn.in_transaction ≡ false },
 }
 

@@ -7,4 +7,5 @@ pub mod writing;
 
 pub use commits::commit;
 pub use opening::create;
+pub use sql_tables::CreateFault;
 pub use writing::Writing;
