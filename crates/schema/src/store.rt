@@ -24,6 +24,12 @@ pub struct SqlStore<S: Alter> {
     ghost idle: { conn.in_transaction ≡ false },
 }
 
+impl<S: Alter + Drop> Drop for SqlStore<S> {
+    fn drop(self) {
+        let SqlStore { conn: _, counts: _ } = self;
+    }
+}
+
 impl<S: Alter> JobStore for SqlStore<S> {
     ghost state = { λ s. link (state S.Store s.conn) s.counts.failed s.counts.full };
 
