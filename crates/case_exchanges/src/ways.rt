@@ -41,7 +41,7 @@ impl Fresh for FaultyStore {
 impl Fresh for SqlStore<MemStore> {
     fn fresh(alloc: Global) -> Result<SqlStore<MemStore>, CaseFault> {
         let conn = Connection::open_in_memory(alloc)?;
-        match SqlStore::create(conn) {
+        match SqlStore::create(alloc, conn) {
             Ok(store) => Ok(store),
             Err(_) => Err(CaseFault::Memory),
         }

@@ -9,6 +9,7 @@ ghost use Rattle.schema.specs.Takes.{Takes};
 use job_core::Change;
 use rows_of_facts::{rows_after_change, rows_after_release, rows_with_reply};
 use sqlite::{Alter, Connection, Error};
+use std::alloc::Global;
 use store_commits::{Writing, commit};
 use store_data::Name;
 use store_reads::before;
@@ -16,6 +17,7 @@ use store_reads::before;
 /// Makes a change and keeps its reply, or does neither.
 pub(crate) fn keep<'x, S: Alter>(
     conn: &mut Connection<S>,
+    alloc: Global,
     client: &'x Name,
     number: u64,
     ask: &'x [u8],
@@ -56,13 +58,14 @@ pub(crate) fn keep<'x, S: Alter>(
         change,
         before: &before,
     };
-    commit(conn, client, number, ask, status, body, &writing)
+    commit(conn, alloc, client, number, ask, status, body, &writing)
 }
 
 /// Sets a client's mark, drops its replies up to the mark, and keeps the release's reply, or does
 /// nothing.
 pub(crate) fn release<'x, S: Alter>(
     conn: &mut Connection<S>,
+    alloc: Global,
     client: &'x Name,
     number: u64,
     ask: &'x [u8],

@@ -13,6 +13,7 @@ use crate::store::SqlStore;
 use facts_of_rows::same_rows_same_contents;
 use job_core::StoreFault;
 use sqlite::{Alter, Connection};
+use std::alloc::Global;
 use store_commits::{CreateFault, create};
 
 /// Why no store was made over a database.
@@ -38,7 +39,10 @@ fn told(fault: CreateFault) -> OpenFault
 impl<S: Alter> SqlStore<S> {
     /// A store without facts, in an empty database. Any other is refused and stays as it is, and its
     /// connection is handed back. A crash leaves what it could leave before, or empty contents.
-    pub fn create(mut conn: Connection<S>) -> Result<SqlStore<S>, (Connection<S>, OpenFault)>
+    pub fn create(
+        alloc: Global,
+        mut conn: Connection<S>,
+    ) -> Result<SqlStore<S>, (Connection<S>, OpenFault)>
         requires { conn.in_transaction ≡ false }
         ensures empty { IfOk result (λ store. HasCleanDisk (state S.Store (connection store))
             → (state S.Store conn).now.schema ≡ no_schema) }
@@ -61,7 +65,11 @@ impl<S: Alter> SqlStore<S> {
         match create(&mut conn) {
             Ok(()) => {
                 let counts = Counts { failed: 0, full: 0 };
-                Ok(SqlStore { conn, counts })
+                Ok(SqlStore {
+                    alloc,
+                    conn,
+                    counts,
+                })
             }
             Err(fault) => Err((conn, told(fault))),
         }
@@ -72,7 +80,11 @@ impl<S: Alter> SqlStore<S> {
         ensures handed { result ≡ connection self }
         ensures idle { result.in_transaction ≡ false }
     {
-        let SqlStore { conn, counts: _ } = self;
+        let SqlStore {
+            alloc: _,
+            conn,
+            counts: _,
+        } = self;
         conn
     }
 }

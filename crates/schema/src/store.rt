@@ -11,6 +11,7 @@ use job_core::{
     RecordState, SegmentRow, SessionRow, StoreFault,
 };
 use sqlite::{Alter, Connection, Error};
+use std::alloc::Global;
 use store_data::{Name, Product};
 use store_reads as reads;
 
@@ -19,6 +20,7 @@ const LIMIT: u64 = 1 << 63;
 
 /// A store over a connection to our tables. No transaction is open between its calls.
 pub struct SqlStore<S: Alter> {
+    pub(crate) alloc: Global,
     pub(crate) conn: Connection<S>,
     pub(crate) counts: Counts,
     ghost idle: { conn.in_transaction ≡ false },
@@ -26,7 +28,11 @@ pub struct SqlStore<S: Alter> {
 
 impl<S: Alter + Drop> Drop for SqlStore<S> {
     fn drop(self) {
-        let SqlStore { conn: _, counts: _ } = self;
+        let SqlStore {
+            alloc: _,
+            conn: _,
+            counts: _,
+        } = self;
     }
 }
 
@@ -173,7 +179,7 @@ impl<S: Alter> JobStore for SqlStore<S> {
             return self.counts.told(Err(Error::InvalidQuery));
         }
         same_rows_same_contents();
-        let answer = keep(&mut self.conn, client, number, ask, status, body, change);
+        let answer = keep(&mut self.conn, self.alloc, client, number, ask, status, body, change);
         self.counts.told(answer)
     }
 
@@ -190,7 +196,7 @@ impl<S: Alter> JobStore for SqlStore<S> {
             return self.counts.told(Err(Error::InvalidQuery));
         }
         same_rows_same_contents();
-        let answer = release(&mut self.conn, client, number, ask, status, body, mark);
+        let answer = release(&mut self.conn, self.alloc, client, number, ask, status, body, mark);
         self.counts.told(answer)
     }
 }

@@ -14,12 +14,14 @@ use change_writes::{write_change, write_release};
 use job_core::Change;
 use row_writes::add_reply;
 use sqlite::{Alter, Connection, Error, Transaction};
+use std::alloc::Global;
 use store_data::Name;
 use table_rows::Before;
 
 // A change and its reply, in an open transaction.
 fn write_with_reply<'x, S: Alter>(
     tx: &mut Transaction<'_, S>,
+    alloc: Global,
     client: &'x Name,
     number: u64,
     ask: &'x [u8],
@@ -43,7 +45,7 @@ fn write_with_reply<'x, S: Alter>(
     ensures survives { Survives (state S.Store tx.old.conn.now) (state S.Store tx.new.conn.now)
         (λ _. ⊥) }
 {
-    write_change(tx, change, before)?;
+    write_change(tx, alloc, change, before)?;
     add_reply(tx, client, number, ask, status, body)?;
     Ok(())
 }
@@ -51,6 +53,7 @@ fn write_with_reply<'x, S: Alter>(
 // All that is written, in an open transaction.
 fn write_all<'x, S: Alter>(
     tx: &mut Transaction<'_, S>,
+    alloc: Global,
     client: &'x Name,
     number: u64,
     ask: &'x [u8],
@@ -75,9 +78,12 @@ fn write_all<'x, S: Alter>(
 {
     match writing {
         Writing::Change { change, before } => {
-            write_with_reply(tx, client, number, ask, status, body, change, before)
+            write_with_reply(tx, alloc, client, number, ask, status, body, change, before)
         }
-        Writing::Release { upto } => write_release(tx, client, number, ask, status, body, *upto),
+        Writing::Release { upto } => {
+            write_release(tx, client, number, ask, status, body, *upto)?;
+            Ok(())
+        }
     }
 }
 
@@ -85,6 +91,7 @@ fn write_all<'x, S: Alter>(
 /// leave before, or all of it.
 pub fn commit<'x, S: Alter>(
     conn: &mut Connection<S>,
+    alloc: Global,
     client: &'x Name,
     number: u64,
     ask: &'x [u8],
@@ -119,6 +126,6 @@ pub fn commit<'x, S: Alter>(
 {
     let _settled = conn.is_autocommit();
     let mut tx = conn.transaction();
-    write_all(&mut tx, client, number, ask, status, body, writing)?;
+    write_all(&mut tx, alloc, client, number, ask, status, body, writing)?;
     tx.commit()
 }

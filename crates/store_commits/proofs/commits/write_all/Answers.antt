@@ -1,4 +1,4 @@
-use Rattle.std.proofs.Common.{subst, sym}
+use Rattle.std.proofs.Common.{Ok, subst, sym}
 use Rattle.sqlite.specs.Held.{state}
 use Rattle.job_core.specs.Contents.{Entry}
 use Rattle.sql_base.specs.Ends.{Wrote}
@@ -15,5 +15,6 @@ returns-in-Change-clause-wrote g c clean =
 pub returns-in-Release-clause-wrote : goal.returns-in-Release-clause-wrote
 returns-in-Release-clause-wrote g c clean =
     let entry : Entry = record { client = c.args.client.now; number = c.args.number; ask = c.args.ask.now; status = c.args.status; body = c.args.body.now } in
-    subst (λ w. Wrote (Moves (rows_written w entry)) (state g.S.Store c.args.tx.now.conn.now) (state g.S.Store c.write_release.new.tx.conn.now) c.write_release.result)
-    (sym c.in-Release.is) (c.write_release.ensures.wrote clean)
+    let wrote = c.in_ok-write_release.ensures.wrote clean in
+    subst (λ w. Wrote (Moves (rows_written w entry)) (state g.S.Store c.args.tx.now.conn.now) (state g.S.Store c.write_release.new.tx.conn.now) (Ok tt))
+    (sym c.in-Release.is) (record { well = wrote.well; kept = wrote.kept })
