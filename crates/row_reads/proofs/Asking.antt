@@ -4,6 +4,7 @@ use Rattle.std.specs.Prelude.{filter, find, option_map}
 use Rattle.std.specs.List.{list_any}
 use Rattle.std.specs.List.Sorted.{IsPermutation}
 use Rattle.std.specs.Option.{option_to_list}
+use Rattle.std.proofs.lemmas.List.{length-map}
 use Rattle.std.proofs.lemmas.List.Sorted.{IsPermutation-map, length_permutation}
 use Rattle.std.proofs.lemmas.Bool.{cases_Bool}
 use Rattle.sqlite.specs.Command.TheVariants.{Select}
@@ -107,3 +108,7 @@ module _ {X : Type 0} (key : X → Bool) (tell : X → Row) (xs : List X) (rows 
   -- a row is answered where one has the key
   pub any_found : has_rows rows ≡ list_any key xs
   any_found = has_as_long _ rows (length_permutation _ rows got) ∙ sym (list_any_filter key tell xs)
+
+  -- and as many as have it
+  pub count_found : length rows ≡ length (filter key xs)
+  count_found = length_permutation (map tell (filter key xs)) rows got ∙ length-map (filter key xs) tell

@@ -1,4 +1,4 @@
--- What is answered of batches.
+-- What is answered of batches and of charged blanks.
 use Rattle.std.proofs.Common.{◌≡◌, ◌==◌, ℕ, ◌&&◌, true, List, [], ◌∷◌, map, Option, pos, refl, ◌∙◌}
 use Rattle.std.specs.Prelude.{filter, find, option_map}
 use Rattle.std.specs.List.{list_any}
@@ -12,17 +12,17 @@ use Rattle.sqlite.specs.Term.{Term}
 use Rattle.sqlite_sql.specs.declared.ops.BinaryOp.TheVariants.{Compare}
 use Rattle.sqlite_sql.specs.declared.ops.CompareOp.TheVariants.{Eq}
 use Rattle.sql_base.proofs.Tests.{alone, same_blob, same_int, same_text}
-use Rattle.sql_rows.specs.Encoding.{batch_row}
+use Rattle.sql_rows.specs.Encoding.{batch_row, blank_row}
 use Rattle.sql_rows.specs.Image.{IsImage}
 use Rattle.table_rows.specs.Tables.{PassesOnce, StoredBatch, Tables}
 use Rattle.row_reads.specs.declared.batches.BatchHead.{BatchHead}
 use Rattle.row_reads.specs.Decoding.{IsFirst, has_rows, head_in, id_in, name_in}
-use Rattle.row_reads.specs.Keys.{has_bytes, has_id, has_name}
-use Rattle.row_reads.specs.NameTexts.{batch_has_text, batch_head_text, batch_id_columns, batch_id_text, batch_name_columns, batch_name_text, by_batch_name, by_bytes, by_id, head_columns}
+use Rattle.row_reads.specs.Keys.{has_bytes, has_id, has_name, has_serial, is_batch_of}
+use Rattle.row_reads.specs.NameTexts.{batches_of_text, by_batch_product, charged_text, batch_has_text, batch_head_text, id_columns, batch_id_text, batch_name_columns, batch_name_text, by_batch_name, by_bytes, by_id, head_columns}
 use Rattle.row_reads.specs.Telling.{head_of}
 use Rattle.row_reads.proofs.Answering.{flag_back, text_key}
-use Rattle.row_reads.proofs.Asking.{Asks, any_found, asked, one_found, tells}
-use Rattle.row_reads.proofs.NameMeanings.{batch_has_asks, batch_head_asks, batch_id_asks, batch_name_asks}
+use Rattle.row_reads.proofs.Asking.{Asks, all_found, any_found, asked, one_found, tells}
+use Rattle.row_reads.proofs.NameMeanings.{batches_of_asks, charged_asks, batch_has_asks, batch_head_asks, batch_id_asks, batch_name_asks}
 
 int_key : (id n : ℕ) → (is_true (binary (Compare Eq Binary) (Int (pos n)) (Int (pos id))) && true) ≡ (n == id)
 int_key id n = alone (is_true (binary (Compare Eq Binary) (Int (pos n)) (Int (pos id)))) ∙ same_int n id
@@ -36,7 +36,7 @@ named text project asks name old new rows h t image =
 pub batch_id_found : (name : List ℕ) (old new : State) (rows : List Row) → Shown batch_id_text (Text name ∷ []) old new rows → (t : Tables) → IsImage t old.now
     → PassesOnce (has_name name) t.batches → (found : Option ℕ) → IsFirst (map id_in rows) found → found ≡ option_map (λ (b : StoredBatch). b.id) (find (has_name name) t.batches)
 batch_id_found name old new rows h t image once found first =
-    one_found (has_name name) (λ b. tells true batch_id_columns (Text name ∷ []) (batch_row b)) t.batches rows (named batch_id_text batch_id_columns batch_id_asks name old new rows h t image)
+    one_found (has_name name) (λ b. tells true id_columns (Text name ∷ []) (batch_row b)) t.batches rows (named batch_id_text id_columns batch_id_asks name old new rows h t image)
     id_in (λ b. b.id) once (λ b is. refl) found first
 
 head_back : (params : Row) (b : StoredBatch) → head_in (tells true head_columns params (batch_row b)) ≡ head_of b
@@ -64,6 +64,23 @@ pub batch_has_found : (name raw : List ℕ) (old new : State) (rows : List Row) 
     → has_rows rows ≡ list_any (has_bytes name raw) t.batches
 batch_has_found name raw old new rows h t image =
     let params = Text name ∷ Blob raw ∷ [] in
-    any_found (has_bytes name raw) (λ b. tells true batch_id_columns params (batch_row b)) t.batches rows
-    (asked true batch_row by_bytes batch_id_columns params (has_bytes name raw) refl (λ v r. refl) (bytes_key name raw) batch_has_text 5 batch_has_asks old new rows h image.ours t.batches
+    any_found (has_bytes name raw) (λ b. tells true id_columns params (batch_row b)) t.batches rows
+    (asked true batch_row by_bytes id_columns params (has_bytes name raw) refl (λ v r. refl) (bytes_key name raw) batch_has_text 5 batch_has_asks old new rows h image.ours t.batches
     image.each.1.1.1.0.rows)
+
+pub batches_of_found : (product : List ℕ) (old new : State) (rows : List Row) → Shown batches_of_text (Text product ∷ []) old new rows → (t : Tables) → IsImage t old.now
+    → IsPermutation (map head_of (filter (is_batch_of product) t.batches)) (map head_in rows)
+batches_of_found product old new rows h t image =
+    let params = Text product ∷ [] in
+    all_found (is_batch_of product) (λ b. tells true head_columns params (batch_row b)) t.batches rows
+    (asked true batch_row by_batch_product head_columns params (is_batch_of product) refl (λ v r. refl) (λ b. text_key product b.product) batches_of_text 5 batches_of_asks old new rows h image.ours t.batches
+    image.each.1.1.1.0.rows)
+    head_in head_of (head_back params)
+
+pub is_charged_found : (serial : ℕ) (old new : State) (rows : List Row) → Shown charged_text (Int (pos serial) ∷ []) old new rows → (t : Tables) → IsImage t old.now
+    → has_rows rows ≡ list_any (has_serial serial) t.blanks
+is_charged_found serial old new rows h t image =
+    let params = Int (pos serial) ∷ [] in
+    any_found (has_serial serial) (λ b. tells true id_columns params (blank_row b)) t.blanks rows
+    (asked true blank_row by_id id_columns params (has_serial serial) refl (λ v r. refl) (λ b. int_key serial b.serial) charged_text 16 charged_asks old new rows h image.ours t.blanks
+    image.each.1.1.1.1.1.1.1.1.0.rows)

@@ -6,5 +6,7 @@ pub mod Answering
 pub mod NameMeanings
 pub mod NameAnswers
 pub mod BatchAnswers
+pub mod LotAnswers
 pub mod CardMeanings
 pub mod CardAnswers
+pub mod ManyAnswers

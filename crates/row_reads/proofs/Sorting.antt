@@ -1,9 +1,10 @@
 -- What a query with ORDER BY answers.
-use Rattle.std.proofs.Common.{◌≡◌, ℕ, zero, suc, ◌+◌, ◌≤◌, ◌<◌, pos, Bool, true, false, List, [], ◌∷◌, map, take, length, get_or, Option, Some, None, All, Contains, refl, sym, ap, subst, ◌∙◌, arith, nat_cmp, add-one}
+use Rattle.std.proofs.Common.{◌≡◌, ℕ, zero, suc, ◌+◌, ◌≤◌, ◌<◌, pos, Bool, true, false, List, [], ◌∷◌, map, take, length, get_or, Option, Some, All, Contains, refl, sym, ap, subst, ◌∙◌, arith, nat_cmp, add-one}
 use Rattle.std.specs.Prelude.{filter}
 use Rattle.std.specs.Ordering.{is_lt}
 use Rattle.std.specs.List.Sorted.{IsNonDecreasingBy, IsPermutation, IsSortedByKey}
 use Rattle.std.proofs.lemmas.Bool.Decides.{nat_tests}
+use Rattle.std.proofs.lemmas.Option.{none-some, same_Some}
 use Rattle.std.proofs.lemmas.List.{get_or-map, length-map}
 use Rattle.std.proofs.lemmas.List.Elements.{All-contains_itself}
 use Rattle.std.proofs.lemmas.List.Sorted.{All-permutation, IsNonDecreasingBy-from_sort, IsPermutation-map, IsPermutation-sym, length_permutation}
@@ -24,13 +25,13 @@ use Rattle.sqlite_value.specs.Order.{value_cmp}
 use Rattle.sqlite_value.proofs.OrderLemmas.{then-Equal, value_cmp-Int}
 use Rattle.sql_base.specs.Queries.{from_tree}
 use Rattle.sql_base.proofs.Replacing.{nothing_found}
-use Rattle.sql_base.proofs.Selecting.{map_map, matched, no_overlay, passes, shown}
+use Rattle.sql_base.proofs.Selecting.{map_map, map_same, matched, no_overlay, passes, shown}
 use Rattle.sql_tables.specs.Tables.{our_schema}
 use Rattle.sql_rows.specs.Encoding.{number}
 use Rattle.sql_rows.specs.Image.{told}
-use Rattle.row_reads.specs.Decoding.{IsFirst, nat_in}
-use Rattle.row_reads.specs.Extremes.{IsGreatest, IsLeastBy}
-use Rattle.row_reads.proofs.Asking.{look, part, tells, told_as, whole}
+use Rattle.row_reads.specs.Decoding.{IsFirst, first_number, id_in, nat_in}
+use Rattle.row_reads.specs.Extremes.{AreSorted, IsGreatest, IsLeastBy}
+use Rattle.row_reads.proofs.Asking.{all_found, look, part, tells, told_as, whole}
 
 -- the rows of one tree that pass, by the first column that is shown, up or down, and as many as the limit says
 abbrev pub sorted_query : Bool → Term → ℕ → List Term → Term → List Term → Query
@@ -112,25 +113,90 @@ below_as_numbers : (r s : Row) → IsNumbered r → IsNumbered s → is_lt (valu
 below_as_numbers r s a b =
     ap (λ v. is_lt (value_cmp v (column s 0))) a ∙ ap (λ v. is_lt (value_cmp (number (nat_in (column r 0))) v)) b ∙ not_below (nat_in (column r 0)) (nat_in (column s 0))
 
-module _ {X : Type 0} (tell : X → Row) (rank : X → ℕ) (first_is : (x : X) → column (tell x) 0 ≡ number (rank x)) where
-  told_numbers : (xs : List X) → All IsNumbered (map tell xs)
-  told_numbers [] k d low = absurd (omega arith)
-  told_numbers (x ∷ xs) zero d low = first_is x ∙ ap (λ v. number (nat_in v)) (sym (first_is x))
-  told_numbers (x ∷ xs) (suc k) d low = told_numbers xs k d (omega arith)
+told_numbers : {X : Type 0} (tell : X → Row) → ((x : X) → IsNumbered (tell x)) → (xs : List X) → All IsNumbered (map tell xs)
+told_numbers tell first_is [] k d low = absurd (omega arith)
+told_numbers tell first_is (x ∷ xs) zero d low = first_is x
+told_numbers tell first_is (x ∷ xs) (suc k) d low = told_numbers tell first_is xs k d (omega arith)
 
-  pub numbered : (xs : List X) (all : List Row) → IsPermutation (map tell xs) all → All IsNumbered all
-  numbered xs all got = All-permutation IsNumbered _ _ got (told_numbers xs)
+-- what is told of rows that begin with a number
+pub numbered : {X : Type 0} (tell : X → Row) → ((x : X) → IsNumbered (tell x)) → (xs : List X) (all : List Row) → IsPermutation (map tell xs) all → All IsNumbered all
+numbered tell first_is xs all got = All-permutation IsNumbered _ _ got (told_numbers tell first_is xs)
 
 -- decoded rows in order
 module _ {Y : Type 0} (decode : Row → Y) (rank : Y → ℕ) (rank_is : (r : Row) → rank (decode r) ≡ nat_in (column r 0)) where
-  pub rises : (all : List Row) → All IsNumbered all → IsInOrder false all → IsNonDecreasingBy rank (map decode all)
+  rises : (all : List Row) → All IsNumbered all → IsInOrder false all → IsNonDecreasingBy rank (map decode all)
   rises all numbers sorted =
       let none : Row = [] in
       IsNonDecreasingBy-from_sort rank (map decode all) (λ k d least low.
-        let within : k + 1 < length all = omega (arith, length-map all decode) in
-        let r = get_or all (k + 1) none in
-        let s = get_or all k none in
-        ap (λ y. is_lt (nat_cmp (rank y) (rank (get_or (map decode all) k d)))) (get_or-map decode all (k + 1) none d within)
-        ∙ ap (λ y. is_lt (nat_cmp (rank (decode r)) (rank y))) (get_or-map decode all k none d (omega arith))
-        ∙ ap (λ n. is_lt (nat_cmp n (rank (decode s)))) (rank_is r) ∙ ap (λ n. is_lt (nat_cmp (nat_in (column r 0)) n)) (rank_is s)
-        ∙ sym (below_as_numbers r s (numbers (k + 1) none within) (numbers k none (omega arith))) ∙ sorted k none (omega arith) within)
+      let within : k + 1 < length all = omega (arith, length-map all decode) in
+      let r = get_or all (k + 1) none in
+      let s = get_or all k none in
+      ap (λ y. is_lt (nat_cmp (rank y) (rank (get_or (map decode all) k d)))) (get_or-map decode all (k + 1) none d within)
+      ∙ ap (λ y. is_lt (nat_cmp (rank (decode r)) (rank y))) (get_or-map decode all k none d (omega arith))
+      ∙ ap (λ n. is_lt (nat_cmp n (rank (decode s)))) (rank_is r) ∙ ap (λ n. is_lt (nat_cmp (nat_in (column r 0)) n)) (rank_is s)
+      ∙ sym (below_as_numbers r s (numbers (k + 1) none within) (numbers k none (omega arith))) ∙ sorted k none (omega arith) within)
+
+least_of : {Y : Type 0} (rank : Y → ℕ) (zs ys : List Y) → IsPermutation zs ys → IsNonDecreasingBy rank ys → (found : Option Y) → IsFirst ys found → IsLeastBy rank zs found
+least_of rank zs [] same up found none = subst (IsLeastBy rank zs) (sym none) (nothing_found zs (IsPermutation-sym zs [] same))
+least_of rank zs (y ∷ ys) same up found some =
+    let within : Contains zs y = All-permutation (Contains zs) zs (y ∷ ys) same (All-contains_itself zs) 0 y (omega arith) in
+    let least : All (λ z. rank y ≤ rank z) zs = All-permutation (λ z. rank y ≤ rank z) (y ∷ ys) zs (IsPermutation-sym zs (y ∷ ys) same) (λ k d low. up 0 k d (omega arith) low) in
+    subst (IsLeastBy rank zs) (sym some) (within, least)
+
+first_of_one : {Y : Type 0} (decode : Row → Y) (all : List Row) (found : Option Y) → IsFirst (map decode (take 1 all)) found → IsFirst (map decode all) found
+first_of_one decode [] found first = first
+first_of_one decode (r ∷ all) found first = first
+
+-- what is made of an answer in order
+module _ {X Y : Type 0} (key : X → Bool) (tell : X → Row) (xs : List X) (all : List Row) (got : IsPermutation (map tell (filter key xs)) all) (sorted : IsInOrder false all)
+    (first_is : (x : X) → IsNumbered (tell x)) (decode : Row → Y) (f : X → Y) (back : (x : X) → decode (tell x) ≡ f x) (rank : Y → ℕ)
+    (rank_is : (r : Row) → rank (decode r) ≡ nat_in (column r 0)) where
+  up : IsNonDecreasingBy rank (map decode all)
+  up = rises decode rank rank_is all (numbered tell first_is (filter key xs) all got) sorted
+
+  -- each row's
+  pub sorted_found : (rows : List Row) → rows ≡ all → AreSorted rank (map f (filter key xs)) (map decode rows)
+  sorted_found rows is = subst (λ rs. AreSorted rank (map f (filter key xs)) (map decode rs)) (sym is) (all_found key tell xs all got decode f back, up)
+
+  -- the first row's
+  pub least_found : (rows : List Row) → rows ≡ take 1 all → (found : Option Y) → IsFirst (map decode rows) found → IsLeastBy rank (map f (filter key xs)) found
+  least_found rows is found first =
+      least_of rank (map f (filter key xs)) (map decode all) (all_found key tell xs all got decode f back) up found
+      (first_of_one decode all found (subst (λ rs. IsFirst (map decode rs) found) is first))
+
+-- rows that fall: none is above the first
+falls : (all : List Row) → All IsNumbered all → IsInOrder true all → (j : ℕ) → j < length all → nat_in (column (get_or all j []) 0) ≤ nat_in (column (get_or all 0 []) 0)
+falls all numbers sorted zero low = omega arith
+falls all numbers sorted (suc j) low =
+    let before = falls all numbers sorted j (omega arith) in
+    let r = get_or all j [] in
+    let next = get_or all (j + 1) [] in
+    let step : nat_in (column next 0) ≤ nat_in (column r 0) =
+    at_most (nat_in (column r 0)) (nat_in (column next 0)) (sym (below_as_numbers r next (numbers j [] (omega arith)) (numbers (j + 1) [] (omega arith))) ∙ sorted j [] (omega arith) (omega arith)) in
+    rw (sym (add-one j)) (omega arith)
+
+greatest_of : (zs ys : List ℕ) → IsPermutation zs ys → (n : ℕ) → IsFirst ys (Some n) → All (λ m. m ≤ n) ys → IsGreatest zs n
+greatest_of zs [] same n first most = absurd (none-some n (sym first))
+greatest_of [] (y ∷ ys) same n first most = absurd (omega (arith, length_permutation [] (y ∷ ys) same))
+greatest_of (z ∷ zs) (y ∷ ys) same n first most =
+    let is : n ≡ y = same_Some n y first in (
+      subst (Contains (z ∷ zs)) (sym is) (All-permutation (Contains (z ∷ zs)) (z ∷ zs) (y ∷ ys) same (All-contains_itself (z ∷ zs)) 0 y (omega arith)),
+      All-permutation (λ m. m ≤ n) (y ∷ ys) (z ∷ zs) (IsPermutation-sym (z ∷ zs) (y ∷ ys) same) most,
+    )
+
+-- the first of rows that fall has the greatest number
+pub greatest_found : {X : Type 0} (tell : X → Row) → ((x : X) → IsNumbered (tell x)) → (xs : List X) (all : List Row) → IsPermutation (map tell xs) all → IsInOrder true all
+    → (f : X → ℕ) → ((x : X) → nat_in (column (tell x) 0) ≡ f x) → (rows : List Row) → rows ≡ take 1 all → IsGreatest (map f xs) (first_number rows)
+greatest_found tell first_is xs all got sorted f back rows is =
+    subst (λ rs. IsGreatest (map f xs) (first_number rs)) (sym is)
+    (from all (falls all (numbered tell first_is xs all got) sorted)
+    (subst (λ zs. IsPermutation zs (map id_in all)) (map_map id_in tell xs ∙ map_same (λ x. id_in (tell x)) f back xs) (IsPermutation-map id_in (map tell xs) all got)))
+  where
+    from : (all : List Row) → ((j : ℕ) → j < length all → nat_in (column (get_or all j []) 0) ≤ nat_in (column (get_or all 0 []) 0)) → IsPermutation (map f xs) (map id_in all)
+        → IsGreatest (map f xs) (first_number (take 1 all))
+    from [] most same = subst (λ zs. IsGreatest zs 0) (sym (nothing_found (map f xs) (IsPermutation-sym (map f xs) [] same))) refl
+    from (r ∷ rest) most same =
+        greatest_of (map f xs) (map id_in (r ∷ rest)) same (nat_in (column r 0)) refl
+        (λ k d low.
+        let within : k < length (r ∷ rest) = omega (arith, length-map (r ∷ rest) id_in) in
+        subst (λ m. m ≤ nat_in (column r 0)) (sym (get_or-map id_in (r ∷ rest) k [] d within)) (most k within))

@@ -1,16 +1,20 @@
 -- What the values of an answered row tell of records, groupings and sessions.
-use Rattle.std.specs.Prelude.{◌<◌, ◌^◌, ℕ, zero, suc}
+use Rattle.std.specs.Prelude.{◌<◌, ◌≤◌, ◌^◌, ℕ, zero, suc}
 use Rattle.sqlite.specs.Order.{Row, column}
 use Rattle.store_data.specs.declared.cursor.Cursor.{Cursor}
+use Rattle.store_data.specs.declared.row.Enc.{Enc}
+use Rattle.store_data.specs.declared.row.Enc.TheVariants as enc
 use Rattle.store_data.specs.Cursor.{IsCursor}
 use Rattle.job_core.specs.declared.facts.RecordState.{RecordState}
 use Rattle.job_core.specs.declared.facts.RecordState.TheVariants as rec
 use Rattle.job_core.specs.declared.facts.SessionState.{SessionState}
 use Rattle.job_core.specs.declared.facts.SessionState.TheVariants as session
+use Rattle.row_reads.specs.declared.groupings.GroupingAt.{GroupingAt}
 use Rattle.row_reads.specs.declared.records.RecordAt.{RecordAt}
+use Rattle.row_reads.specs.declared.sessions.GoodCard.{GoodCard}
 use Rattle.row_reads.specs.declared.sessions.SessionAt.{SessionAt}
-use Rattle.table_rows.specs.Tables.{StoredRecord, StoredSession}
-use Rattle.row_reads.specs.Decoding.{nat_in, text_in}
+use Rattle.table_rows.specs.Tables.{StoredGrouping, StoredRecord, StoredSession}
+use Rattle.row_reads.specs.Decoding.{blob_in, flag_in, nat_in, text_in}
 
 -- ---- sessions
 
@@ -44,6 +48,18 @@ pub record IsSessionAt (s : SessionAt) : Type 0 where
   pub words : s.words < 2 ^ 63
   pub cursor : IsCursor s.cursor
 
+abbrev pub good_in : Row → GoodCard
+good_in row = record { place = nat_in (column row 0); serial = nat_in (column row 1) }
+
+-- what is told of a stored session that is good
+abbrev pub good_at : StoredSession → GoodCard
+good_at s = record { place = s.place; serial = s.serial }
+
+-- its numbers are in the ranges that statements take
+pub record IsGoodCard (g : GoodCard) : Type 0 where
+  pub place : g.place < 2 ^ 63
+  pub serial : g.serial < 2 ^ 63
+
 -- ---- records
 
 -- the state that a number stands for
@@ -72,3 +88,37 @@ pub record IsRecordAt (r : RecordAt) : Type 0 where
   pub place : r.place < 2 ^ 63
   pub spoiled : r.spoiled < 2 ^ 63
   pub remakes : r.remakes < 2 ^ 63
+
+abbrev pub place_of : RecordAt → ℕ
+place_of r = r.place
+
+-- ---- groupings
+
+-- what a number stands for
+abbrev pub enc_of : ℕ → Enc
+enc_of zero = enc.Plain
+enc_of (suc zero) = enc.All
+enc_of (suc (suc n)) = enc.Mixed
+
+abbrev pub grouping_in : Row → GroupingAt
+grouping_in row = record {
+  line = nat_in (column row 0);
+  aid = blob_in (column row 1);
+  rank = nat_in (column row 2);
+  enc = enc_of (nat_in (column row 3));
+  tol = flag_in (column row 4);
+  coded = blob_in (column row 5);
+}
+
+-- what is told of a stored grouping
+abbrev pub grouping_at : StoredGrouping → GroupingAt
+grouping_at g = record { line = g.line; aid = g.aid; rank = g.rank; enc = g.enc; tol = g.tol; coded = g.coded }
+
+abbrev pub line_of : GroupingAt → ℕ
+line_of g = g.line
+
+-- its numbers are in their ranges
+pub record IsGroupingAt (g : GroupingAt) : Type 0 where
+  pub line : g.line < 2 ^ 63
+  pub least_rank : 1 ≤ g.rank
+  pub most_rank : g.rank ≤ 999

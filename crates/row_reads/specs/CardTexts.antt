@@ -1,5 +1,5 @@
 -- The texts of the statements that read records, groupings and sessions, and what they ask.
-use Rattle.std.specs.Prelude.{List, ℕ, pos, [], ◌∷◌, codes}
+use Rattle.std.specs.Prelude.{List, ℕ, pos, negsuc, [], ◌∷◌, codes}
 use Rattle.sqlite.specs.declared.types.Value.TheVariants.{Int}
 use Rattle.sqlite.specs.Term.{Term, col, lit}
 use Rattle.sql_base.specs.Queries.{is_equal}
@@ -26,6 +26,19 @@ running_columns = col 1 0 ∷ []
 abbrev pub by_running_machine : List Term
 by_running_machine = is_equal (col 1 2) (col 0 0) ∷ is_equal (col 1 6) (lit (Int (pos 0))) ∷ []
 
+abbrev pub last_session_text : List ℕ
+last_session_text = codes "SELECT id FROM session ORDER BY id DESC LIMIT 1"
+
+abbrev pub good_text : List ℕ
+good_text = codes "SELECT place, serial FROM session WHERE batch = ?1 AND state = 1"
+
+abbrev pub good_columns : List Term
+good_columns = col 1 4 ∷ col 1 5 ∷ []
+
+-- the batch is the first parameter, and the state is 1
+abbrev pub by_good_batch : List Term
+by_good_batch = is_equal (col 1 3) (col 0 0) ∷ is_equal (col 1 6) (lit (Int (pos 1))) ∷ []
+
 -- ---- records
 
 abbrev pub record_named_text : List ℕ
@@ -40,3 +53,45 @@ record_columns = col 1 2 ∷ col 1 3 ∷ col 1 4 ∷ col 1 5 ∷ col 1 6 ∷ []
 -- the batch is the first parameter, and the name is the second
 abbrev pub by_batch_and_name : List Term
 by_batch_and_name = is_equal (col 1 1) (col 0 0) ∷ is_equal (col 1 3) (col 0 1) ∷ []
+
+abbrev pub records_text : List ℕ
+records_text = codes "SELECT place, name, state, spoiled, remakes FROM record WHERE batch = ?1 ORDER BY place"
+
+abbrev pub waiting_text : List ℕ
+waiting_text = codes "SELECT place, name, state, spoiled, remakes FROM record WHERE batch = ?1 AND state = 0 ORDER BY place LIMIT 1"
+
+-- those after the first
+abbrev pub more_record_columns : List Term
+more_record_columns = col 1 3 ∷ col 1 4 ∷ col 1 5 ∷ col 1 6 ∷ []
+
+-- the batch is the first parameter
+abbrev pub by_batch : List Term
+by_batch = is_equal (col 1 1) (col 0 0) ∷ []
+
+-- the batch is the first parameter, and the state is 0
+abbrev pub by_waiting_batch : List Term
+by_waiting_batch = is_equal (col 1 1) (col 0 0) ∷ is_equal (col 1 4) (lit (Int (pos 0))) ∷ []
+
+-- ---- groupings
+
+abbrev pub groupings_text : List ℕ
+groupings_text = codes "SELECT line, aid, rank, enc, tol, coded FROM grouping2 WHERE batch = ?1 AND place = ?2 ORDER BY line"
+
+-- those after the first
+abbrev pub more_grouping_columns : List Term
+more_grouping_columns = col 1 4 ∷ col 1 5 ∷ col 1 6 ∷ col 1 7 ∷ col 1 8 ∷ []
+
+-- the batch is the first parameter, and the place is the second
+abbrev pub by_batch_and_place : List Term
+by_batch_and_place = is_equal (col 1 1) (col 0 0) ∷ is_equal (col 1 3) (col 0 1) ∷ []
+
+abbrev pub grouping_count_text : List ℕ
+grouping_count_text = codes "SELECT line FROM grouping2 WHERE batch = ?1"
+
+-- ---- as many as there are, and one
+
+abbrev pub no_limit : Term
+no_limit = lit (Int (negsuc 0))
+
+abbrev pub limit_one : Term
+limit_one = lit (Int (pos 1))

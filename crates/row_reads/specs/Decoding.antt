@@ -7,7 +7,9 @@ use Rattle.sqlite.specs.Order.{Row, column}
 use Rattle.store_data.specs.declared.row.Product.{Product}
 use Rattle.job_core.specs.declared.rows.BatchTotals.{BatchTotals}
 use Rattle.job_core.specs.declared.rows.KeptReply.{KeptReply}
+use Rattle.job_core.specs.declared.facts.Lot.{Lot}
 use Rattle.row_reads.specs.declared.batches.BatchHead.{BatchHead}
+use Rattle.row_reads.specs.declared.lots.LotRow.{LotRow}
 
 abbrev pub nat_in : Value → ℕ
 nat_in (Int (pos n)) = n
@@ -53,6 +55,12 @@ totals_in row = record {
 
 abbrev pub head_in : Row → BatchHead
 head_in row = record { id = nat_in (column row 0); product = text_in (column row 1); is_closed = flag_in (column row 2); totals = totals_in row }
+
+abbrev pub lot_in : Row → Lot
+lot_in row = record { name = text_in (column row 0); product = text_in (column row 1); first = nat_in (column row 2); count = nat_in (column row 3) }
+
+abbrev pub lot_row_in : Row → LotRow
+lot_row_in row = record { lot = lot_in row; discarded = nat_in (column row 4) }
 
 -- the first of them, if there is one
 abbrev pub IsFirst : {X : Type 0} → List X → Option X → Type 0

@@ -1,5 +1,10 @@
--- The first and the last of what is numbered.
+-- What is numbered, in order, and its first and its last.
 use Rattle.std.specs.Prelude.{◌≡◌, ◌≤◌, ℕ, List, [], ◌∷◌, All, Contains, Option, Some, None}
+use Rattle.std.specs.List.Sorted.{IsNonDecreasingBy, IsPermutation}
+
+-- the same, in the order of a number
+abbrev pub AreSorted : {X : Type 0} → (X → ℕ) → List X → List X → Type 0
+AreSorted n xs ys = IsPermutation xs ys × IsNonDecreasingBy n ys
 
 -- it is one of them with the least number, if there is any
 abbrev pub IsLeastBy : {X : Type 0} → (X → ℕ) → List X → Option X → Type 0

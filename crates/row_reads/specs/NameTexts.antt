@@ -20,8 +20,8 @@ by_two_columns = is_equal (col 1 1) (col 0 0) ∷ is_equal (col 1 2) (col 0 1) �
 abbrev pub batch_id_text : List ℕ
 batch_id_text = codes "SELECT id FROM batch WHERE name = ?1"
 
-abbrev pub batch_id_columns : List Term
-batch_id_columns = col 1 0 ∷ []
+abbrev pub id_columns : List Term
+id_columns = col 1 0 ∷ []
 
 -- the column behind the id is the first parameter
 abbrev pub by_batch_name : List Term
@@ -49,3 +49,45 @@ batch_has_text = codes "SELECT id FROM batch WHERE name = ?1 AND raw = ?2"
 -- the name and the bytes are the two parameters
 abbrev pub by_bytes : List Term
 by_bytes = is_equal (col 1 2) (col 0 0) ∷ is_equal (col 1 4) (col 0 1) ∷ []
+
+-- ---- lots
+
+abbrev pub lot_columns : List Term
+lot_columns = col 1 1 ∷ col 1 2 ∷ col 1 3 ∷ col 1 4 ∷ []
+
+abbrev pub lot_row_columns : List Term
+lot_row_columns = col 1 1 ∷ col 1 2 ∷ col 1 3 ∷ col 1 4 ∷ col 1 5 ∷ []
+
+abbrev pub lot_text : List ℕ
+lot_text = codes "SELECT name, product, low_serial, amount, discarded FROM lot WHERE name = ?1"
+
+abbrev pub lots_text : List ℕ
+lots_text = codes "SELECT name, product, low_serial, amount FROM lot"
+
+abbrev pub lots_of_text : List ℕ
+lots_of_text = codes "SELECT name, product, low_serial, amount, discarded FROM lot WHERE product = ?1"
+
+-- the second column is the first parameter
+abbrev pub by_second_column : List Term
+by_second_column = is_equal (col 1 2) (col 0 0) ∷ []
+
+-- ---- the batches of a product, charged blanks, and names to be counted
+
+abbrev pub batches_of_text : List ℕ
+batches_of_text = codes "SELECT id, product, closed, waiting, running, failed, withdrawn, good, sessions, spoiled FROM batch WHERE product = ?1"
+
+-- the product of a batch is the first parameter
+abbrev pub by_batch_product : List Term
+by_batch_product = is_equal (col 1 3) (col 0 0) ∷ []
+
+abbrev pub charged_text : List ℕ
+charged_text = codes "SELECT serial FROM blank WHERE serial = ?1"
+
+abbrev pub products_text : List ℕ
+products_text = codes "SELECT name FROM product"
+
+abbrev pub lot_names_text : List ℕ
+lot_names_text = codes "SELECT name FROM lot"
+
+abbrev pub first_column : List Term
+first_column = col 1 1 ∷ []

@@ -1,8 +1,9 @@
 -- What is told of a row.
 use Rattle.std.specs.Prelude.{◌+◌, ◌<◌, ◌^◌}
 use Rattle.job_core.specs.declared.rows.BatchTotals.{BatchTotals}
-use Rattle.table_rows.specs.Tables.{StoredBatch}
+use Rattle.table_rows.specs.Tables.{StoredBatch, StoredLot}
 use Rattle.row_reads.specs.declared.batches.BatchHead.{BatchHead}
+use Rattle.row_reads.specs.declared.lots.LotRow.{LotRow}
 
 -- the counters of a batch; its records are those of each state
 abbrev pub totals_of : StoredBatch → BatchTotals
@@ -35,3 +36,11 @@ pub record AreCounts (totals : BatchTotals) : Type 0 where
 pub record IsHead (h : BatchHead) : Type 0 where
   pub id : h.id < 2 ^ 63
   pub totals : AreCounts h.totals
+
+-- a lot with its discarded blanks
+abbrev pub lot_row_of : StoredLot → LotRow
+lot_row_of l = record { lot = l.lot; discarded = l.discarded }
+
+-- its counter is a number of SQL
+abbrev pub IsLotRow : LotRow → Type 0
+IsLotRow l = l.discarded < 2 ^ 63

@@ -1,10 +1,11 @@
 //! Batches are read.
-ghost use Rattle.std.specs.Prelude.{◌≡◌, ◌<◌, ◌^◌, false, map, find, option_map, IfOk, IfSome, IsTrue};
+ghost use Rattle.std.specs.Prelude.{◌≡◌, ◌<◌, ◌^◌, false, filter, find, map, option_map};
+ghost use Rattle.std.specs.Prelude.{IfOk, IfSome, IsPermutation, IsTrue};
 ghost use Rattle.std.specs.List.{list_any};
 ghost use Rattle.sqlite.specs.Held.{state};
 ghost use Rattle.sqlite.specs.State.{HasCleanDisk, Survives};
 ghost use Rattle.row_reads.specs.Decoding.{IsFirst, head_in, totals_in};
-ghost use Rattle.row_reads.specs.Keys.{has_bytes, has_id, has_name};
+ghost use Rattle.row_reads.specs.Keys.{has_bytes, has_id, has_name, is_batch_of};
 ghost use Rattle.row_reads.specs.Telling.{AreCounts, IsHead, head_of};
 ghost use Rattle.sql_base.specs.Ends.{IsKept};
 ghost use Rattle.sql_rows.specs.Image.{IsImage};
@@ -15,6 +16,7 @@ use job_core::BatchTotals;
 use sql_base::{int, rows_of};
 use sqlite::types::ValueRef;
 use sqlite::{Alter, Connection, Error, Row};
+use std::alloc::Global;
 use store_data::Name;
 
 /// A batch without its bytes.
@@ -81,6 +83,16 @@ fn first_head(rows: &[Row]) -> Result<Option<BatchHead>, Error>
         None => Ok(None),
         Some(row) => Ok(Some(head_in(row)?)),
     }
+}
+
+fn heads_in(alloc: Global, rows: &[Row]) -> Result<Vec<BatchHead>, Error>
+    ensures { IfOk result (λ heads. heads.items ≡ map head_in rows.now) }
+{
+    let mut heads = Vec::new(alloc);
+    for row in rows {
+        heads.push(head_in(row)?)?;
+    }
+    Ok(heads)
 }
 
 // ---- queries
@@ -170,4 +182,30 @@ pub fn batch_has<S: Alter>(conn: &mut Connection<S>, name: &Name, raw: &[u8]) ->
         &[ValueRef::Text(name.bytes()), ValueRef::Blob(raw)],
     )?;
     Ok(has_rows(rows.as_slice()))
+}
+
+/// The batches of a product, in any order and without their bytes. Nothing is changed, and a crash
+/// leaves what it could leave before.
+pub fn batches_of<S: Alter>(
+    conn: &mut Connection<S>,
+    product: &Name,
+) -> Result<Vec<BatchHead>, Error>
+    requires { conn.old.in_transaction ≡ false }
+    ensures found { HasCleanDisk (state S.Store conn.new) → IfOk result
+        (λ heads. IsTrue (state S.Store conn.old).is_open × ((t : Tables)
+        → IsImage t (state S.Store conn.old).now
+        → IsPermutation (map head_of (filter (is_batch_of product.now) t.batches)) heads.items)) }
+    ensures kept { HasCleanDisk (state S.Store conn.new)
+        → IsKept (state S.Store conn.old) (state S.Store conn.new) }
+    ensures idle { conn.new.in_transaction ≡ false }
+    ensures survives { Survives (state S.Store conn.old) (state S.Store conn.new) (λ _. ⊥) }
+{
+    let rows = rows_of(
+        conn,
+        "SELECT id, product, closed, waiting, running, failed, withdrawn, good, sessions, spoiled \
+        FROM batch WHERE product = ?1",
+        &[ValueRef::Text(product.bytes())],
+    )?;
+    let alloc = *rows.allocator();
+    heads_in(alloc, rows.as_slice())
 }

@@ -2,6 +2,9 @@
 #![tactic(auto)]
 
 mod batches;
+mod blanks;
+mod groupings;
+mod lots;
 mod marks;
 mod products;
 mod records;
@@ -9,9 +12,12 @@ mod replies;
 mod sessions;
 mod values;
 
-pub use batches::{BatchHead, batch_has, batch_head, batch_id, batch_name};
+pub use batches::{BatchHead, batch_has, batch_head, batch_id, batch_name, batches_of};
+pub use blanks::is_charged;
+pub use groupings::{GroupingAt, grouping_count, groupings_of};
+pub use lots::{LotRow, all_lots, lot, lot_count, lot_of, lots_of, overlaps};
 pub use marks::mark;
-pub use products::product;
-pub use records::{RecordAt, record_at, record_named};
+pub use products::{product, product_count};
+pub use records::{RecordAt, first_waiting, record_at, record_named, records_of};
 pub use replies::kept;
-pub use sessions::{SessionAt, running_session, session};
+pub use sessions::{GoodCard, SessionAt, good_sessions, last_session, running_session, session};

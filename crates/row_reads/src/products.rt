@@ -1,5 +1,5 @@
 //! Products are read.
-ghost use Rattle.std.specs.Prelude.{◌≡◌, false, map, IfOk, IfSome, IsTrue};
+ghost use Rattle.std.specs.Prelude.{◌≡◌, false, length, map, IfOk, IfSome, IsTrue};
 ghost use Rattle.sqlite.specs.Held.{state};
 ghost use Rattle.sqlite.specs.State.{HasCleanDisk, Survives};
 ghost use Rattle.store_data.specs.Sequence.{IsProduct};
@@ -11,6 +11,7 @@ ghost use Rattle.sql_base.specs.Ends.{IsKept};
 ghost use Rattle.sql_rows.specs.Image.{IsImage};
 ghost use Rattle.table_rows.specs.Tables.{Tables};
 
+use crate::values::count;
 use sql_base::rows_of;
 use sqlite::types::ValueRef;
 use sqlite::{Alter, Connection, Error, Row};
@@ -66,4 +67,19 @@ pub fn product<S: Alter>(conn: &mut Connection<S>, code: &Name) -> Result<Option
         &[ValueRef::Text(code.bytes())],
     )?;
     first_product(code, rows.as_slice())
+}
+
+/// How many products there are. Nothing is changed, and a crash leaves what it could leave before.
+pub fn product_count<S: Alter>(conn: &mut Connection<S>) -> Result<u64, Error>
+    requires { conn.old.in_transaction ≡ false }
+    ensures found { HasCleanDisk (state S.Store conn.new) → IfOk result
+        (λ count. IsTrue (state S.Store conn.old).is_open × ((t : Tables)
+        → IsImage t (state S.Store conn.old).now → count ≡ length t.products)) }
+    ensures kept { HasCleanDisk (state S.Store conn.new)
+        → IsKept (state S.Store conn.old) (state S.Store conn.new) }
+    ensures idle { conn.new.in_transaction ≡ false }
+    ensures survives { Survives (state S.Store conn.old) (state S.Store conn.new) (λ _. ⊥) }
+{
+    let rows = rows_of(conn, "SELECT name FROM product", &[])?;
+    Ok(count(rows.as_slice()))
 }

@@ -1,10 +1,11 @@
 //! Records are read.
-ghost use Rattle.std.specs.Prelude.{◌≡◌, ◌<◌, ◌^◌, false, find, option_map, IfOk, IfSome, IsTrue, map};
+ghost use Rattle.std.specs.Prelude.{◌≡◌, ◌<◌, ◌^◌, false, filter, find, option_map, All, IfOk, IfSome, IsTrue, map};
 ghost use Rattle.sqlite.specs.Held.{state};
 ghost use Rattle.sqlite.specs.State.{HasCleanDisk, Survives};
-ghost use Rattle.row_reads.specs.CardDecoding.{IsRecordAt, record_at, record_in, record_state_of};
-ghost use Rattle.row_reads.specs.CardKeys.{is_record_at, is_record_named};
+ghost use Rattle.row_reads.specs.CardDecoding.{IsRecordAt, place_of, record_at, record_in, record_state_of};
+ghost use Rattle.row_reads.specs.CardKeys.{is_record_at, is_record_named, is_record_of, is_waiting_in};
 ghost use Rattle.row_reads.specs.Decoding.{IsFirst};
+ghost use Rattle.row_reads.specs.Extremes.{AreSorted, IsLeastBy};
 ghost use Rattle.sql_base.specs.Ends.{IsKept};
 ghost use Rattle.sql_rows.specs.Image.{IsImage};
 ghost use Rattle.table_rows.specs.Tables.{PassesOnce, Tables};
@@ -14,6 +15,7 @@ use job_core::RecordState;
 use sql_base::{int, rows_of};
 use sqlite::types::ValueRef;
 use sqlite::{Alter, Connection, Error, Row};
+use std::alloc::Global;
 use store_data::Name;
 
 /// How a record of a batch stands.
@@ -127,6 +129,69 @@ pub fn record_at<S: Alter>(
         conn,
         "SELECT place, name, state, spoiled, remakes FROM record WHERE batch = ?1 AND place = ?2",
         &[int(batch), int(place)],
+    )?;
+    first_record(rows.as_slice())
+}
+
+// The records in the answered rows.
+fn all_records(alloc: Global, rows: &[Row]) -> Result<Vec<RecordAt>, Error>
+    ensures value { IfOk result (λ all. all.items ≡ map record_in rows.now) }
+    ensures ranged { IfOk result (λ all. All IsRecordAt all.items) }
+{
+    let mut all = Vec::new(alloc);
+    for answered in rows {
+        all.push(record_in(answered)?)?;
+    }
+    Ok(all)
+}
+
+/// The records of the batch with this id, by their places. Nothing is changed, and a crash leaves what
+/// it could leave before.
+pub fn records_of<S: Alter>(conn: &mut Connection<S>, batch: u64) -> Result<Vec<RecordAt>, Error>
+    requires idle { conn.old.in_transaction ≡ false }
+    requires batch { batch < 2 ^ 63 }
+    ensures found { HasCleanDisk (state S.Store conn.new) → IfOk result
+        (λ all. IsTrue (state S.Store conn.old).is_open × ((t : Tables)
+        → IsImage t (state S.Store conn.old).now
+        → AreSorted place_of (map record_at (filter (is_record_of batch) t.records)) all.items)) }
+    ensures ranged { IfOk result (λ all. All IsRecordAt all.items) }
+    ensures kept { HasCleanDisk (state S.Store conn.new)
+        → IsKept (state S.Store conn.old) (state S.Store conn.new) }
+    ensures idle { conn.new.in_transaction ≡ false }
+    ensures survives { Survives (state S.Store conn.old) (state S.Store conn.new) (λ _. ⊥) }
+{
+    let rows = rows_of(
+        conn,
+        "SELECT place, name, state, spoiled, remakes FROM record WHERE batch = ?1 ORDER BY place",
+        &[int(batch)],
+    )?;
+    let alloc = *rows.allocator();
+    all_records(alloc, rows.as_slice())
+}
+
+/// Of the waiting records of the batch with this id the one with the least place. Nothing is changed,
+/// and a crash leaves what it could leave before.
+pub fn first_waiting<S: Alter>(
+    conn: &mut Connection<S>,
+    batch: u64,
+) -> Result<Option<RecordAt>, Error>
+    requires idle { conn.old.in_transaction ≡ false }
+    requires batch { batch < 2 ^ 63 }
+    ensures found { HasCleanDisk (state S.Store conn.new) → IfOk result
+        (λ found. IsTrue (state S.Store conn.old).is_open × ((t : Tables)
+        → IsImage t (state S.Store conn.old).now
+        → IsLeastBy place_of (map record_at (filter (is_waiting_in batch) t.records)) found)) }
+    ensures ranged { IfOk result (λ found. IfSome found IsRecordAt) }
+    ensures kept { HasCleanDisk (state S.Store conn.new)
+        → IsKept (state S.Store conn.old) (state S.Store conn.new) }
+    ensures idle { conn.new.in_transaction ≡ false }
+    ensures survives { Survives (state S.Store conn.old) (state S.Store conn.new) (λ _. ⊥) }
+{
+    let rows = rows_of(
+        conn,
+        "SELECT place, name, state, spoiled, remakes FROM record WHERE batch = ?1 AND state = 0 \
+        ORDER BY place LIMIT 1",
+        &[int(batch)],
     )?;
     first_record(rows.as_slice())
 }

@@ -1,11 +1,12 @@
 //! Sessions are read.
-ghost use Rattle.std.specs.Prelude.{◌≡◌, ◌<◌, ◌^◌, false, find, option_map, IfOk, IfSome, IsTrue, map};
+ghost use Rattle.std.specs.Prelude.{◌≡◌, ◌<◌, ◌^◌, false, filter, find, option_map, All, IfOk, IfSome, IsPermutation, IsTrue, map};
 ghost use Rattle.sqlite.specs.Held.{state};
 ghost use Rattle.sqlite.specs.State.{HasCleanDisk, Survives};
 ghost use Rattle.store_data.specs.Cursor.{IsCursor};
-ghost use Rattle.row_reads.specs.CardDecoding.{IsSessionAt, cursor_in, session_at, session_in, session_state_of};
-ghost use Rattle.row_reads.specs.CardKeys.{has_id, is_running_on};
-ghost use Rattle.row_reads.specs.Decoding.{IsFirst};
+ghost use Rattle.row_reads.specs.CardDecoding.{IsGoodCard, IsSessionAt, cursor_in, good_at, good_in, session_at, session_in, session_state_of};
+ghost use Rattle.row_reads.specs.CardKeys.{has_id, is_good_in, is_running_on};
+ghost use Rattle.row_reads.specs.Decoding.{IsFirst, first_number};
+ghost use Rattle.row_reads.specs.Extremes.{IsGreatest};
 ghost use Rattle.sql_base.specs.Ends.{IsKept};
 ghost use Rattle.sql_rows.specs.Image.{IsImage};
 ghost use Rattle.table_rows.specs.Tables.{PassesOnce, StoredSession, Tables};
@@ -15,6 +16,7 @@ use job_core::SessionState;
 use sql_base::{int, rows_of};
 use sqlite::types::ValueRef;
 use sqlite::{Alter, Connection, Error, Row};
+use std::alloc::Global;
 use store_data::{Cursor, Name};
 
 /// Where a session stands.
@@ -30,6 +32,14 @@ pub struct SessionAt {
     pub words: u64,
     /// Where its card stands.
     pub cursor: Cursor,
+}
+
+/// A card that is good: the place of its record among those of its batch, from 0, and the serial of
+/// its blank.
+#[derive(Clone, Copy)]
+pub struct GoodCard {
+    pub place: u64,
+    pub serial: u64,
 }
 
 // The state that a number stands for.
@@ -159,4 +169,79 @@ pub fn running_session<S: Alter>(
         &[ValueRef::Text(machine.bytes())],
     )?;
     first_id(rows.as_slice())
+}
+
+// The number in the first answered row; 0 where there is none.
+fn first_number(rows: &[Row]) -> Result<u64, Error>
+    ensures value { IfOk result (λ n. n ≡ first_number rows.now) }
+    ensures ranged { IfOk result (λ n. n < 2 ^ 63) }
+{
+    match rows.first() {
+        None => Ok(0),
+        Some(row) => number_at(row, 0),
+    }
+}
+
+/// The greatest id of a session; 0 where there is no session. Nothing is changed, and a crash leaves
+/// what it could leave before.
+pub fn last_session<S: Alter>(conn: &mut Connection<S>) -> Result<u64, Error>
+    requires { conn.old.in_transaction ≡ false }
+    ensures found { HasCleanDisk (state S.Store conn.new) → IfOk result
+        (λ id. IsTrue (state S.Store conn.old).is_open × ((t : Tables)
+        → IsImage t (state S.Store conn.old).now
+        → IsGreatest (map (λ (s : StoredSession). s.id) t.sessions) id)) }
+    ensures ranged { IfOk result (λ id. id < 2 ^ 63) }
+    ensures kept { HasCleanDisk (state S.Store conn.new)
+        → IsKept (state S.Store conn.old) (state S.Store conn.new) }
+    ensures idle { conn.new.in_transaction ≡ false }
+    ensures survives { Survives (state S.Store conn.old) (state S.Store conn.new) (λ _. ⊥) }
+{
+    let rows = rows_of(conn, "SELECT id FROM session ORDER BY id DESC LIMIT 1", &[])?;
+    first_number(rows.as_slice())
+}
+
+// The good card in an answered row.
+fn good_in(row: &Row) -> Result<GoodCard, Error>
+    ensures value { IfOk result (λ g. g ≡ good_in row.now) }
+    ensures ranged { IfOk result IsGoodCard }
+{
+    let place = number_at(row, 0)?;
+    let serial = number_at(row, 1)?;
+    Ok(GoodCard { place, serial })
+}
+
+// The good cards in the answered rows.
+fn all_good(alloc: Global, rows: &[Row]) -> Result<Vec<GoodCard>, Error>
+    ensures value { IfOk result (λ all. all.items ≡ map good_in rows.now) }
+    ensures ranged { IfOk result (λ all. All IsGoodCard all.items) }
+{
+    let mut all = Vec::new(alloc);
+    for answered in rows {
+        all.push(good_in(answered)?)?;
+    }
+    Ok(all)
+}
+
+/// The good cards of the batch with this id, in any order. Nothing is changed, and a crash leaves what
+/// it could leave before.
+pub fn good_sessions<S: Alter>(conn: &mut Connection<S>, batch: u64) -> Result<Vec<GoodCard>, Error>
+    requires idle { conn.old.in_transaction ≡ false }
+    requires batch { batch < 2 ^ 63 }
+    ensures found { HasCleanDisk (state S.Store conn.new) → IfOk result
+        (λ all. IsTrue (state S.Store conn.old).is_open × ((t : Tables)
+        → IsImage t (state S.Store conn.old).now
+        → IsPermutation (map good_at (filter (is_good_in batch) t.sessions)) all.items)) }
+    ensures ranged { IfOk result (λ all. All IsGoodCard all.items) }
+    ensures kept { HasCleanDisk (state S.Store conn.new)
+        → IsKept (state S.Store conn.old) (state S.Store conn.new) }
+    ensures idle { conn.new.in_transaction ≡ false }
+    ensures survives { Survives (state S.Store conn.old) (state S.Store conn.new) (λ _. ⊥) }
+{
+    let rows = rows_of(
+        conn,
+        "SELECT place, serial FROM session WHERE batch = ?1 AND state = 1",
+        &[int(batch)],
+    )?;
+    let alloc = *rows.allocator();
+    all_good(alloc, rows.as_slice())
 }

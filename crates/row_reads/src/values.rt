@@ -1,5 +1,5 @@
 //! The values of an answered row.
-ghost use Rattle.std.specs.Prelude.{◌≡◌, ◌<◌, ◌^◌, map, IfOk, IfSome};
+ghost use Rattle.std.specs.Prelude.{◌≡◌, ◌<◌, ◌^◌, length, map, IfOk, IfSome};
 ghost use Rattle.sqlite.specs.Order.{column};
 ghost use Rattle.row_reads.specs.Decoding.{IsFirst, blob_in, has_rows, id_in, name_in, nat_in, text_in};
 
@@ -102,4 +102,11 @@ pub(crate) fn has_rows(rows: &[Row]) -> bool
     ensures { result ≡ has_rows rows.now }
 {
     !rows.is_empty()
+}
+
+// How many rows are answered.
+pub(crate) fn count(rows: &[Row]) -> u64
+    ensures { result ≡ length rows.now }
+{
+    rows.len() as u64
 }

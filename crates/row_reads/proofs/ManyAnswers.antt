@@ -1,0 +1,122 @@
+-- What is answered of records, groupings and sessions, where several rows can be, and of the first and the last of them.
+use Rattle.std.proofs.Common.{◌≡◌, ℕ, ◌==◌, ◌&&◌, true, false, List, [], ◌∷◌, length, map, Option, refl, ap, subst, ◌∙◌}
+use Rattle.std.specs.Prelude.{filter}
+use Rattle.std.specs.List.Sorted.{IsPermutation}
+use Rattle.sqlite.specs.Collation.TheVariants.{Binary}
+use Rattle.sqlite.specs.Ops.{binary, is_true}
+use Rattle.sqlite.specs.Order.{Row}
+use Rattle.sqlite.specs.State.{Shown, State}
+use Rattle.sqlite.specs.Term.{col}
+use Rattle.sqlite_sql.specs.declared.ops.BinaryOp.TheVariants.{Compare}
+use Rattle.sqlite_sql.specs.declared.ops.CompareOp.TheVariants.{Eq}
+use Rattle.store_data.specs.declared.row.Enc.{Enc}
+use Rattle.store_data.specs.declared.row.Enc.TheVariants as enc
+use Rattle.job_core.specs.declared.facts.RecordState.{RecordState}
+use Rattle.job_core.specs.declared.facts.RecordState.TheVariants as rec
+use Rattle.job_core.specs.declared.facts.SessionState.{SessionState}
+use Rattle.job_core.specs.declared.facts.SessionState.TheVariants as session
+use Rattle.job_core.specs.States.{is_good, is_waiting}
+use Rattle.sql_base.proofs.Selecting.{all_pass}
+use Rattle.sql_base.proofs.Tests.{alone, same_int}
+use Rattle.table_rows.specs.Tables.{StoredGrouping, StoredRecord, StoredSession, Tables}
+use Rattle.sql_rows.specs.Encoding.{enc_code, grouping_row, number, record_code, record_row, session_code, session_row}
+use Rattle.sql_rows.specs.Image.{IsImage}
+use Rattle.row_reads.specs.declared.records.RecordAt.{RecordAt}
+use Rattle.row_reads.specs.CardDecoding.{enc_of, good_at, good_in, grouping_at, grouping_in, line_of, place_of, record_at, record_in}
+use Rattle.row_reads.specs.CardKeys.{is_good_in, is_grouping_at, is_grouping_of, is_record_of, is_waiting_in}
+use Rattle.row_reads.specs.CardTexts.{by_batch, by_batch_and_place, by_good_batch, by_waiting_batch, good_columns, good_text, grouping_count_text, groupings_text, last_session_text, limit_one, more_grouping_columns, more_record_columns, no_limit, record_columns, records_text, waiting_text}
+use Rattle.row_reads.specs.Decoding.{IsFirst, first_number}
+use Rattle.row_reads.specs.Extremes.{AreSorted, IsGreatest, IsLeastBy}
+use Rattle.row_reads.proofs.Answering.{flag_back}
+use Rattle.row_reads.proofs.Asking.{all_found, asked, count_found, tells}
+use Rattle.row_reads.proofs.CardAnswers.{place_key, record_back}
+use Rattle.row_reads.proofs.CardMeanings.{good_asks, grouping_count_asks, groupings_asks, last_session_asks, records_asks, waiting_asks}
+use Rattle.row_reads.proofs.Sorting.{asked_sorted, greatest_found, least_found, sorted_found}
+
+-- the one test of WHERE, that a number is the parameter
+batch_key : (batch b : ℕ) → (is_true (binary (Compare Eq Binary) (number b) (number batch)) && true) ≡ (b == batch)
+batch_key batch b = alone (is_true (binary (Compare Eq Binary) (number b) (number batch))) ∙ same_int b batch
+
+-- ---- sessions
+
+pub last_session_found : (old new : State) (rows : List Row) → Shown last_session_text [] old new rows → (t : Tables) → IsImage t old.now
+    → IsGreatest (map (λ (s : StoredSession). s.id) t.sessions) (first_number rows)
+last_session_found old new rows h t image =
+    let tell : StoredSession → Row = λ s. tells true (col 1 0 ∷ []) [] (session_row s) in
+    let it = asked_sorted true session_row [] (col 1 0) [] [] (λ _. true) refl (λ v r. refl) (λ s. refl) true limit_one last_session_text 12 last_session_asks old new rows h image.ours t.sessions
+    image.each.1.1.1.1.1.1.0.rows in
+    greatest_found tell (λ s. refl) t.sessions it.0 (subst (λ xs. IsPermutation (map tell xs) it.0) (all_pass t.sessions) it.1) it.2 (λ (s : StoredSession). s.id) (λ s. refl) rows it.3
+
+good_code : (s : SessionState) → (session_code s == 1) ≡ is_good s
+good_code session.Running = refl
+good_code session.Good = refl
+good_code session.Spoiled = refl
+
+good_key : (batch : ℕ) (s : StoredSession)
+    → (is_true (binary (Compare Eq Binary) (number s.batch) (number batch)) && (is_true (binary (Compare Eq Binary) (number (session_code s.state)) (number 1)) && true)) ≡ is_good_in batch s
+good_key batch s = place_key s.batch (session_code s.state) batch 1 ∙ ap (λ b. (s.batch == batch) && b) (good_code s.state)
+
+pub good_found : (batch : ℕ) (old new : State) (rows : List Row) → Shown good_text (number batch ∷ []) old new rows → (t : Tables) → IsImage t old.now
+    → IsPermutation (map good_at (filter (is_good_in batch) t.sessions)) (map good_in rows)
+good_found batch old new rows h t image =
+    let params = number batch ∷ [] in
+    all_found (is_good_in batch) (λ s. tells true good_columns params (session_row s)) t.sessions rows
+    (asked true session_row by_good_batch good_columns params (is_good_in batch) refl (λ v r. refl) (good_key batch) good_text 12 good_asks old new rows h image.ours t.sessions
+    image.each.1.1.1.1.1.1.0.rows)
+    good_in good_at (λ s. refl)
+
+-- ---- records
+
+pub records_found : (batch : ℕ) (old new : State) (rows : List Row) → Shown records_text (number batch ∷ []) old new rows → (t : Tables) → IsImage t old.now
+    → AreSorted place_of (map record_at (filter (is_record_of batch) t.records)) (map record_in rows)
+records_found batch old new rows h t image =
+    let params = number batch ∷ [] in
+    let it = asked_sorted false record_row by_batch (col 1 2) more_record_columns params (is_record_of batch) refl (λ v r. refl) (λ r. batch_key batch r.batch) false no_limit records_text 7
+    records_asks old new rows h image.ours t.records image.each.1.1.1.1.0.rows in
+    sorted_found (is_record_of batch) (λ r. tells false record_columns params (record_row r)) t.records it.0 it.1 it.2 (λ r. refl) record_in record_at (record_back params) place_of (λ r. refl) rows it.3
+
+waiting_code : (s : RecordState) → (record_code s == 0) ≡ is_waiting s
+waiting_code rec.Waiting = refl
+waiting_code rec.Running = refl
+waiting_code rec.Failed = refl
+waiting_code rec.Withdrawn = refl
+waiting_code rec.Good = refl
+
+waiting_key : (batch : ℕ) (r : StoredRecord)
+    → (is_true (binary (Compare Eq Binary) (number r.batch) (number batch)) && (is_true (binary (Compare Eq Binary) (number (record_code r.state)) (number 0)) && true)) ≡ is_waiting_in batch r
+waiting_key batch r = place_key r.batch (record_code r.state) batch 0 ∙ ap (λ b. (r.batch == batch) && b) (waiting_code r.state)
+
+pub waiting_found : (batch : ℕ) (old new : State) (rows : List Row) → Shown waiting_text (number batch ∷ []) old new rows → (t : Tables) → IsImage t old.now
+    → (found : Option RecordAt) → IsFirst (map record_in rows) found → IsLeastBy place_of (map record_at (filter (is_waiting_in batch) t.records)) found
+waiting_found batch old new rows h t image =
+    let params = number batch ∷ [] in
+    let it = asked_sorted false record_row by_waiting_batch (col 1 2) more_record_columns params (is_waiting_in batch) refl (λ v r. refl) (waiting_key batch) false limit_one waiting_text 7
+    waiting_asks old new rows h image.ours t.records image.each.1.1.1.1.0.rows in
+    least_found (is_waiting_in batch) (λ r. tells false record_columns params (record_row r)) t.records it.0 it.1 it.2 (λ r. refl) record_in record_at (record_back params) place_of (λ r. refl) rows it.3
+
+-- ---- groupings
+
+enc_back : (e : Enc) → enc_of (enc_code e) ≡ e
+enc_back enc.Plain = refl
+enc_back enc.All = refl
+enc_back enc.Mixed = refl
+
+grouping_back : (params : Row) (g : StoredGrouping) → grouping_in (tells false (col 1 2 ∷ more_grouping_columns) params (grouping_row g)) ≡ grouping_at g
+grouping_back params g = rw (enc_back g.enc, flag_back g.tol) refl
+
+pub groupings_found : (batch place : ℕ) (old new : State) (rows : List Row) → Shown groupings_text (number batch ∷ number place ∷ []) old new rows → (t : Tables) → IsImage t old.now
+    → AreSorted line_of (map grouping_at (filter (is_grouping_at batch place) t.groupings)) (map grouping_in rows)
+groupings_found batch place old new rows h t image =
+    let params = number batch ∷ number place ∷ [] in
+    let it = asked_sorted false grouping_row by_batch_and_place (col 1 2) more_grouping_columns params (is_grouping_at batch place) refl (λ v r. refl) (λ g. place_key g.batch g.place batch place)
+    false no_limit groupings_text 10 groupings_asks old new rows h image.ours t.groupings image.each.1.1.1.1.1.0.rows in
+    sorted_found (is_grouping_at batch place) (λ g. tells false (col 1 2 ∷ more_grouping_columns) params (grouping_row g)) t.groupings it.0 it.1 it.2 (λ g. refl) grouping_in grouping_at
+    (grouping_back params) line_of (λ r. refl) rows it.3
+
+pub groupings_counted : (batch : ℕ) (old new : State) (rows : List Row) → Shown grouping_count_text (number batch ∷ []) old new rows → (t : Tables) → IsImage t old.now
+    → length rows ≡ length (filter (is_grouping_of batch) t.groupings)
+groupings_counted batch old new rows h t image =
+    let params = number batch ∷ [] in
+    count_found (is_grouping_of batch) (λ g. tells false (col 1 2 ∷ []) params (grouping_row g)) t.groupings rows
+    (asked false grouping_row by_batch (col 1 2 ∷ []) params (is_grouping_of batch) refl (λ v r. refl) (λ g. batch_key batch g.batch) grouping_count_text 10 grouping_count_asks old new rows h
+    image.ours t.groupings image.each.1.1.1.1.1.0.rows)

@@ -1,0 +1,14 @@
+use Rattle.std.proofs.Common.{true, ap, length, ◌∙◌}
+use Rattle.sqlite.specs.Held.{state}
+use Rattle.sql_base.proofs.Querying.{shown_open}
+use Rattle.row_reads.proofs.ManyAnswers.{groupings_counted}
+use Rattle.row_reads.proofs.groupings.grouping_count.Goals as goal
+
+pub returns-clause-found : goal.returns-clause-found
+returns-clause-found g c clean =
+    let shown = rw c.int.ensures at (c.in_ok-rows.ensures.shown clean) in
+    let begun = state g.S.Store (record c.args.conn.now { in_transaction = true }) in
+    let end = state g.S.Store shown.0 in (
+      shown_open begun end _ _ c.in_ok-rows.rows.items shown.1,
+      λ t image. c.count.ensures ∙ ap length c.as_slice.ensures.value ∙ groupings_counted c.args.batch begun end c.in_ok-rows.rows.items shown.1 t image,
+    )

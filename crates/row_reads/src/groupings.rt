@@ -1,0 +1,166 @@
+//! Rows of batches are read.
+ghost use Rattle.std.specs.Prelude.{◌≡◌, ◌≤◌, ◌<◌, ◌^◌, false, filter, length, All, IfOk, IsTrue, map};
+ghost use Rattle.sqlite.specs.Held.{state};
+ghost use Rattle.sqlite.specs.Order.{column};
+ghost use Rattle.sqlite.specs.State.{HasCleanDisk, Survives};
+ghost use Rattle.row_reads.specs.CardDecoding.{IsGroupingAt, enc_of, grouping_at, grouping_in, line_of};
+ghost use Rattle.row_reads.specs.CardKeys.{is_grouping_at, is_grouping_of};
+ghost use Rattle.row_reads.specs.Decoding.{blob_in, nat_in};
+ghost use Rattle.row_reads.specs.Extremes.{AreSorted};
+ghost use Rattle.sql_base.specs.Ends.{IsKept};
+ghost use Rattle.sql_rows.specs.Image.{IsImage};
+ghost use Rattle.table_rows.specs.Tables.{Tables};
+
+use crate::values::{bytes_at, count, number_at};
+use sql_base::{int, rows_of};
+use sqlite::types::ValueRef;
+use sqlite::{Alter, Connection, Error, Row};
+use std::alloc::Global;
+use store_data::{Aid, Bytes, Enc};
+
+/// A row of a batch, without the name of its record.
+#[derive(Drop)]
+pub struct GroupingAt {
+    /// The number of the row in the file.
+    pub line: u64,
+    pub aid: Aid,
+    /// The place of the row's segment in its application, 1 to 999.
+    pub rank: u16,
+    pub enc: Enc,
+    /// Whether the card may answer 6A88 to the last piece of the row's segment.
+    pub tol: bool,
+    /// The grouping in its sent form (EMV CPS 1.1).
+    pub coded: Bytes,
+}
+
+// The identifier of these bytes, where they are 5 to 16.
+fn aid_of(bytes: &[u8]) -> Result<Aid, Error>
+    ensures { IfOk result (λ aid. aid ≡ bytes.now) }
+{
+    if bytes.len() < 5 || bytes.len() > 16 {
+        return Err(Error::InvalidQuery);
+    }
+    Ok(Aid::new(bytes))
+}
+
+// The identifier in this column.
+fn aid_at(row: &Row, at: usize) -> Result<Aid, Error>
+    ensures { IfOk result (λ aid. aid ≡ blob_in (column row.now at)) }
+{
+    match row.get_ref(at)? {
+        ValueRef::Blob(bytes) => aid_of(bytes),
+        _ => Err(Error::InvalidQuery),
+    }
+}
+
+// The rank in this column.
+fn rank_at(row: &Row, at: usize) -> Result<u16, Error>
+    ensures value { IfOk result (λ rank. rank ≡ nat_in (column row.now at)) }
+    ensures least { IfOk result (λ rank. 1 ≤ rank) }
+    ensures most { IfOk result (λ rank. rank ≤ 999) }
+{
+    let rank: u32 = row.get(at)?;
+    if rank < 1 || rank > 999 {
+        return Err(Error::InvalidQuery);
+    }
+    Ok(rank as u16)
+}
+
+// What a number stands for.
+fn enc_of(code: u64) -> Result<Enc, Error>
+    ensures { IfOk result (λ enc. enc ≡ enc_of code) }
+{
+    match code {
+        0 => Ok(Enc::Plain),
+        1 => Ok(Enc::All),
+        2 => Ok(Enc::Mixed),
+        _ => Err(Error::InvalidQuery),
+    }
+}
+
+// The grouping in an answered row.
+fn grouping_in(row: &Row) -> Result<GroupingAt, Error>
+    ensures value { IfOk result (λ g. g ≡ grouping_in row.now) }
+    ensures ranged { IfOk result IsGroupingAt }
+{
+    let line = number_at(row, 0)?;
+    let aid = aid_at(row, 1)?;
+    let rank = rank_at(row, 2)?;
+    let code = number_at(row, 3)?;
+    let enc = enc_of(code)?;
+    let tol: bool = row.get(4)?;
+    let coded = bytes_at(row, 5)?;
+    Ok(GroupingAt {
+        line,
+        aid,
+        rank,
+        enc,
+        tol,
+        coded,
+    })
+}
+
+// The groupings in the answered rows.
+fn all_groupings(alloc: Global, rows: &[Row]) -> Result<Vec<GroupingAt>, Error>
+    ensures value { IfOk result (λ all. all.items ≡ map grouping_in rows.now) }
+    ensures ranged { IfOk result (λ all. All IsGroupingAt all.items) }
+{
+    let mut all = Vec::new(alloc);
+    for answered in rows {
+        all.push(grouping_in(answered)?)?;
+    }
+    Ok(all)
+}
+
+/// The rows of the record at this place of the batch with this id, by their numbers. Nothing is
+/// changed, and a crash leaves what it could leave before.
+pub fn groupings_of<S: Alter>(
+    conn: &mut Connection<S>,
+    batch: u64,
+    place: u64,
+) -> Result<Vec<GroupingAt>, Error>
+    requires idle { conn.old.in_transaction ≡ false }
+    requires batch { batch < 2 ^ 63 }
+    requires place { place < 2 ^ 63 }
+    ensures found { HasCleanDisk (state S.Store conn.new) → IfOk result
+        (λ all. IsTrue (state S.Store conn.old).is_open × ((t : Tables)
+        → IsImage t (state S.Store conn.old).now
+        → AreSorted line_of (map grouping_at (filter (is_grouping_at batch place) t.groupings))
+        all.items)) }
+    ensures ranged { IfOk result (λ all. All IsGroupingAt all.items) }
+    ensures kept { HasCleanDisk (state S.Store conn.new)
+        → IsKept (state S.Store conn.old) (state S.Store conn.new) }
+    ensures idle { conn.new.in_transaction ≡ false }
+    ensures survives { Survives (state S.Store conn.old) (state S.Store conn.new) (λ _. ⊥) }
+{
+    let rows = rows_of(
+        conn,
+        "SELECT line, aid, rank, enc, tol, coded FROM grouping2 WHERE batch = ?1 AND place = ?2 \
+        ORDER BY line",
+        &[int(batch), int(place)],
+    )?;
+    let alloc = *rows.allocator();
+    all_groupings(alloc, rows.as_slice())
+}
+
+/// How many rows the batch with this id has. Nothing is changed, and a crash leaves what it could
+/// leave before.
+pub fn grouping_count<S: Alter>(conn: &mut Connection<S>, batch: u64) -> Result<u64, Error>
+    requires idle { conn.old.in_transaction ≡ false }
+    requires batch { batch < 2 ^ 63 }
+    ensures found { HasCleanDisk (state S.Store conn.new) → IfOk result
+        (λ counted. IsTrue (state S.Store conn.old).is_open × ((t : Tables)
+        → IsImage t (state S.Store conn.old).now
+        → counted ≡ length (filter (is_grouping_of batch) t.groupings))) }
+    ensures kept { HasCleanDisk (state S.Store conn.new)
+        → IsKept (state S.Store conn.old) (state S.Store conn.new) }
+    ensures idle { conn.new.in_transaction ≡ false }
+    ensures survives { Survives (state S.Store conn.old) (state S.Store conn.new) (λ _. ⊥) }
+{
+    let rows = rows_of(
+        conn,
+        "SELECT line FROM grouping2 WHERE batch = ?1",
+        &[int(batch)],
+    )?;
+    Ok(count(rows.as_slice()))
+}
