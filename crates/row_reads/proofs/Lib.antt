@@ -1,6 +1,7 @@
 pub mod Looking
 pub mod Asking
 pub mod Sorting
+pub mod Walking
 pub mod Meanings
 pub mod Answering
 pub mod NameMeanings

@@ -1,9 +1,11 @@
 //! Rows of batches are read.
-ghost use Rattle.std.specs.Prelude.{◌≡◌, ◌≤◌, ◌<◌, ◌^◌, false, filter, length, All, IfOk, IsTrue, map};
+ghost use Rattle.std.specs.Prelude.{◌≡◌, ◌≤◌, ◌<◌, ◌^◌, false, filter, length, All, IfOk, IsTrue};
+ghost use Rattle.std.specs.Prelude.{map};
 ghost use Rattle.sqlite.specs.Held.{state};
 ghost use Rattle.sqlite.specs.Order.{column};
 ghost use Rattle.sqlite.specs.State.{HasCleanDisk, Survives};
-ghost use Rattle.row_reads.specs.CardDecoding.{IsGroupingAt, enc_of, grouping_at, grouping_in, line_of};
+ghost use Rattle.row_reads.specs.CardDecoding.{IsGroupingAt, enc_of, grouping_at, grouping_in};
+ghost use Rattle.row_reads.specs.CardDecoding.{line_of};
 ghost use Rattle.row_reads.specs.CardKeys.{is_grouping_at, is_grouping_of};
 ghost use Rattle.row_reads.specs.Decoding.{blob_in, nat_in};
 ghost use Rattle.row_reads.specs.Extremes.{AreSorted};

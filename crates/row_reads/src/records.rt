@@ -1,9 +1,12 @@
 //! Records are read.
-ghost use Rattle.std.specs.Prelude.{◌≡◌, ◌<◌, ◌^◌, false, filter, find, option_map, All, IfOk, IfSome, IsTrue, map};
+ghost use Rattle.std.specs.Prelude.{◌≡◌, ◌<◌, ◌^◌, false, filter, find, option_map, All, IfOk};
+ghost use Rattle.std.specs.Prelude.{IfSome, IsTrue, map};
 ghost use Rattle.sqlite.specs.Held.{state};
 ghost use Rattle.sqlite.specs.State.{HasCleanDisk, Survives};
-ghost use Rattle.row_reads.specs.CardDecoding.{IsRecordAt, place_of, record_at, record_in, record_state_of};
-ghost use Rattle.row_reads.specs.CardKeys.{is_record_at, is_record_named, is_record_of, is_waiting_in};
+ghost use Rattle.row_reads.specs.CardDecoding.{IsRecordAt, place_of, record_at, record_in};
+ghost use Rattle.row_reads.specs.CardDecoding.{record_state_of};
+ghost use Rattle.row_reads.specs.CardKeys.{is_record_at, is_record_named, is_record_of};
+ghost use Rattle.row_reads.specs.CardKeys.{is_waiting_in};
 ghost use Rattle.row_reads.specs.Decoding.{IsFirst};
 ghost use Rattle.row_reads.specs.Extremes.{AreSorted, IsLeastBy};
 ghost use Rattle.sql_base.specs.Ends.{IsKept};
@@ -76,8 +79,8 @@ fn first_record(rows: &[Row]) -> Result<Option<RecordAt>, Error>
     }
 }
 
-/// The record of this name in the batch with this id. Nothing is changed, and a crash leaves what it
-/// could leave before.
+/// The record of this name in the batch with this id. Nothing is changed, and a crash leaves what
+/// it could leave before.
 pub fn record_named<S: Alter>(
     conn: &mut Connection<S>,
     batch: u64,
@@ -104,8 +107,8 @@ pub fn record_named<S: Alter>(
     first_record(rows.as_slice())
 }
 
-/// The record at this place of the batch with this id. Nothing is changed, and a crash leaves what it
-/// could leave before.
+/// The record at this place of the batch with this id. Nothing is changed, and a crash leaves what
+/// it could leave before.
 pub fn record_at<S: Alter>(
     conn: &mut Connection<S>,
     batch: u64,
@@ -145,8 +148,8 @@ fn all_records(alloc: Global, rows: &[Row]) -> Result<Vec<RecordAt>, Error>
     Ok(all)
 }
 
-/// The records of the batch with this id, by their places. Nothing is changed, and a crash leaves what
-/// it could leave before.
+/// The records of the batch with this id, by their places. Nothing is changed, and a crash leaves
+/// what it could leave before.
 pub fn records_of<S: Alter>(conn: &mut Connection<S>, batch: u64) -> Result<Vec<RecordAt>, Error>
     requires idle { conn.old.in_transaction ≡ false }
     requires batch { batch < 2 ^ 63 }
@@ -169,8 +172,8 @@ pub fn records_of<S: Alter>(conn: &mut Connection<S>, batch: u64) -> Result<Vec<
     all_records(alloc, rows.as_slice())
 }
 
-/// Of the waiting records of the batch with this id the one with the least place. Nothing is changed,
-/// and a crash leaves what it could leave before.
+/// Of the waiting records of the batch with this id the one with the least place. Nothing is
+/// changed, and a crash leaves what it could leave before.
 pub fn first_waiting<S: Alter>(
     conn: &mut Connection<S>,
     batch: u64,

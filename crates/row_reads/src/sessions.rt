@@ -1,9 +1,11 @@
 //! Sessions are read.
-ghost use Rattle.std.specs.Prelude.{◌≡◌, ◌<◌, ◌^◌, false, filter, find, option_map, All, IfOk, IfSome, IsPermutation, IsTrue, map};
+ghost use Rattle.std.specs.Prelude.{◌≡◌, ◌<◌, ◌^◌, false, filter, find, option_map, All, IfOk};
+ghost use Rattle.std.specs.Prelude.{IfSome, IsPermutation, IsTrue, map};
 ghost use Rattle.sqlite.specs.Held.{state};
 ghost use Rattle.sqlite.specs.State.{HasCleanDisk, Survives};
 ghost use Rattle.store_data.specs.Cursor.{IsCursor};
-ghost use Rattle.row_reads.specs.CardDecoding.{IsGoodCard, IsSessionAt, cursor_in, good_at, good_in, session_at, session_in, session_state_of};
+ghost use Rattle.row_reads.specs.CardDecoding.{IsGoodCard, IsSessionAt, cursor_in, good_at};
+ghost use Rattle.row_reads.specs.CardDecoding.{good_in, session_at, session_in, session_state_of};
 ghost use Rattle.row_reads.specs.CardKeys.{has_id, is_good_in, is_running_on};
 ghost use Rattle.row_reads.specs.Decoding.{IsFirst, first_number};
 ghost use Rattle.row_reads.specs.Extremes.{IsGreatest};
@@ -34,8 +36,8 @@ pub struct SessionAt {
     pub cursor: Cursor,
 }
 
-/// A card that is good: the place of its record among those of its batch, from 0, and the serial of
-/// its blank.
+/// A card that is good: the place of its record among those of its batch, from 0, and the serial
+/// of its blank.
 #[derive(Clone, Copy)]
 pub struct GoodCard {
     pub place: u64,
@@ -144,8 +146,8 @@ pub fn session<S: Alter>(conn: &mut Connection<S>, id: u64) -> Result<Option<Ses
     first_session(rows.as_slice())
 }
 
-/// The id of the session that runs at a machine. Nothing is changed, and a crash leaves what it could
-/// leave before.
+/// The id of the session that runs at a machine. Nothing is changed, and a crash leaves what it
+/// could leave before.
 pub fn running_session<S: Alter>(
     conn: &mut Connection<S>,
     machine: &Name,
@@ -182,8 +184,8 @@ fn first_number(rows: &[Row]) -> Result<u64, Error>
     }
 }
 
-/// The greatest id of a session; 0 where there is no session. Nothing is changed, and a crash leaves
-/// what it could leave before.
+/// The greatest id of a session; 0 where there is no session. Nothing is changed, and a crash
+/// leaves what it could leave before.
 pub fn last_session<S: Alter>(conn: &mut Connection<S>) -> Result<u64, Error>
     requires { conn.old.in_transaction ≡ false }
     ensures found { HasCleanDisk (state S.Store conn.new) → IfOk result
@@ -222,8 +224,8 @@ fn all_good(alloc: Global, rows: &[Row]) -> Result<Vec<GoodCard>, Error>
     Ok(all)
 }
 
-/// The good cards of the batch with this id, in any order. Nothing is changed, and a crash leaves what
-/// it could leave before.
+/// The good cards of the batch with this id, in any order. Nothing is changed, and a crash leaves
+/// what it could leave before.
 pub fn good_sessions<S: Alter>(conn: &mut Connection<S>, batch: u64) -> Result<Vec<GoodCard>, Error>
     requires idle { conn.old.in_transaction ≡ false }
     requires batch { batch < 2 ^ 63 }

@@ -1,14 +1,62 @@
 //! Batches are read.
-ghost use Rattle.std.specs.Prelude.{false, ◌≡◌};
+ghost use Rattle.std.specs.Prelude.{false, option_map, ◌≡◌};
 ghost use Rattle.sqlite.specs.Held.{state};
 ghost use Rattle.job_core.specs.Accounts.{batch_totals};
 ghost use Rattle.job_core.specs.Rows.{batch_has, batch_row_of, batch_size_of};
 ghost use Rattle.job_core.specs.States.{is_batch_finished};
+ghost use Rattle.store_reads.specs.Heads.{is_over_in, row_of, totals_in};
 ghost use Rattle.store_reads.specs.Tells.{Looks, Tells};
 
 use job_core::{BatchRow, BatchSize, BatchTotals};
+use row_reads::{BatchHead, batch_head};
+use rows_answer::{batches_by_name, batches_by_rows, totals_by_rows};
 use sqlite::{Alter, Connection, Error};
 use store_data::Name;
+
+// ---- what is told of what is read
+
+fn row_of(found: Option<BatchHead>) -> Option<BatchRow>
+    ensures { result ≡ option_map row_of found }
+{
+    match found {
+        None => None,
+        Some(head) => Some(BatchRow {
+            product: head.product,
+            is_closed: head.is_closed,
+        }),
+    }
+}
+
+fn totals_of(found: Option<BatchHead>) -> BatchTotals
+    ensures { result ≡ totals_in found }
+{
+    match found {
+        None => BatchTotals {
+            records: 0,
+            waiting: 0,
+            running: 0,
+            failed: 0,
+            withdrawn: 0,
+            good: 0,
+            sessions: 0,
+            spoiled: 0,
+        },
+        Some(head) => head.totals,
+    }
+}
+
+fn is_over(found: Option<BatchHead>) -> bool
+    ensures { result ≡ is_over_in found }
+{
+    match found {
+        None => true,
+        Some(head) => {
+            head.totals.waiting == 0 && head.totals.running == 0 && head.totals.failed == 0
+        }
+    }
+}
+
+// ---- batches
 
 /// The batch of this name.
 pub fn batch<S: Alter>(conn: &mut Connection<S>, name: &Name) -> Result<Option<BatchRow>, Error>
@@ -18,7 +66,10 @@ pub fn batch<S: Alter>(conn: &mut Connection<S>, name: &Name) -> Result<Option<B
     ensures looks { Looks (state S.Store conn.old) (state S.Store conn.new) }
     ensures idle { conn.new.in_transaction ≡ false }
 {
-    Err(Error::InvalidQuery)
+    batches_by_name();
+    batches_by_rows();
+    let found = batch_head(conn, name)?;
+    Ok(row_of(found))
 }
 
 /// How many rows and records the batch of this name has.
@@ -43,7 +94,8 @@ pub fn batch_has<S: Alter>(conn: &mut Connection<S>, name: &Name, raw: &[u8]) ->
     ensures looks { Looks (state S.Store conn.old) (state S.Store conn.new) }
     ensures idle { conn.new.in_transaction ≡ false }
 {
-    Err(Error::InvalidQuery)
+    batches_by_rows();
+    row_reads::batch_has(conn, name, raw)
 }
 
 /// Whether each record of a batch is good or withdrawn.
@@ -54,7 +106,10 @@ pub fn is_finished<S: Alter>(conn: &mut Connection<S>, batch: &Name) -> Result<b
     ensures looks { Looks (state S.Store conn.old) (state S.Store conn.new) }
     ensures idle { conn.new.in_transaction ≡ false }
 {
-    Err(Error::InvalidQuery)
+    batches_by_name();
+    totals_by_rows();
+    let found = batch_head(conn, batch)?;
+    Ok(is_over(found))
 }
 
 /// How a batch stands.
@@ -65,5 +120,8 @@ pub fn batch_totals<S: Alter>(conn: &mut Connection<S>, batch: &Name) -> Result<
     ensures looks { Looks (state S.Store conn.old) (state S.Store conn.new) }
     ensures idle { conn.new.in_transaction ≡ false }
 {
-    Err(Error::InvalidQuery)
+    batches_by_name();
+    totals_by_rows();
+    let found = batch_head(conn, batch)?;
+    Ok(totals_of(found))
 }

@@ -3,6 +3,7 @@ ghost use Rattle.std.specs.Prelude.{IfOk, false, length, ◌<◌, ◌^◌, ◌�
 ghost use Rattle.sqlite.specs.Held.{state};
 ghost use Rattle.store_reads.specs.Tells.{Looks, Tells};
 
+use rows_answer::numbers_of_rows;
 use sqlite::{Alter, Connection, Error};
 
 /// How many products there are.
@@ -13,7 +14,7 @@ pub fn product_count<S: Alter>(conn: &mut Connection<S>) -> Result<u64, Error>
     ensures looks { Looks (state S.Store conn.old) (state S.Store conn.new) }
     ensures idle { conn.new.in_transaction ≡ false }
 {
-    Err(Error::InvalidQuery)
+    row_reads::product_count(conn)
 }
 
 /// How many lots there are.
@@ -24,7 +25,8 @@ pub fn lot_count<S: Alter>(conn: &mut Connection<S>) -> Result<u64, Error>
     ensures looks { Looks (state S.Store conn.old) (state S.Store conn.new) }
     ensures idle { conn.new.in_transaction ≡ false }
 {
-    Err(Error::InvalidQuery)
+    numbers_of_rows();
+    row_reads::lot_count(conn)
 }
 
 /// How many batches there are.

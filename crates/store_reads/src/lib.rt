@@ -6,14 +6,15 @@ mod changes;
 mod counts;
 mod lots;
 mod names;
+mod numbers;
 mod records;
 mod replies;
 mod reports;
 mod segments;
 mod sessions;
 
-pub use changes::before;
 pub use batches::{batch, batch_has, batch_size, batch_totals, is_finished};
+pub use changes::before;
 pub use counts::{batch_count, lot_count, product_count, session_count};
 pub use lots::{is_charged, lot, lot_of, overlaps};
 pub use names::product;

@@ -1,12 +1,25 @@
 //! Lots and blanks are read.
-ghost use Rattle.std.specs.Prelude.{false, ◌≡◌};
+ghost use Rattle.std.specs.Prelude.{false, option_map, ◌≡◌};
 ghost use Rattle.sqlite.specs.Held.{state};
 ghost use Rattle.job_core.specs.States.{any_overlaps, is_charged, lot_named, lot_of};
+ghost use Rattle.row_reads.specs.declared.lots.LotRow.{LotRow as LotRowValue};
 ghost use Rattle.store_reads.specs.Tells.{Looks, Tells};
 
+use crate::numbers::END;
 use job_core::Lot;
+use row_reads::LotRow;
+use rows_answer::{blanks_by_serial, lots_by_name, lots_by_range};
 use sqlite::{Alter, Connection, Error};
 use store_data::Name;
+
+fn lot_in(found: Option<LotRow>) -> Option<Lot>
+    ensures { result ≡ option_map (λ (row : LotRowValue). row.lot) found }
+{
+    match found {
+        None => None,
+        Some(row) => Some(row.lot),
+    }
+}
 
 /// The lot of this name.
 pub fn lot<S: Alter>(conn: &mut Connection<S>, name: &Name) -> Result<Option<Lot>, Error>
@@ -16,7 +29,9 @@ pub fn lot<S: Alter>(conn: &mut Connection<S>, name: &Name) -> Result<Option<Lot
     ensures looks { Looks (state S.Store conn.old) (state S.Store conn.new) }
     ensures idle { conn.new.in_transaction ≡ false }
 {
-    Err(Error::InvalidQuery)
+    lots_by_name();
+    let found = row_reads::lot(conn, name)?;
+    Ok(lot_in(found))
 }
 
 /// The lot in which a blank lies.
@@ -27,7 +42,9 @@ pub fn lot_of<S: Alter>(conn: &mut Connection<S>, blank: u64) -> Result<Option<L
     ensures looks { Looks (state S.Store conn.old) (state S.Store conn.new) }
     ensures idle { conn.new.in_transaction ≡ false }
 {
-    Err(Error::InvalidQuery)
+    lots_by_name();
+    lots_by_range();
+    row_reads::lot_of(conn, blank)
 }
 
 /// Whether a serial of the range lies in a lot.
@@ -38,7 +55,8 @@ pub fn overlaps<S: Alter>(conn: &mut Connection<S>, first: u64, count: u32) -> R
     ensures looks { Looks (state S.Store conn.old) (state S.Store conn.new) }
     ensures idle { conn.new.in_transaction ≡ false }
 {
-    Err(Error::InvalidQuery)
+    lots_by_name();
+    row_reads::overlaps(conn, first, count)
 }
 
 /// Whether an opening or a discard names the blank.
@@ -49,5 +67,9 @@ pub fn is_charged<S: Alter>(conn: &mut Connection<S>, blank: u64) -> Result<bool
     ensures looks { Looks (state S.Store conn.old) (state S.Store conn.new) }
     ensures idle { conn.new.in_transaction ≡ false }
 {
-    Err(Error::InvalidQuery)
+    if blank >= END {
+        return Err(Error::InvalidQuery);
+    }
+    blanks_by_serial();
+    row_reads::is_charged(conn, blank)
 }

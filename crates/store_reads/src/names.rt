@@ -17,5 +17,5 @@ pub fn product<S: Alter>(conn: &mut Connection<S>, code: &Name) -> Result<Option
     ensures looks { Looks (state S.Store conn.old) (state S.Store conn.new) }
     ensures idle { conn.new.in_transaction ≡ false }
 {
-    Err(Error::InvalidQuery)
+    row_reads::product(conn, code)
 }

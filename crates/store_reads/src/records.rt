@@ -1,12 +1,24 @@
 //! Records are read.
-ghost use Rattle.std.specs.Prelude.{false, ◌≡◌};
+ghost use Rattle.std.specs.Prelude.{false, option_map, ◌≡◌};
 ghost use Rattle.sqlite.specs.Held.{state};
 ghost use Rattle.job_core.specs.States.{first_waiting, record_state_of};
+ghost use Rattle.row_reads.specs.declared.records.RecordAt.{RecordAt as RecordAtValue};
 ghost use Rattle.store_reads.specs.Tells.{Looks, Tells};
 
 use job_core::RecordState;
+use row_reads::{RecordAt, batch_id, record_named};
+use rows_answer::{batches_by_name, records_by_name};
 use sqlite::{Alter, Connection, Error};
 use store_data::Name;
+
+fn state_of(found: Option<RecordAt>) -> Option<RecordState>
+    ensures { result ≡ option_map (λ (r : RecordAtValue). r.stands) found }
+{
+    match found {
+        None => None,
+        Some(r) => Some(r.stands),
+    }
+}
 
 /// The state of a record, if the batch has it.
 pub fn record_state<S: Alter>(
@@ -20,7 +32,13 @@ pub fn record_state<S: Alter>(
     ensures looks { Looks (state S.Store conn.old) (state S.Store conn.new) }
     ensures idle { conn.new.in_transaction ≡ false }
 {
-    Err(Error::InvalidQuery)
+    batches_by_name();
+    records_by_name();
+    let Some(id) = batch_id(conn, batch)? else {
+        return Ok(None);
+    };
+    let found = record_named(conn, id, rec)?;
+    Ok(state_of(found))
 }
 
 /// The first waiting record of a batch, in file order.

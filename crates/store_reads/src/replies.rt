@@ -4,7 +4,9 @@ ghost use Rattle.sqlite.specs.Held.{state};
 ghost use Rattle.job_core.specs.Contents.{entry_of, mark_of, reply_of_entry};
 ghost use Rattle.store_reads.specs.Tells.{Looks, Tells};
 
+use crate::numbers::END;
 use job_core::KeptReply;
+use rows_answer::replies_by_number;
 use sqlite::{Alter, Connection, Error};
 use store_data::Name;
 
@@ -20,7 +22,11 @@ pub fn kept<S: Alter>(
     ensures looks { Looks (state S.Store conn.old) (state S.Store conn.new) }
     ensures idle { conn.new.in_transaction ≡ false }
 {
-    Err(Error::InvalidQuery)
+    if number >= END {
+        return Err(Error::InvalidQuery);
+    }
+    replies_by_number();
+    row_reads::kept(conn, client, number)
 }
 
 /// The number up to which a client has released its numbers; 0 where it never did.
@@ -31,5 +37,6 @@ pub fn mark<S: Alter>(conn: &mut Connection<S>, client: &Name) -> Result<u64, Er
     ensures looks { Looks (state S.Store conn.old) (state S.Store conn.new) }
     ensures idle { conn.new.in_transaction ≡ false }
 {
-    Err(Error::InvalidQuery)
+    replies_by_number();
+    row_reads::mark(conn, client)
 }

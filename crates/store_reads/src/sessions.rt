@@ -7,7 +7,12 @@ ghost use Rattle.job_core.specs.Rows.{session_row_of};
 ghost use Rattle.job_core.specs.States.{running_session};
 ghost use Rattle.store_reads.specs.Tells.{Looks, Tells};
 
+use crate::numbers::END;
 use job_core::SessionRow;
+use row_reads::{batch_name, record_at};
+use rows_answer::{
+    batches_by_id, records_by_place, running_sessions_by_machine, sessions_by_number,
+};
 use sqlite::{Alter, Connection, Error};
 use store_data::Name;
 
@@ -24,7 +29,29 @@ pub fn session<S: Alter>(
     ensures looks { Looks (state S.Store conn.old) (state S.Store conn.new) }
     ensures idle { conn.new.in_transaction ≡ false }
 {
-    Err(Error::InvalidQuery)
+    if session >= END {
+        return Err(Error::InvalidQuery);
+    }
+    sessions_by_number();
+    batches_by_id();
+    records_by_place();
+    let Some(found) = row_reads::session(conn, session)? else {
+        return Ok(None);
+    };
+    let Some(batch) = batch_name(conn, found.batch)? else {
+        return Ok(None);
+    };
+    let Some(card) = record_at(conn, found.batch, found.place)? else {
+        return Ok(None);
+    };
+    Ok(Some(SessionRow {
+        machine: found.machine,
+        batch,
+        rec: card.name,
+        stands: found.stands,
+        words: found.words,
+        cursor: found.cursor,
+    }))
 }
 
 /// The number of a machine's running session.
@@ -38,5 +65,6 @@ pub fn running_session<S: Alter>(
     ensures looks { Looks (state S.Store conn.old) (state S.Store conn.new) }
     ensures idle { conn.new.in_transaction ≡ false }
 {
-    Err(Error::InvalidQuery)
+    running_sessions_by_machine();
+    row_reads::running_session(conn, machine)
 }

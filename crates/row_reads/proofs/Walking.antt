@@ -1,0 +1,18 @@
+-- Rows that are decoded one after the other.
+use Rattle.std.proofs.Common.{◌≡◌, ◌+◌, ◌<◌, ◌++◌, ℕ, List, [], ◌∷◌, All, map, take, length, get_or, sym, ap, subst, ◌∙◌}
+use Rattle.std.proofs.lemmas.List.{map_more}
+use Rattle.std.proofs.lemmas.List.Elements.{All-push}
+use Rattle.sqlite.specs.Order.{Row}
+
+module _ {X : Type 0} (decode : Row → X) (P : X → Type 0) (rows : List Row) where
+  -- so many of them are, and each is in its range
+  abbrev pub AreSoFar : ℕ → List X → Type 0
+  AreSoFar at xs = (xs ≡ map decode (take at rows)) × All P xs
+
+  -- and one more
+  pub one_further : (at : ℕ) (answered : Row) → at < length rows → answered ≡ get_or rows at answered → (x : X) → x ≡ decode answered → P x
+      → (xs ys : List X) → AreSoFar at xs → ys ≡ xs ++ x ∷ [] → AreSoFar (at + 1) ys
+  one_further at answered within read x is ranged xs ys before pushed = (
+    pushed ∙ ap (λ zs. zs ++ x ∷ []) before.0 ∙ ap (λ z. map decode (take at rows) ++ z ∷ []) (is ∙ ap decode read) ∙ sym (map_more decode rows at answered within),
+    subst (All P) (sym pushed) (All-push P xs x before.1 ranged),
+  )

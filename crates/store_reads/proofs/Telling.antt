@@ -1,0 +1,61 @@
+-- From what reads show of rows to what they tell of contents, once for all reads.
+use Rattle.std.proofs.Common.{Result, Ok, Err, IfOk, IsTrue, inl, refl, sym, subst, ◌∙◌, arith}
+use Rattle.sqlite.specs.State.{HasCleanDisk, State}
+use Rattle.sqlite.specs.declared.error.Error.{Error}
+use Rattle.sqlite.proofs.StateLemmas.{survives_then}
+use Rattle.job_core.specs.Contents.{AreSound, Contents}
+use Rattle.table_rows.specs.Tables.{Tables}
+use Rattle.rows_of_facts.specs.Image.{image}
+use Rattle.sql_base.specs.Ends.{IsKept}
+use Rattle.sql_rows.specs.Image.{IsImage}
+use Rattle.store_reads.specs.Tells.{Looks, Tells}
+
+-- an open connection shows this of whatever rows it has
+abbrev pub ShowsRows : State → (Tables → Type 0) → Type 0
+ShowsRows old Q = IsTrue old.is_open × ((t : Tables) → IsImage t old.now → Q t)
+
+-- and this of whatever sound contents it has the rows
+abbrev pub Shows : State → (Contents → Type 0) → Type 0
+Shows old P = IsTrue old.is_open × ((c : Contents) → AreSound c → IsImage (image c) old.now → P c)
+
+-- ---- what is left
+
+pub looks_same : (s : State) → Looks s s
+looks_same s = record {
+  kept = λ _. record { was_open = λ h. h; now_is = λ _. refl; committed_is = λ _. refl };
+  survives = record { clean = omega arith; shield = λ h. h; counts = omega arith; limit = refl; closes = λ _ h. inl h; crash = λ _ db h. inl h };
+}
+
+kept_then : (a b c : State) → IsKept a b → IsKept b c → IsKept a c
+kept_then a b c one two = record {
+  was_open = λ live. one.was_open (two.was_open live);
+  now_is = λ live. two.now_is live ∙ one.now_is (two.was_open live);
+  committed_is = λ live. two.committed_is live ∙ one.committed_is (two.was_open live);
+}
+
+pub looks_then : (a b c : State) → Looks a b → Looks b c → Looks a c
+looks_then a b c one two = record {
+  kept = λ clean. kept_then a b c (one.kept (omega (arith, two.survives.clean))) (two.kept clean);
+  survives = survives_then a b c (λ _. ⊥) (λ _. ⊥) (λ _. ⊥) (λ _ db none. none) (λ _ db none. none) one.survives two.survives;
+}
+
+-- ---- what is told
+
+-- by what is shown of rows, and a law of the rows of contents
+pub shown : (a b : State) (Q : Tables → Type 0) (P : Contents → Type 0) → (HasCleanDisk b → ShowsRows a Q) → ((c : Contents) → AreSound c → Q (image c) → P c) → HasCleanDisk b → Shows a P
+shown a b Q P rows law clean = let s = rows clean in (s.0, λ c sound is. law c sound (s.1 (image c) is))
+
+-- what the second read shows is so of what the first found
+pub shown_then : (a b c : State) (P Q R : Contents → Type 0) → Looks a b → Looks b c → (HasCleanDisk b → Shows a P) → (HasCleanDisk c → Shows b Q)
+    → ((d : Contents) → AreSound d → P d → Q d → R d) → HasCleanDisk c → Shows a R
+shown_then a b c P Q R one two first second law clean =
+    let early : HasCleanDisk b = omega (arith, two.survives.clean) in
+    let p = first early in
+    let q = second clean in
+    (p.0, λ d sound is. law d sound (p.1 d sound is) (q.1 d sound (subst (IsImage (image d)) (sym ((one.kept early).now_is q.0)) is)))
+
+-- a read that tells all that is asked
+pub tells : {T : Type 0} (a b : State) (r : Result T Error) (Q : Tables → T → Type 0) (P : Contents → T → Type 0) → (HasCleanDisk b → IfOk r (λ x. ShowsRows a (λ t. Q t x)))
+    → ((c : Contents) → AreSound c → (x : T) → Q (image c) x → P c x) → Tells a b r P
+tells a b (Ok x) Q P rows law = shown a b (λ t. Q t x) (λ c. P c x) rows (λ c sound. law c sound x)
+tells a b (Err e) Q P rows law = λ clean. tt

@@ -1,0 +1,30 @@
+use Rattle.std.proofs.Common.{sym, ap, ◌∙◌}
+use Rattle.std.specs.Prelude.{option_map}
+use Rattle.sqlite.specs.Held.{state}
+use Rattle.row_reads.specs.declared.records.RecordAt.{RecordAt}
+use Rattle.rows_of_facts.specs.Image.{stored_batches, stored_records}
+use Rattle.store_reads.proofs.Found.{no_batch_of, state_told}
+use Rattle.store_reads.proofs.Telling.{shown, shown_then}
+use Rattle.store_reads.proofs.records.record_state.Goals as goal
+
+pub returns-in_default-clause-value : goal.returns-in_default-clause-value
+returns-in_default-clause-value g c =
+    let b = c.args.batch.now in
+    shown (state g.S.Store c.args.conn.now) (state g.S.Store c.batch_id.new.conn) _ _ (rw c.in_default.is at c.in_ok-id.ensures.found)
+    (λ d sound is.
+    no_batch_of (stored_batches d.facts) (stored_records d.facts) b c.args.rec.now (is (c.batches_by_name.ensures.once d.facts b sound.facts))
+    ∙ sym (c.records_by_name.ensures.state d.facts b c.args.rec.now))
+
+pub returns-clause-value : goal.returns-clause-value
+returns-clause-value g c =
+    let b = c.args.batch.now in
+    let r = c.args.rec.now in
+    let old = state g.S.Store c.args.conn.now in
+    let mid = state g.S.Store c.batch_id.new.conn in
+    let new = state g.S.Store c.record_named.new.conn in
+    shown_then old mid new _ _ _ (record { kept = c.batch_id.ensures.kept; survives = c.batch_id.ensures.survives }) (record { kept = c.record_named.ensures.kept; survives = c.record_named.ensures.survives })
+    (shown old mid _ _ (rw c.in-Some.is at c.in_ok-id.ensures.found) (λ d sound is. is (c.batches_by_name.ensures.once d.facts b sound.facts)))
+    (shown mid new _ _ c.in_ok-found.ensures.found (λ d sound is. is (c.records_by_name.ensures.once d.facts c.in-Some.id r)))
+    (λ d sound one two.
+    c.state_of.ensures ∙ state_told (stored_batches d.facts) (stored_records d.facts) b r c.in-Some.id one c.in_ok-found.found two
+    ∙ sym (c.records_by_name.ensures.state d.facts b r))

@@ -1,0 +1,19 @@
+-- What is told of a batch by what is read of it without its bytes.
+use Rattle.std.specs.Prelude.{◌==◌, ◌&&◌, Bool, true, Option, Some, None}
+use Rattle.job_core.specs.declared.rows.BatchRow.{BatchRow}
+use Rattle.job_core.specs.declared.rows.BatchTotals.{BatchTotals}
+use Rattle.row_reads.specs.declared.batches.BatchHead.{BatchHead}
+use Rattle.rows_answer.specs.Telling.{no_totals}
+
+abbrev pub row_of : BatchHead → BatchRow
+row_of h = record { product = h.product; is_closed = h.is_closed }
+
+-- a name that no batch has has none
+abbrev pub totals_in : Option BatchHead → BatchTotals
+totals_in None = no_totals
+totals_in (Some h) = h.totals
+
+-- none waits, runs or failed
+abbrev pub is_over_in : Option BatchHead → Bool
+is_over_in None = true
+is_over_in (Some h) = (h.totals.waiting == 0) && ((h.totals.running == 0) && (h.totals.failed == 0))
