@@ -102,6 +102,7 @@ pub(crate) fn release<'x, S: Alter>(
     rows_after_release();
     commit(
         conn,
+        alloc,
         client,
         number,
         ask,

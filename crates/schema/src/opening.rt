@@ -74,17 +74,4 @@ impl<S: Alter> SqlStore<S> {
             Err(fault) => Err((conn, told(fault))),
         }
     }
-
-    /// Ends a store, and gives its connection back.
-    pub fn close(self) -> Connection<S>
-        ensures handed { result ≡ connection self }
-        ensures idle { result.in_transaction ≡ false }
-    {
-        let SqlStore {
-            alloc: _,
-            conn,
-            counts: _,
-        } = self;
-        conn
-    }
 }

@@ -26,6 +26,23 @@ pub struct SqlStore<S: Alter> {
     ghost idle: { conn.in_transaction ≡ false },
 }
 
+impl<S: Alter> SqlStore<S> {
+    ghost use Rattle.schema.specs.Stores.{connection};
+
+    /// Ends a store, and gives its connection back.
+    pub fn close(self) -> Connection<S>
+        ensures handed { result ≡ connection self }
+        ensures idle { result.in_transaction ≡ false }
+    {
+        let SqlStore {
+            alloc: _,
+            conn,
+            counts: _,
+        } = self;
+        conn
+    }
+}
+
 impl<S: Alter + Drop> Drop for SqlStore<S> {
     fn drop(self) {
         let SqlStore {
@@ -179,7 +196,16 @@ impl<S: Alter> JobStore for SqlStore<S> {
             return self.counts.told(Err(Error::InvalidQuery));
         }
         same_rows_same_contents();
-        let answer = keep(&mut self.conn, self.alloc, client, number, ask, status, body, change);
+        let answer = keep(
+            &mut self.conn,
+            self.alloc,
+            client,
+            number,
+            ask,
+            status,
+            body,
+            change,
+        );
         self.counts.told(answer)
     }
 
@@ -196,7 +222,16 @@ impl<S: Alter> JobStore for SqlStore<S> {
             return self.counts.told(Err(Error::InvalidQuery));
         }
         same_rows_same_contents();
-        let answer = release(&mut self.conn, self.alloc, client, number, ask, status, body, mark);
+        let answer = release(
+            &mut self.conn,
+            self.alloc,
+            client,
+            number,
+            ask,
+            status,
+            body,
+            mark,
+        );
         self.counts.told(answer)
     }
 }
