@@ -1,2 +1,4 @@
 pub mod Telling
 pub mod Found
+pub mod Counting
+pub mod Sizes
