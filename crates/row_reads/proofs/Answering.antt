@@ -1,8 +1,8 @@
 -- What is answered of products and marks.
-use Rattle.std.proofs.Common.{◌≡◌, ℕ, ◌&&◌, Bool, true, false, List, [], ◌∷◌, map, Option, Some, None, refl, sym, ap, ◌∙◌}
+use Rattle.std.proofs.Common.{◌≡◌, ◌==◌, ℕ, pos, ◌&&◌, Bool, true, false, List, [], ◌∷◌, map, Option, Some, None, refl, sym, ap, ◌∙◌}
 use Rattle.std.specs.Prelude.{bytes_eq, find, option_map, unwrap_or}
 use Rattle.std.specs.Option.{option_to_list}
-use Rattle.sqlite.specs.declared.types.Value.TheVariants.{Text}
+use Rattle.sqlite.specs.declared.types.Value.TheVariants.{Int, Text}
 use Rattle.sqlite.specs.Collation.TheVariants.{Binary}
 use Rattle.sqlite.specs.Ops.{binary, is_true}
 use Rattle.sqlite.specs.Order.{Row}
@@ -15,7 +15,7 @@ use Rattle.job_core.specs.Contents.{Mark, has_mark, mark_of}
 use Rattle.job_core.specs.Sound.{AreNamedOnce}
 use Rattle.job_core.specs.States.{product_named}
 use Rattle.step_laws.proofs.BlankSums.{named_once}
-use Rattle.sql_base.proofs.Tests.{alone, same_text}
+use Rattle.sql_base.proofs.Tests.{alone, same_int, same_text}
 use Rattle.table_rows.specs.Tables.{Tables}
 use Rattle.sql_rows.specs.Encoding.{flag, mark_row, number, product_row}
 use Rattle.sql_rows.specs.Image.{IsImage}
@@ -28,6 +28,10 @@ use Rattle.row_reads.proofs.Meanings.{mark_asks, product_asks}
 -- the one test of WHERE, that a text is the parameter
 pub text_key : (key name : List ℕ) → (is_true (binary (Compare Eq Binary) (Text name) (Text key)) && true) ≡ bytes_eq name key
 text_key key name = alone (is_true (binary (Compare Eq Binary) (Text name) (Text key))) ∙ same_text name key
+
+-- or a number
+pub int_key : (key n : ℕ) → (is_true (binary (Compare Eq Binary) (Int (pos n)) (Int (pos key))) && true) ≡ (n == key)
+int_key key n = alone (is_true (binary (Compare Eq Binary) (Int (pos n)) (Int (pos key)))) ∙ same_int n key
 
 pub flag_back : (b : Bool) → flag_in (number (flag b)) ≡ b
 flag_back true = refl

@@ -1,5 +1,5 @@
 -- What is answered of batches and of charged blanks.
-use Rattle.std.proofs.Common.{◌≡◌, ◌==◌, ℕ, ◌&&◌, true, List, [], ◌∷◌, map, Option, pos, refl, ◌∙◌}
+use Rattle.std.proofs.Common.{◌≡◌, ℕ, ◌&&◌, true, List, [], ◌∷◌, map, Option, pos, refl, subst}
 use Rattle.std.specs.Prelude.{filter, find, option_map}
 use Rattle.std.specs.List.{list_any}
 use Rattle.std.specs.List.Sorted.{IsPermutation}
@@ -8,24 +8,25 @@ use Rattle.sqlite.specs.Collation.TheVariants.{Binary}
 use Rattle.sqlite.specs.Ops.{binary, is_true}
 use Rattle.sqlite.specs.Order.{Row}
 use Rattle.sqlite.specs.State.{Shown, State}
-use Rattle.sqlite.specs.Term.{Term}
+use Rattle.sqlite.specs.Term.{Term, col}
 use Rattle.sqlite_sql.specs.declared.ops.BinaryOp.TheVariants.{Compare}
 use Rattle.sqlite_sql.specs.declared.ops.CompareOp.TheVariants.{Eq}
-use Rattle.sql_base.proofs.Tests.{alone, same_blob, same_int, same_text}
+use Rattle.sql_base.proofs.Selecting.{all_pass}
+use Rattle.sql_base.proofs.Tests.{alone, same_blob, same_text}
 use Rattle.sql_rows.specs.Encoding.{batch_row, blank_row}
 use Rattle.sql_rows.specs.Image.{IsImage}
 use Rattle.table_rows.specs.Tables.{PassesOnce, StoredBatch, Tables}
 use Rattle.row_reads.specs.declared.batches.BatchHead.{BatchHead}
-use Rattle.row_reads.specs.Decoding.{IsFirst, has_rows, head_in, id_in, name_in}
+use Rattle.row_reads.specs.Decoding.{IsFirst, first_number, has_rows, head_in, id_in, name_in}
+use Rattle.row_reads.specs.CardTexts.{limit_one}
+use Rattle.row_reads.specs.Extremes.{IsGreatest}
 use Rattle.row_reads.specs.Keys.{has_bytes, has_id, has_name, has_serial, is_batch_of}
-use Rattle.row_reads.specs.NameTexts.{batches_of_text, by_batch_product, charged_text, batch_has_text, batch_head_text, id_columns, batch_id_text, batch_name_columns, batch_name_text, by_batch_name, by_bytes, by_id, head_columns}
+use Rattle.row_reads.specs.NameTexts.{last_batch_text, batches_of_text, by_batch_product, charged_text, batch_has_text, batch_head_text, id_columns, batch_id_text, batch_name_columns, batch_name_text, by_batch_name, by_bytes, by_id, head_columns}
 use Rattle.row_reads.specs.Telling.{head_of}
-use Rattle.row_reads.proofs.Answering.{flag_back, text_key}
+use Rattle.row_reads.proofs.Answering.{flag_back, int_key, text_key}
 use Rattle.row_reads.proofs.Asking.{Asks, all_found, any_found, asked, one_found, tells}
-use Rattle.row_reads.proofs.NameMeanings.{batches_of_asks, charged_asks, batch_has_asks, batch_head_asks, batch_id_asks, batch_name_asks}
-
-int_key : (id n : ℕ) → (is_true (binary (Compare Eq Binary) (Int (pos n)) (Int (pos id))) && true) ≡ (n == id)
-int_key id n = alone (is_true (binary (Compare Eq Binary) (Int (pos n)) (Int (pos id)))) ∙ same_int n id
+use Rattle.row_reads.proofs.Sorting.{asked_sorted, greatest_found}
+use Rattle.row_reads.proofs.NameMeanings.{last_batch_asks, batches_of_asks, charged_asks, batch_has_asks, batch_head_asks, batch_id_asks, batch_name_asks}
 
 -- the rows with this name
 named : (text : List ℕ) (project : List Term) → Asks text 5 by_batch_name project → (name : List ℕ) (old new : State) (rows : List Row) → Shown text (Text name ∷ []) old new rows
@@ -84,3 +85,11 @@ is_charged_found serial old new rows h t image =
     any_found (has_serial serial) (λ b. tells true id_columns params (blank_row b)) t.blanks rows
     (asked true blank_row by_id id_columns params (has_serial serial) refl (λ v r. refl) (λ b. int_key serial b.serial) charged_text 16 charged_asks old new rows h image.ours t.blanks
     image.each.1.1.1.1.1.1.1.1.0.rows)
+
+pub last_batch_found : (old new : State) (rows : List Row) → Shown last_batch_text [] old new rows → (t : Tables) → IsImage t old.now
+    → IsGreatest (map (λ (b : StoredBatch). b.id) t.batches) (first_number rows)
+last_batch_found old new rows h t image =
+    let tell : StoredBatch → Row = λ b. tells true (col 1 0 ∷ []) [] (batch_row b) in
+    let it = asked_sorted true batch_row [] (col 1 0) [] [] (λ _. true) refl (λ v r. refl) (λ b. refl) true limit_one last_batch_text 5 last_batch_asks old new rows h image.ours t.batches
+    image.each.1.1.1.0.rows in
+    greatest_found tell (λ b. refl) t.batches it.0 (subst (λ xs. IsPermutation (map tell xs) it.0) (all_pass t.batches) it.1) it.2 (λ (b : StoredBatch). b.id) (λ b. refl) rows it.3

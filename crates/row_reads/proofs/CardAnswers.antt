@@ -1,5 +1,5 @@
 -- What is answered of records and sessions, where one row at most is.
-use Rattle.std.proofs.Common.{◌≡◌, ℕ, ◌==◌, ◌&&◌, true, false, List, [], ◌∷◌, map, Option, refl, ◌∙◌}
+use Rattle.std.proofs.Common.{◌≡◌, ℕ, ◌==◌, ◌&&◌, true, false, List, [], ◌∷◌, map, Option, refl}
 use Rattle.std.specs.Prelude.{find, option_map}
 use Rattle.sqlite.specs.Collation.TheVariants.{Binary}
 use Rattle.sqlite.specs.declared.types.Value.TheVariants.{Text}
@@ -24,6 +24,7 @@ use Rattle.row_reads.specs.CardKeys.{has_id, is_record_at, is_record_named, is_r
 use Rattle.row_reads.specs.CardTexts.{by_batch_and_name, by_id, by_running_machine, record_at_text, record_columns, record_named_text, running_columns, running_text, session_columns, session_text}
 use Rattle.row_reads.specs.Decoding.{IsFirst, id_in}
 use Rattle.row_reads.specs.NameTexts.{by_two_columns}
+use Rattle.row_reads.proofs.Answering.{int_key}
 use Rattle.row_reads.proofs.Asking.{asked, one_found, tells}
 use Rattle.row_reads.proofs.CardMeanings.{record_at_asks, record_named_asks, running_asks, session_asks}
 
@@ -37,15 +38,12 @@ session_state_back session.Spoiled = refl
 session_back : (params : Row) (s : StoredSession) → session_in (tells true session_columns params (session_row s)) ≡ session_at s
 session_back params s = rw (session_state_back s.state) refl
 
-id_key : (id : ℕ) (s : StoredSession) → (is_true (binary (Compare Eq Binary) (number s.id) (number id)) && true) ≡ has_id id s
-id_key id s = alone (is_true (binary (Compare Eq Binary) (number s.id) (number id))) ∙ same_int s.id id
-
 pub session_found : (id : ℕ) (old new : State) (rows : List Row) → Shown session_text (number id ∷ []) old new rows → (t : Tables) → IsImage t old.now
     → PassesOnce (has_id id) t.sessions → (found : Option SessionAt) → IsFirst (map session_in rows) found → found ≡ option_map session_at (find (has_id id) t.sessions)
 session_found id old new rows h t image once found first =
     let params = number id ∷ [] in
     one_found (has_id id) (λ s. tells true session_columns params (session_row s)) t.sessions rows
-    (asked true session_row by_id session_columns params (has_id id) refl (λ v r. refl) (id_key id) session_text 12 session_asks old new rows h image.ours t.sessions
+    (asked true session_row by_id session_columns params (has_id id) refl (λ v r. refl) (λ s. int_key id s.id) session_text 12 session_asks old new rows h image.ours t.sessions
     image.each.1.1.1.1.1.1.0.rows)
     session_in session_at once (λ s is. session_back params s) found first
 

@@ -17,7 +17,6 @@ use Rattle.job_core.specs.declared.facts.SessionState.{SessionState}
 use Rattle.job_core.specs.declared.facts.SessionState.TheVariants as session
 use Rattle.job_core.specs.States.{is_good, is_waiting}
 use Rattle.sql_base.proofs.Selecting.{all_pass}
-use Rattle.sql_base.proofs.Tests.{alone, same_int}
 use Rattle.table_rows.specs.Tables.{StoredGrouping, StoredRecord, StoredSession, Tables}
 use Rattle.sql_rows.specs.Encoding.{enc_code, grouping_row, number, record_code, record_row, session_code, session_row}
 use Rattle.sql_rows.specs.Image.{IsImage}
@@ -27,15 +26,11 @@ use Rattle.row_reads.specs.CardKeys.{is_good_in, is_grouping_at, is_grouping_of,
 use Rattle.row_reads.specs.CardTexts.{by_batch, by_batch_and_place, by_good_batch, by_waiting_batch, good_columns, good_text, grouping_count_text, groupings_text, last_session_text, limit_one, more_grouping_columns, more_record_columns, no_limit, record_columns, records_text, waiting_text}
 use Rattle.row_reads.specs.Decoding.{IsFirst, first_number}
 use Rattle.row_reads.specs.Extremes.{AreSorted, IsGreatest, IsLeastBy}
-use Rattle.row_reads.proofs.Answering.{flag_back}
+use Rattle.row_reads.proofs.Answering.{flag_back, int_key}
 use Rattle.row_reads.proofs.Asking.{all_found, asked, count_found, tells}
 use Rattle.row_reads.proofs.CardAnswers.{place_key, record_back}
 use Rattle.row_reads.proofs.CardMeanings.{good_asks, grouping_count_asks, groupings_asks, last_session_asks, records_asks, waiting_asks}
 use Rattle.row_reads.proofs.Sorting.{asked_sorted, greatest_found, least_found, sorted_found}
-
--- the one test of WHERE, that a number is the parameter
-batch_key : (batch b : ℕ) → (is_true (binary (Compare Eq Binary) (number b) (number batch)) && true) ≡ (b == batch)
-batch_key batch b = alone (is_true (binary (Compare Eq Binary) (number b) (number batch))) ∙ same_int b batch
 
 -- ---- sessions
 
@@ -71,7 +66,7 @@ pub records_found : (batch : ℕ) (old new : State) (rows : List Row) → Shown 
     → AreSorted place_of (map record_at (filter (is_record_of batch) t.records)) (map record_in rows)
 records_found batch old new rows h t image =
     let params = number batch ∷ [] in
-    let it = asked_sorted false record_row by_batch (col 1 2) more_record_columns params (is_record_of batch) refl (λ v r. refl) (λ r. batch_key batch r.batch) false no_limit records_text 7
+    let it = asked_sorted false record_row by_batch (col 1 2) more_record_columns params (is_record_of batch) refl (λ v r. refl) (λ r. int_key batch r.batch) false no_limit records_text 7
     records_asks old new rows h image.ours t.records image.each.1.1.1.1.0.rows in
     sorted_found (is_record_of batch) (λ r. tells false record_columns params (record_row r)) t.records it.0 it.1 it.2 (λ r. refl) record_in record_at (record_back params) place_of (λ r. refl) rows it.3
 
@@ -118,5 +113,5 @@ pub groupings_counted : (batch : ℕ) (old new : State) (rows : List Row) → Sh
 groupings_counted batch old new rows h t image =
     let params = number batch ∷ [] in
     count_found (is_grouping_of batch) (λ g. tells false (col 1 2 ∷ []) params (grouping_row g)) t.groupings rows
-    (asked false grouping_row by_batch (col 1 2 ∷ []) params (is_grouping_of batch) refl (λ v r. refl) (λ g. batch_key batch g.batch) grouping_count_text 10 grouping_count_asks old new rows h
+    (asked false grouping_row by_batch (col 1 2 ∷ []) params (is_grouping_of batch) refl (λ v r. refl) (λ g. int_key batch g.batch) grouping_count_text 10 grouping_count_asks old new rows h
     image.ours t.groupings image.each.1.1.1.1.1.0.rows)

@@ -1,10 +1,13 @@
 -- What the resolver reads in the texts that read what has a name.
-use Rattle.std.proofs.Common.{[], ◌∷◌, codes, refl}
+use Rattle.std.proofs.Common.{[], ◌∷◌, codes, true, refl}
 use Rattle.sqlite.specs.Listing.{understood}
+use Rattle.sqlite.specs.Term.{col}
 use Rattle.sqlite_tied.specs.Compute.{everything}
 use Rattle.row_reads.specs.Texts.{by_first_column}
-use Rattle.row_reads.specs.NameTexts.{batches_of_text, by_batch_product, charged_text, first_column, lot_names_text, products_text, lot_columns, lot_row_columns, lot_text, lots_of_text, lots_text, by_second_column, batch_has_text, batch_head_text, id_columns, batch_id_text, batch_name_columns, batch_name_text, by_batch_name, by_bytes, by_id, by_two_columns, head_columns, kept_columns, kept_text}
+use Rattle.row_reads.specs.CardTexts.{limit_one}
+use Rattle.row_reads.specs.NameTexts.{last_batch_text, batches_of_text, by_batch_product, charged_text, first_column, lot_names_text, products_text, lot_columns, lot_row_columns, lot_text, lots_of_text, lots_text, by_second_column, batch_has_text, batch_head_text, id_columns, batch_id_text, batch_name_columns, batch_name_text, by_batch_name, by_bytes, by_id, by_two_columns, head_columns, kept_columns, kept_text}
 use Rattle.row_reads.proofs.Asking.{Asks}
+use Rattle.row_reads.proofs.Sorting.{AsksSorted}
 
 pub kept_asks : Asks kept_text 19 by_two_columns kept_columns
 unfolding understood everything
@@ -63,3 +66,7 @@ products_asks = record { names = codes "name" ∷ []; is = refl; plain = (refl, 
 pub lot_names_asks : Asks lot_names_text 3 [] first_column
 unfolding understood everything
 lot_names_asks = record { names = codes "name" ∷ []; is = refl; plain = (refl, refl); unlisted = refl }
+
+pub last_batch_asks : AsksSorted true limit_one last_batch_text 5 [] (col 1 0) []
+unfolding understood everything
+last_batch_asks = record { names = codes "id" ∷ []; is = refl; plain = (refl, refl); unlisted = refl }

@@ -91,3 +91,6 @@ lot_names_text = codes "SELECT name FROM lot"
 
 abbrev pub first_column : List Term
 first_column = col 1 1 ∷ []
+
+abbrev pub last_batch_text : List ℕ
+last_batch_text = codes "SELECT id FROM batch ORDER BY id DESC LIMIT 1"

@@ -5,13 +5,14 @@ ghost use Rattle.std.specs.List.{list_any};
 ghost use Rattle.sqlite.specs.Held.{state};
 ghost use Rattle.sqlite.specs.State.{HasCleanDisk, Survives};
 ghost use Rattle.row_reads.specs.Decoding.{IsFirst, head_in, totals_in};
+ghost use Rattle.row_reads.specs.Extremes.{IsGreatest};
 ghost use Rattle.row_reads.specs.Keys.{has_bytes, has_id, has_name, is_batch_of};
 ghost use Rattle.row_reads.specs.Telling.{AreCounts, IsHead, head_of};
 ghost use Rattle.sql_base.specs.Ends.{IsKept};
 ghost use Rattle.sql_rows.specs.Image.{IsImage};
 ghost use Rattle.table_rows.specs.Tables.{PassesOnce, StoredBatch, Tables};
 
-use crate::values::{first_id, first_name, has_rows, name_at, number_at};
+use crate::values::{first_id, first_name, first_number, has_rows, name_at, number_at};
 use job_core::BatchTotals;
 use sql_base::{int, rows_of};
 use sqlite::types::ValueRef;
@@ -208,4 +209,22 @@ pub fn batches_of<S: Alter>(
     )?;
     let alloc = *rows.allocator();
     heads_in(alloc, rows.as_slice())
+}
+
+/// The greatest id of a batch; 0 where there is no batch. Nothing is changed, and a crash leaves
+/// what it could leave before.
+pub fn last_batch<S: Alter>(conn: &mut Connection<S>) -> Result<u64, Error>
+    requires { conn.old.in_transaction ≡ false }
+    ensures found { HasCleanDisk (state S.Store conn.new) → IfOk result
+        (λ id. IsTrue (state S.Store conn.old).is_open × ((t : Tables)
+        → IsImage t (state S.Store conn.old).now
+        → IsGreatest (map (λ (b : StoredBatch). b.id) t.batches) id)) }
+    ensures ranged { IfOk result (λ id. id < 2 ^ 63) }
+    ensures kept { HasCleanDisk (state S.Store conn.new)
+        → IsKept (state S.Store conn.old) (state S.Store conn.new) }
+    ensures idle { conn.new.in_transaction ≡ false }
+    ensures survives { Survives (state S.Store conn.old) (state S.Store conn.new) (λ _. ⊥) }
+{
+    let rows = rows_of(conn, "SELECT id FROM batch ORDER BY id DESC LIMIT 1", &[])?;
+    first_number(rows.as_slice())
 }

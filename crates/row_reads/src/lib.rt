@@ -12,7 +12,7 @@ mod replies;
 mod sessions;
 mod values;
 
-pub use batches::{BatchHead, batch_has, batch_head, batch_id, batch_name, batches_of};
+pub use batches::{BatchHead, batch_has, batch_head, batch_id, batch_name, batches_of, last_batch};
 pub use blanks::is_charged;
 pub use groupings::{GroupingAt, grouping_count, groupings_of};
 pub use lots::{LotRow, all_lots, lot, lot_count, lot_of, lots_of, overlaps};

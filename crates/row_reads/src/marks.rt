@@ -1,29 +1,18 @@
 //! Marks are read.
-ghost use Rattle.std.specs.Prelude.{◌≡◌, false, map, IfOk, IsTrue};
+ghost use Rattle.std.specs.Prelude.{◌≡◌, ◌<◌, ◌^◌, false, map, IfOk, IsTrue};
 ghost use Rattle.sqlite.specs.Held.{state};
-ghost use Rattle.sqlite.specs.Order.{column};
 ghost use Rattle.sqlite.specs.State.{HasCleanDisk, Survives};
 ghost use Rattle.job_core.specs.Contents.{Mark, mark_of};
 ghost use Rattle.job_core.specs.Sound.{AreNamedOnce};
-ghost use Rattle.row_reads.specs.Decoding.{first_number};
 ghost use Rattle.sql_base.specs.Ends.{IsKept};
 ghost use Rattle.sql_rows.specs.Image.{IsImage};
 ghost use Rattle.table_rows.specs.Tables.{Tables};
 
+use crate::values::first_number;
 use sql_base::rows_of;
 use sqlite::types::ValueRef;
-use sqlite::{Alter, Connection, Error, Row};
+use sqlite::{Alter, Connection, Error};
 use store_data::Name;
-
-// The number in the first answered row; 0 where there is none.
-fn first_number(rows: &[Row]) -> Result<u64, Error>
-    ensures { IfOk result (λ n. n ≡ first_number rows.now) }
-{
-    match rows.first() {
-        None => Ok(0),
-        Some(row) => row.get(0),
-    }
-}
 
 /// The number up to which a client has released its numbers; 0 where it never did. Nothing is
 /// changed, and a crash leaves what it could leave before.
@@ -34,6 +23,7 @@ pub fn mark<S: Alter>(conn: &mut Connection<S>, client: &Name) -> Result<u64, Er
         → IsImage t (state S.Store conn.old).now
         → AreNamedOnce (map (λ (m : Mark). m.client) t.marks)
         → upto ≡ mark_of t.marks client.now)) }
+    ensures ranged { IfOk result (λ upto. upto < 2 ^ 63) }
     ensures kept { HasCleanDisk (state S.Store conn.new)
         → IsKept (state S.Store conn.old) (state S.Store conn.new) }
     ensures idle { conn.new.in_transaction ≡ false }

@@ -7,13 +7,13 @@ ghost use Rattle.store_data.specs.Cursor.{IsCursor};
 ghost use Rattle.row_reads.specs.CardDecoding.{IsGoodCard, IsSessionAt, cursor_in, good_at};
 ghost use Rattle.row_reads.specs.CardDecoding.{good_in, session_at, session_in, session_state_of};
 ghost use Rattle.row_reads.specs.CardKeys.{has_id, is_good_in, is_running_on};
-ghost use Rattle.row_reads.specs.Decoding.{IsFirst, first_number};
+ghost use Rattle.row_reads.specs.Decoding.{IsFirst};
 ghost use Rattle.row_reads.specs.Extremes.{IsGreatest};
 ghost use Rattle.sql_base.specs.Ends.{IsKept};
 ghost use Rattle.sql_rows.specs.Image.{IsImage};
 ghost use Rattle.table_rows.specs.Tables.{PassesOnce, StoredSession, Tables};
 
-use crate::values::{first_id, name_at, number_at};
+use crate::values::{first_id, first_number, name_at, number_at};
 use job_core::SessionState;
 use sql_base::{int, rows_of};
 use sqlite::types::ValueRef;
@@ -171,17 +171,6 @@ pub fn running_session<S: Alter>(
         &[ValueRef::Text(machine.bytes())],
     )?;
     first_id(rows.as_slice())
-}
-
-// The number in the first answered row; 0 where there is none.
-fn first_number(rows: &[Row]) -> Result<u64, Error>
-    ensures value { IfOk result (λ n. n ≡ first_number rows.now) }
-    ensures ranged { IfOk result (λ n. n < 2 ^ 63) }
-{
-    match rows.first() {
-        None => Ok(0),
-        Some(row) => number_at(row, 0),
-    }
 }
 
 /// The greatest id of a session; 0 where there is no session. Nothing is changed, and a crash

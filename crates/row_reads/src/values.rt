@@ -1,7 +1,8 @@
 //! The values of an answered row.
 ghost use Rattle.std.specs.Prelude.{◌≡◌, ◌<◌, ◌^◌, length, map, IfOk, IfSome};
 ghost use Rattle.sqlite.specs.Order.{column};
-ghost use Rattle.row_reads.specs.Decoding.{IsFirst, blob_in, has_rows, id_in, name_in, nat_in, text_in};
+ghost use Rattle.row_reads.specs.Decoding.{IsFirst, blob_in, first_number, has_rows};
+ghost use Rattle.row_reads.specs.Decoding.{id_in, name_in, nat_in, text_in};
 
 use sqlite::types::ValueRef;
 use sqlite::{Error, Row};
@@ -94,6 +95,17 @@ pub(crate) fn first_name(rows: &[Row]) -> Result<Option<Name>, Error>
     match rows.first() {
         None => Ok(None),
         Some(row) => Ok(Some(name_in(row)?)),
+    }
+}
+
+// The number in the first answered row; 0 where there is none.
+pub(crate) fn first_number(rows: &[Row]) -> Result<u64, Error>
+    ensures value { IfOk result (λ n. n ≡ first_number rows.now) }
+    ensures ranged { IfOk result (λ n. n < 2 ^ 63) }
+{
+    match rows.first() {
+        None => Ok(0),
+        Some(row) => number_at(row, 0),
     }
 }
 

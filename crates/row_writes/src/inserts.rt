@@ -61,10 +61,11 @@ pub fn add_lot<S: Alter>(tx: &mut Transaction<'_, S>, lot: &Lot) -> Result<usize
 pub fn add_remake<S: Alter>(
     tx: &mut Transaction<'_, S>,
     batch: u64,
-    place: u32,
+    place: u64,
     turn: u64,
 ) -> Result<usize, Error>
     requires batch { batch < 2 ^ 63 }
+    requires place { place < 2 ^ 63 }
     requires turn { turn < 2 ^ 63 }
     ensures same_reference { tx.new.conn.ghost_name ≡ tx.old.conn.ghost_name }
     ensures wrote { let row : StoredRemake = record {
@@ -80,7 +81,7 @@ pub fn add_remake<S: Alter>(
 {
     tx.execute(
         "INSERT INTO remake (batch, place, turn) VALUES (?1, ?2, ?3)",
-        &[int(batch), int(u64::from(place)), int(turn)],
+        &[int(batch), int(place), int(turn)],
     )
 }
 

@@ -8,7 +8,7 @@ ghost use Rattle.store_reads.specs.Heads.{is_over_in, row_of, totals_in};
 ghost use Rattle.store_reads.specs.Tells.{Looks, Tells};
 
 use job_core::{BatchRow, BatchSize, BatchTotals};
-use row_reads::{BatchHead, batch_head};
+use row_reads::{BatchHead, batch_head, grouping_count};
 use rows_answer::{batches_by_name, batches_by_rows, totals_by_rows};
 use sqlite::{Alter, Connection, Error};
 use store_data::Name;
@@ -72,6 +72,9 @@ pub fn batch<S: Alter>(conn: &mut Connection<S>, name: &Name) -> Result<Option<B
     Ok(row_of(found))
 }
 
+// The numbers of a size go up to it.
+const MOST: u64 = 0xffff_ffff;
+
 /// How many rows and records the batch of this name has.
 pub fn batch_size<S: Alter>(
     conn: &mut Connection<S>,
@@ -83,7 +86,19 @@ pub fn batch_size<S: Alter>(
     ensures looks { Looks (state S.Store conn.old) (state S.Store conn.new) }
     ensures idle { conn.new.in_transaction ≡ false }
 {
-    Err(Error::InvalidQuery)
+    batches_by_name();
+    batches_by_rows();
+    let Some(head) = batch_head(conn, name)? else {
+        return Ok(None);
+    };
+    let rows = grouping_count(conn, head.id)?;
+    if rows > MOST || head.totals.records > MOST {
+        return Err(Error::InvalidQuery);
+    }
+    Ok(Some(BatchSize {
+        rows: rows as u32,
+        records: head.totals.records as u32,
+    }))
 }
 
 /// Whether the batch of this name has these bytes.

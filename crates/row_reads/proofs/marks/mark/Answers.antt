@@ -14,4 +14,4 @@ returns-clause-found g c clean =
     if_ok c.first_number.result _ _ (λ upto is. (
       shown_open begun end _ _ c.in_ok-rows.rows.items shown.1,
       λ t image once. is ∙ ap first_number c.as_slice.ensures.value ∙ mark_found c.args.client.now begun end c.in_ok-rows.rows.items shown.1 t image once,
-    )) c.first_number.ensures
+    )) c.first_number.ensures.value

@@ -8,4 +8,4 @@ pub returns-clause-wrote : goal.returns-clause-wrote
 returns-clause-wrote g c clean =
     let r : StoredRemake = record { batch = c.args.batch; place = c.args.place; turn = c.args.turn } in
     wrote g.S.Store (Moves (with_remake r)) c.args.tx.now.conn.now c.execute.new.self.conn.now _ _ _ (λ count. remake_added _ _ r count) c.execute.result c.execute.ensures.ended
-    (rw (c.int.ensures, c.int-2.ensures, c.int-3.ensures, c.from.ensures) at (c.execute.ensures.runs clean))
+    (rw (c.int.ensures, c.int-2.ensures, c.int-3.ensures) at (c.execute.ensures.runs clean))
