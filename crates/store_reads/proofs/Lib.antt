@@ -1,4 +1,5 @@
 pub mod Telling
 pub mod Found
+pub mod Placed
 pub mod Counting
 pub mod Sizes

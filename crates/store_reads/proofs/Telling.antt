@@ -59,3 +59,9 @@ pub tells : {T : Type 0} (a b : State) (r : Result T Error) (Q : Tables → T �
     → ((c : Contents) → AreSound c → (x : T) → Q (image c) x → P c x) → Tells a b r P
 tells a b (Ok x) Q P rows law = shown a b (λ t. Q t x) (λ c. P c x) rows (λ c sound. law c sound x)
 tells a b (Err e) Q P rows law = λ clean. tt
+
+-- a read of what the first found, whose answer is handed on
+pub tells_then : {T : Type 0} (a b c : State) (r : Result T Error) (P : Contents → Type 0) (Q R : Contents → T → Type 0) → Looks a b → Looks b c → (HasCleanDisk b → Shows a P) → Tells b c r Q
+    → ((d : Contents) → AreSound d → (x : T) → P d → Q d x → R d x) → Tells a c r R
+tells_then a b c (Ok x) P Q R one two first second law = shown_then a b c P (λ d. Q d x) (λ d. R d x) one two first second (λ d sound. law d sound x)
+tells_then a b c (Err e) P Q R one two first second law = λ clean. tt
