@@ -31,7 +31,7 @@ pub struct Scripted {
 
 /// Runs a case on every way over a store of each kind, each way over one of its own. The same comes on all. Gives what a drill is to
 /// print, if all asks are the office's.
-pub fn check_exchanges<S: Fresh + Drop, T: Fresh + Drop>(
+pub fn check_exchanges<S: Fresh + Drop, T: Fresh + Drop, U: Fresh + Drop>(
     alloc: Global,
     case: Case,
 ) -> Result<Option<Scripted>, CaseFault> {
@@ -44,6 +44,7 @@ pub fn check_exchanges<S: Fresh + Drop, T: Fresh + Drop>(
     check_parsed(alloc, exchanges, first.replies())?;
     over::<S>(check_ways::<S>(alloc, &asks, first.replies()))?;
     over::<T>(check_ways::<T>(alloc, &asks, first.replies()))?;
+    over::<U>(check_ways::<U>(alloc, &asks, first.replies()))?;
     match script_of(alloc, lines.as_slice())? {
         Some(script) => Ok(Some(Scripted {
             line: number,

@@ -22,7 +22,7 @@ const BEHIND: Way = Way {
 };
 
 /// Runs a case on every way over a store of each kind, each way over one of its own. The same comes on all.
-pub fn check_messages<S: Fresh + Drop, T: Fresh + Drop>(
+pub fn check_messages<S: Fresh + Drop, T: Fresh + Drop, U: Fresh + Drop>(
     alloc: Global,
     case: &Case,
 ) -> Result<(), CaseFault> {
@@ -35,7 +35,8 @@ pub fn check_messages<S: Fresh + Drop, T: Fresh + Drop>(
     let first = served::<S>(alloc, exchanges, WHOLE)?;
     over::<S>(check_wanted(alloc, exchanges, WHOLE.name, first.replies(), true))?;
     over::<S>(check_ways::<S>(alloc, exchanges, first.replies(), is_cut))?;
-    over::<T>(check_ways::<T>(alloc, exchanges, first.replies(), is_cut))
+    over::<T>(check_ways::<T>(alloc, exchanges, first.replies(), is_cut))?;
+    over::<U>(check_ways::<U>(alloc, exchanges, first.replies(), is_cut))
 }
 
 fn check_ways<S: Fresh + Drop>(

@@ -3,20 +3,22 @@ use case_files::{CaseFault, NO_STORE, Wanted, check_bytes};
 use faulty_store::FaultyStore;
 use job_core::JobStore;
 use list_store::ListStore;
+use schema::SqlStore;
 use server::{End, MemoryConnections, Replied, serve_all};
+use sqlite::{Connection, MemStore};
 use std::alloc::{AllocError, Global};
 
 /// A store that a case may have for itself, empty.
 pub trait Fresh: JobStore {
     /// An empty store.
-    fn fresh(alloc: Global) -> Result<Self, AllocError>;
+    fn fresh(alloc: Global) -> Result<Self, CaseFault>;
 
     /// What it is called where an answer differs.
     fn called() -> &'static str;
 }
 
 impl Fresh for ListStore {
-    fn fresh(alloc: Global) -> Result<ListStore, AllocError> {
+    fn fresh(alloc: Global) -> Result<ListStore, CaseFault> {
         Ok(ListStore::new(alloc))
     }
 
@@ -27,12 +29,26 @@ impl Fresh for ListStore {
 
 impl Fresh for FaultyStore {
     // Nothing is planned for its device.
-    fn fresh(alloc: Global) -> Result<FaultyStore, AllocError> {
+    fn fresh(alloc: Global) -> Result<FaultyStore, CaseFault> {
         Ok(FaultyStore::new(alloc, None))
     }
 
     fn called() -> &'static str {
         "lists behind a device"
+    }
+}
+
+impl Fresh for SqlStore<MemStore> {
+    fn fresh(alloc: Global) -> Result<SqlStore<MemStore>, CaseFault> {
+        let conn = Connection::open_in_memory(alloc)?;
+        match SqlStore::create(alloc, conn) {
+            Ok(store) => Ok(store),
+            Err(_) => Err(CaseFault::Memory),
+        }
+    }
+
+    fn called() -> &'static str {
+        "tables in memory"
     }
 }
 

@@ -1,5 +1,5 @@
-//! Sessions, their words, and blanks, in an open transaction. A crash before its end leaves nothing
-//! of it.
+//! Sessions, their words, and blanks, in an open transaction. A crash before its end leaves
+//! nothing of it.
 ghost use Rattle.std.specs.Prelude.{◌≡◌, ◌+◌, false, true};
 ghost use Rattle.sqlite.specs.Held.{state};
 ghost use Rattle.sqlite.specs.State.{HasCleanDisk, Survives};
@@ -7,7 +7,8 @@ ghost use Rattle.job_core.specs.declared.facts.RecordState.TheVariants as rec;
 ghost use Rattle.job_core.specs.declared.facts.SessionState.TheVariants as stands;
 ghost use Rattle.sql_base.specs.Ends.{Wrote};
 ghost use Rattle.sql_rows.specs.Image.{Moves};
-ghost use Rattle.table_rows.specs.After.{less, more, new_session, one_opened, record_after, stopped};
+ghost use Rattle.table_rows.specs.After.{less, more, new_session, one_opened};
+ghost use Rattle.table_rows.specs.After.{record_after, stopped};
 ghost use Rattle.table_rows.specs.Tables.{StoredBlank, StoredWord, with_blank, with_end_set};
 ghost use Rattle.table_rows.specs.Tables.{with_lot_set, with_session, with_session_set, with_word};
 
@@ -43,24 +44,15 @@ pub(crate) fn write_opened<S: Alter>(
     ensures survives { Survives (state S.Store tx.old.conn.now) (state S.Store tx.new.conn.now)
         (λ _. ⊥) }
 {
-    let totals = more(
-        RecordState::Running,
-        &less(RecordState::Waiting, &place.totals),
-    )?;
+    let stands = RecordState::Running;
+    let totals = more(stands, &less(RecordState::Waiting, &place.totals))?;
     let totals = one_opened(&totals)?;
     if !fit(id, blank, place.batch, place.place) {
         return Err(Error::InvalidQuery);
     }
     add_session(tx, id, place, machine, blank)?;
     add_blank(tx, blank, lot, false)?;
-    write_record(
-        tx,
-        place,
-        RecordState::Running,
-        place.spoiled,
-        place.remakes,
-        &totals,
-    )
+    write_record(tx, place, stands, place.spoiled, place.remakes, &totals)
 }
 
 /// A session has one more word, and stands so with it.

@@ -1,12 +1,11 @@
-//! Each change of the facts with its reply, in one transaction.
+//! Each change of the facts, and each release, with its reply in one transaction.
 #![tactic(auto)]
 
+mod commits;
 mod opening;
-mod products;
-mod replies;
-mod words;
+pub mod writing;
 
+pub use commits::commit;
 pub use opening::create;
-pub use products::commit_product;
-pub use replies::commit_reply;
-pub use words::commit_going_word;
+pub use sql_tables::CreateFault;
+pub use writing::Writing;

@@ -4,12 +4,12 @@ ghost use Rattle.sqlite.specs.Held.{state};
 ghost use Rattle.sqlite.specs.State.{HasCleanDisk, Survives};
 ghost use Rattle.sql_base.specs.Columns.{no_schema};
 ghost use Rattle.sql_base.specs.Ends.{Ends, IsKept, IsLeft};
-ghost use Rattle.store_commits.specs.Takes.{Founds};
+ghost use Rattle.store_commits.specs.Founds.{Founds};
 
 use sql_tables::CreateFault;
 use sqlite::{Alter, Connection};
 
-/// Makes our tables in an empty database, with the rows of empty contents. Any other is refused, and
+/// Makes our tables in an empty database, with no row in them. Any other is refused, and
 /// stays as it is. A crash leaves what it could leave before, or all of it.
 pub fn create<S: Alter>(conn: &mut Connection<S>) -> Result<(), CreateFault>
     requires { conn.old.in_transaction ≡ false }

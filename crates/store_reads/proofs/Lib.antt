@@ -1,5 +1,6 @@
 pub mod Telling
 pub mod Found
+pub mod Placed
 pub mod Counting
 pub mod Sizes
 pub mod Told

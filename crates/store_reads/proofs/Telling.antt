@@ -54,8 +54,21 @@ shown_then a b c P Q R one two first second law clean =
     let q = second clean in
     (p.0, λ d sound is. law d sound (p.1 d sound is) (q.1 d sound (subst (IsImage (image d)) (sym ((one.kept early).now_is q.0)) is)))
 
+-- and what a third shows
+pub shown_third : (a b c d : State) (P Q R T : Contents → Type 0) → Looks a b → Looks b c → Looks c d → (HasCleanDisk b → Shows a P) → (HasCleanDisk c → Shows b Q) → (HasCleanDisk d → Shows c R)
+    → ((x : Contents) → AreSound x → P x → Q x → R x → T x) → HasCleanDisk d → Shows a T
+shown_third a b c d P Q R T one two three first second third law =
+    shown_then a c d (λ x. P x × Q x) R T (looks_then a b c one two) three (shown_then a b c P Q (λ x. P x × Q x) one two first second (λ x sound p q. (p, q))) third
+    (λ x sound both r. law x sound both.0 both.1 r)
+
 -- a read that tells all that is asked
 pub tells : {T : Type 0} (a b : State) (r : Result T Error) (Q : Tables → T → Type 0) (P : Contents → T → Type 0) → (HasCleanDisk b → IfOk r (λ x. ShowsRows a (λ t. Q t x)))
     → ((c : Contents) → AreSound c → (x : T) → Q (image c) x → P c x) → Tells a b r P
 tells a b (Ok x) Q P rows law = shown a b (λ t. Q t x) (λ c. P c x) rows (λ c sound. law c sound x)
 tells a b (Err e) Q P rows law = λ clean. tt
+
+-- a read of what the first found, whose answer is handed on
+pub tells_then : {T : Type 0} (a b c : State) (r : Result T Error) (P : Contents → Type 0) (Q R : Contents → T → Type 0) → Looks a b → Looks b c → (HasCleanDisk b → Shows a P) → Tells b c r Q
+    → ((d : Contents) → AreSound d → (x : T) → P d → Q d x → R d x) → Tells a c r R
+tells_then a b c (Ok x) P Q R one two first second law = shown_then a b c P (λ d. Q d x) (λ d. R d x) one two first second (λ d sound. law d sound x)
+tells_then a b c (Err e) P Q R one two first second law = λ clean. tt

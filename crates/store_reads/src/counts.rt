@@ -3,7 +3,7 @@ ghost use Rattle.std.specs.Prelude.{IfOk, false, length, ◌<◌, ◌^◌, ◌�
 ghost use Rattle.sqlite.specs.Held.{state};
 ghost use Rattle.store_reads.specs.Tells.{Looks, Tells};
 
-use row_reads::last_session;
+use row_reads::{last_batch, last_session};
 use rows_answer::numbers_of_rows;
 use sqlite::{Alter, Connection, Error};
 
@@ -38,7 +38,8 @@ pub fn batch_count<S: Alter>(conn: &mut Connection<S>) -> Result<u64, Error>
     ensures looks { Looks (state S.Store conn.old) (state S.Store conn.new) }
     ensures idle { conn.new.in_transaction ≡ false }
 {
-    Err(Error::InvalidQuery)
+    numbers_of_rows();
+    last_batch(conn)
 }
 
 /// How many sessions there are.

@@ -24,6 +24,8 @@ mod rows;
 #[cfg(test)]
 mod serving;
 #[cfg(test)]
+mod stops;
+#[cfg(test)]
 mod stories;
 #[cfg(test)]
 mod words;

@@ -1,7 +1,5 @@
-use Rattle.std.proofs.Common.{sym, ap, ◌∙◌}
-use Rattle.std.specs.Prelude.{option_map}
+use Rattle.std.proofs.Common.{sym, ◌∙◌}
 use Rattle.sqlite.specs.Held.{state}
-use Rattle.row_reads.specs.declared.records.RecordAt.{RecordAt}
 use Rattle.rows_of_facts.specs.Image.{stored_batches, stored_records}
 use Rattle.store_reads.proofs.Found.{no_batch_of, state_told}
 use Rattle.store_reads.proofs.Telling.{shown, shown_then}

@@ -1,14 +1,8 @@
-use Rattle.std.proofs.Common.{◌≡◌, Some, sym, ◌∙◌}
-use Rattle.std.specs.Prelude.{find, option_map}
+use Rattle.std.proofs.Common.{sym, ◌∙◌}
 use Rattle.sqlite.specs.Held.{state}
-use Rattle.job_core.specs.Contents.{Contents}
-use Rattle.row_reads.specs.CardDecoding.{record_at, session_at}
-use Rattle.table_rows.specs.Tables.{StoredBatch}
-use Rattle.rows_answer.specs.Keys.{is_batch, is_record_at, is_session}
 use Rattle.rows_of_facts.specs.Image.{stored_batches, stored_records, stored_sessions}
-use Rattle.store_reads.specs.Tells.{Looks}
 use Rattle.store_reads.proofs.Found.{no_batch, no_record, no_session, session_told}
-use Rattle.store_reads.proofs.Telling.{looks_then, shown, shown_then}
+use Rattle.store_reads.proofs.Telling.{shown, shown_then, shown_third}
 use Rattle.store_reads.proofs.sessions.session.Goals as goal
 
 pub returns-in_default-clause-value : goal.returns-in_default-clause-value
@@ -41,20 +35,14 @@ returns-in_default-3-clause-value g c =
     let two = state g.S.Store c.session.new.conn in
     let three = state g.S.Store c.batch_name.new.conn in
     let four = state g.S.Store c.record_at.new.conn in
-    let first : Looks one two = record { kept = c.session.ensures.kept; survives = c.session.ensures.survives } in
-    let second : Looks two three = record { kept = c.batch_name.ensures.kept; survives = c.batch_name.ensures.survives } in
-    let third : Looks three four = record { kept = c.record_at.ensures.kept; survives = c.record_at.ensures.survives } in
-    shown_then one three four
-    (λ d. (Some s ≡ option_map session_at (find (is_session id) (stored_sessions d.facts))) × (Some c.in-Some-2.batch ≡ option_map (λ (b : StoredBatch). b.name) (find (is_batch s.batch) (stored_batches d.facts))))
-    _ _ (looks_then one two three first second) third
-    (shown_then one two three _ _ _ first second
+    shown_third one two three four _ _ _ _ (record { kept = c.session.ensures.kept; survives = c.session.ensures.survives }) (record { kept = c.batch_name.ensures.kept; survives = c.batch_name.ensures.survives })
+    (record { kept = c.record_at.ensures.kept; survives = c.record_at.ensures.survives })
     (shown one two _ _ (rw c.in-Some.is at c.in_ok-found.ensures.found) (λ d sound is. is (c.sessions_by_number.ensures.once d.facts id)))
     (shown two three _ _ (rw c.in-Some-2.is at c.in_ok-batch.ensures.found) (λ d sound is. is (c.batches_by_id.ensures.once d.facts s.batch)))
-    (λ d sound x y. (x, y)))
     (shown three four _ _ (rw c.in_default-3.is at c.in_ok-card.ensures.found) (λ d sound is. is (c.records_by_place.ensures.once d.facts s.batch s.place)))
-    (λ d sound both third.
-    no_record (stored_sessions d.facts) (stored_batches d.facts) (stored_records d.facts) id s both.0 c.in-Some-2.batch both.1 third
-    ∙ sym (c.sessions_by_number.ensures.row d.facts id sound.facts))
+    (λ d sound first second third.
+      no_record (stored_sessions d.facts) (stored_batches d.facts) (stored_records d.facts) id s first c.in-Some-2.batch second third
+      ∙ sym (c.sessions_by_number.ensures.row d.facts id sound.facts))
 
 pub returns-clause-value : goal.returns-clause-value
 returns-clause-value g c =
@@ -64,17 +52,11 @@ returns-clause-value g c =
     let two = state g.S.Store c.session.new.conn in
     let three = state g.S.Store c.batch_name.new.conn in
     let four = state g.S.Store c.record_at.new.conn in
-    let first : Looks one two = record { kept = c.session.ensures.kept; survives = c.session.ensures.survives } in
-    let second : Looks two three = record { kept = c.batch_name.ensures.kept; survives = c.batch_name.ensures.survives } in
-    let third : Looks three four = record { kept = c.record_at.ensures.kept; survives = c.record_at.ensures.survives } in
-    shown_then one three four
-    (λ d. (Some s ≡ option_map session_at (find (is_session id) (stored_sessions d.facts))) × (Some c.in-Some-2.batch ≡ option_map (λ (b : StoredBatch). b.name) (find (is_batch s.batch) (stored_batches d.facts))))
-    _ _ (looks_then one two three first second) third
-    (shown_then one two three _ _ _ first second
+    shown_third one two three four _ _ _ _ (record { kept = c.session.ensures.kept; survives = c.session.ensures.survives }) (record { kept = c.batch_name.ensures.kept; survives = c.batch_name.ensures.survives })
+    (record { kept = c.record_at.ensures.kept; survives = c.record_at.ensures.survives })
     (shown one two _ _ (rw c.in-Some.is at c.in_ok-found.ensures.found) (λ d sound is. is (c.sessions_by_number.ensures.once d.facts id)))
     (shown two three _ _ (rw c.in-Some-2.is at c.in_ok-batch.ensures.found) (λ d sound is. is (c.batches_by_id.ensures.once d.facts s.batch)))
-    (λ d sound x y. (x, y)))
     (shown three four _ _ (rw c.in-Some-3.is at c.in_ok-card.ensures.found) (λ d sound is. is (c.records_by_place.ensures.once d.facts s.batch s.place)))
-    (λ d sound both third.
-    session_told (stored_sessions d.facts) (stored_batches d.facts) (stored_records d.facts) id s both.0 c.in-Some-2.batch both.1 c.in-Some-3.card third
-    ∙ sym (c.sessions_by_number.ensures.row d.facts id sound.facts))
+    (λ d sound first second third.
+      session_told (stored_sessions d.facts) (stored_batches d.facts) (stored_records d.facts) id s first c.in-Some-2.batch second c.in-Some-3.card third
+      ∙ sym (c.sessions_by_number.ensures.row d.facts id sound.facts))

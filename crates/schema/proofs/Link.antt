@@ -1,0 +1,93 @@
+-- From what a call makes of a connection to what it makes of the contents, once for all calls.
+use Rattle.std.proofs.Common.{◌≡◌, ◌⊎◌, ◌≤◌, ℕ, Result, Ok, Err, OnOk, OnErr, IfOk, inl, inr, IsTrue, refl, sym, ap, subst, ◌∙◌, arith}
+use Rattle.sqlite.specs.Effect.{Database}
+use Rattle.sqlite.specs.Tree.{Trees}
+use Rattle.sqlite.specs.State.{HasCleanDisk, State, Survives}
+use Rattle.sqlite.specs.declared.error.Error.{Error}
+use Rattle.job_core.specs.declared.store.StoreFault.{StoreFault}
+use Rattle.job_core.specs.Contents.{AreSame, AreSound, Contents}
+use Rattle.job_core.specs.Store.{Commits, Reads, Stays}
+use Rattle.table_rows.specs.Tables.{HaveSameRows, Tables}
+use Rattle.rows_of_facts.specs.Image.{image}
+use Rattle.sql_base.specs.Ends.{Ends, IsKept, IsLeft}
+use Rattle.sql_rows.specs.Image.{IsImage}
+use Rattle.sql_rows.proofs.OneImage.{one_image}
+use Rattle.sql_tables.specs.Tables.{our_schema}
+use Rattle.store_reads.specs.Tells.{Tells}
+use Rattle.schema.specs.Link.{IsTold, link}
+use Rattle.schema.specs.Takes.{Takes}
+
+-- ---- reads
+
+still : (old new : State) (c : Contents) (a b m n : ℕ) → IsKept old new → (link old a b).holds c → (link new m n).holds c
+still old new c a b m n k held = (held.0, λ live. subst (IsImage (image c)) (sym (k.now_is live)) (held.1 (k.was_open live)))
+
+pub stays : (old new : State) (a b m n : ℕ) → Survives old new (λ _. ⊥) → (HasCleanDisk new → IsKept old new) → Stays (link old a b) (link new m n)
+stays old new a b m n survives kept = record {
+  doubts = survives.clean;
+  contents = λ honest c held. still old new c a b m n (kept honest) held;
+  crash = λ honest d left. elim (survives.crash honest left.1 left.2) [ inl before ↦ (left.0, left.1, before, left.3) | inr none ↦ absurd none ];
+}
+
+module _ {T : Type 0} where
+  -- what went well is told as it is
+  pub told_well : (P : T → Type 0) (r : Result T Error) (told : Result T StoreFault) → IsTold r told → IfOk r P → IfOk told P
+  told_well P (Ok x) told is well = subst (λ t. IfOk t P) (sym is) well
+  told_well P (Err e) (Ok x) is well = absurd (cc)
+  told_well P (Err e) (Err fault) is well = tt
+
+  pub reads : (old new : State) (a b m n : ℕ) (P : Contents → T → Type 0) (r : Result T Error) (told : Result T StoreFault) → IsTold r told → Tells old new r P
+      → Reads (link old a b) (link new m n) told P
+  reads old new a b m n P (Ok x) told is tells honest c held = subst (λ t. IfOk t (P c)) (sym is) (let it = tells honest in it.1 c held.0 (held.1 it.0))
+  reads old new a b m n P (Err e) (Ok x) is tells honest c held = absurd (cc)
+  reads old new a b m n P (Err e) (Err fault) is tells honest c held = tt
+
+-- ---- commits
+
+-- what is found at the trees of a database of ours
+pub at_trees : (t : Tables) (db : Database) (trees : Trees) → db.schema ≡ our_schema → trees ≡ db.trees → IsImage t (record { schema = our_schema; trees = trees }) → IsImage t db
+at_trees t db trees ours is found =
+    subst (IsImage t) (sym (ap (λ s. let d : Database = record { schema = s; trees = db.trees } in d) ours)) (subst (λ (x : Trees). IsImage t (record { schema = our_schema; trees = x })) is found)
+
+-- the rows of two sound contents are not the same, unless they are
+abbrev pub RowsLaw : Type 0
+RowsLaw = (c d : Contents) → AreSound c → AreSound d → HaveSameRows (image c) (image d) → AreSame c d
+
+module _ (law : RowsLaw) (Owed : Contents → Type 0) (after : Contents → Contents) (sound : (c : Contents) → AreSound c → Owed c → AreSound (after c)) (old new : State) (a b m n : ℕ)
+    (survives : Survives old new (IsLeft (Takes Owed after) old)) where
+  left_by : HasCleanDisk new → (c d : Contents) → (link old a b).holds c → Owed c → (link new m n).may_leave d → (link old a b).may_leave d ⊎ AreSame d (after c)
+  left_by honest c d held owed left =
+      elim (survives.crash honest left.1 left.2) [
+        | inl before ↦ inl (left.0, left.1, before, left.3)
+        | inr it ↦ inr (
+            let now = it.1.1 c held.0 owed (held.1 it.0) in
+            law d (after c) left.0 (sound c held.0 owed) (one_image _ _ it.1.0 (at_trees (image d) it.1.0 left.1 now.ours it.1.2 left.3) now))
+      ]
+
+  pub commits : (HasCleanDisk new → Ends (Takes Owed after) old new) → Commits (link old a b) (link new m n) (Ok tt) Owed after
+  commits done = record {
+    doubts = survives.clean;
+    ok = λ honest c held owed. let k = done honest in (sound c held.0 owed, λ live. k.made c held.0 owed (held.1 k.was_open));
+    err = tt;
+    crash = left_by;
+    settled = λ honest c d held owed left.
+        let k = done honest in
+        let now = k.made c held.0 owed (held.1 k.was_open) in
+        law d (after c) left.0 (sound c held.0 owed) (one_image _ _ new.now (at_trees (image d) new.now left.1 now.ours (k.only left.1 left.2) left.3) now);
+  }
+
+  pub fails : (why : StoreFault) → (HasCleanDisk new → IsKept old new) → Commits (link old a b) (link new m n) (Err why) Owed after
+  fails why kept = record {
+    doubts = survives.clean;
+    ok = tt;
+    err = λ honest c held owed. still old new c a b m n (kept honest) held;
+    crash = left_by;
+    settled = tt;
+  }
+
+  -- what went well is taken, and what is told as a fault leaves all as it was
+  pub told_commits : (r : Result (Unit {0}) Error) (told : Result (Unit {0}) StoreFault) → IsTold r told → (HasCleanDisk new → OnOk r (Ends (Takes Owed after) old new))
+      → (HasCleanDisk new → OnErr r (IsKept old new)) → Commits (link old a b) (link new m n) told Owed after
+  told_commits (Ok u) told is ok err = subst (λ t. Commits (link old a b) (link new m n) t Owed after) (sym is) (commits ok)
+  told_commits (Err e) (Ok u) is ok err = absurd (cc)
+  told_commits (Err e) (Err why) is ok err = fails why err

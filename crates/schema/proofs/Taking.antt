@@ -1,0 +1,99 @@
+-- From the rows that are written to the contents that are taken.
+use Rattle.std.proofs.Common.{◌≡◌, ℕ, Result, Ok, Err, OnOk, IsTrue, refl, sym, subst, arith}
+use Rattle.std.specs.List.Sorted.{IsPermutation}
+use Rattle.std.proofs.lemmas.List.Sorted.{IsPermutation-cons}
+use Rattle.sqlite.specs.Effect.{Database}
+use Rattle.sqlite.specs.State.{HasCleanDisk, State, Survives}
+use Rattle.sqlite.specs.Tree.{Trees}
+use Rattle.sqlite.specs.declared.error.Error.{Error}
+use Rattle.sqlite.proofs.StateLemmas.{survives_then, survives_weaker}
+use Rattle.job_core.specs.declared.change.Change.{Change}
+use Rattle.job_core.specs.declared.change.Change.TheVariants as change
+use Rattle.job_core.specs.Contents.{AreSound, Contents, Entry, IsOwed, IsOwedRelease, committed, released}
+use Rattle.job_core.specs.Sound.{IsSound, IsSoundChange, changed}
+use Rattle.table_rows.specs.After.{rows_after, rows_after_release}
+use Rattle.table_rows.specs.Tables.{HaveSameRows, Tables, with_reply}
+use Rattle.table_rows.specs.declared.before.Before.{Before}
+use Rattle.rows_of_facts.specs.Before.{IsBefore}
+use Rattle.rows_of_facts.specs.Image.{image}
+use Rattle.sql_base.specs.Ends.{Ends, IsKept, IsLeft}
+use Rattle.sql_rows.specs.Image.{IsImage, Moves}
+use Rattle.sql_rows.proofs.SameRows.{same_rows}
+use Rattle.store_commits.specs.Written.{rows_written}
+use Rattle.store_commits.specs.declared.writing.Writing.TheVariants as writing
+use Rattle.schema.specs.Takes.{Takes}
+
+-- one more reply on both sides
+same_with_reply : (entry : Entry) (t u : Tables) → HaveSameRows t u → HaveSameRows (with_reply entry t) (with_reply entry u)
+same_with_reply entry t u same = record {
+  products = same.products;
+  lots = same.lots;
+  batches = same.batches;
+  records = same.records;
+  groupings = same.groupings;
+  sessions = same.sessions;
+  words = same.words;
+  blanks = same.blanks;
+  remakes = same.remakes;
+  replies = IsPermutation-cons entry _ _ same.replies;
+  marks = same.marks;
+}
+
+-- what the laws say of the rows of the next contents
+abbrev pub ReplyLaw : Type 0
+ReplyLaw = (c : Contents) (entry : Entry) → HaveSameRows (image (committed c change.Nothing entry)) (with_reply entry (image c))
+
+abbrev pub ChangeLaw : Type 0
+ChangeLaw = (c : Contents) (change : Change) (told : Before) → IsSound c.facts → IsSoundChange c.facts change → IsBefore c.facts change told
+    → HaveSameRows (image (record c { facts = changed c.facts change })) (rows_after change told (image c))
+
+abbrev pub ReleaseLaw : Type 0
+ReleaseLaw = (c : Contents) (upto : ℕ) (entry : Entry) → AreSound c → IsOwedRelease upto entry c
+    → HaveSameRows (image (released c upto entry)) (rows_after_release upto entry (image c))
+
+-- what a store is told of before a change
+abbrev pub Tells : Change → Before → Entry → Database → Type 0
+Tells change told entry db = (c : Contents) → AreSound c → IsOwed change entry c → IsImage (image c) db → IsBefore c.facts change told
+
+pub change_taken : ReplyLaw → ChangeLaw → (change : Change) (told : Before) (entry : Entry) (a b : Database) → Tells change told entry a
+    → Moves (λ t. with_reply entry (rows_after change told t)) a b → Takes (IsOwed change entry) (λ c. committed c change entry) a b
+change_taken reply law change told entry a b has moves c sound owed holds =
+    let next : Contents = record c { facts = changed c.facts change } in
+    let rows = law c change told sound.facts owed.keeps (has c sound owed holds) in
+    same_rows (image (committed c change entry)) (with_reply entry (image next)) b (reply next entry)
+    (same_rows (with_reply entry (image next)) (with_reply entry (rows_after change told (image c))) b (same_with_reply entry _ _ rows) (moves (image c) holds))
+
+pub release_taken : ReleaseLaw → (upto : ℕ) (entry : Entry) (a b : Database) → Moves (rows_written (writing.Release upto) entry) a b
+    → Takes (IsOwedRelease upto entry) (λ c. released c upto entry) a b
+release_taken law upto entry a b moves c sound owed holds =
+    same_rows (image (released c upto entry)) (rows_after_release upto entry (image c)) b (law c upto entry sound owed) (moves (image c) holds)
+
+-- one relation in the place of another
+module _ (P Q : Database → Database → Type 0) (old new : State) (turns : (b : Database) → P old.now b → Q old.now b) where
+  pub ends_as : {X : Type 0} (r : Result X Error) → OnOk r (Ends P old new) → OnOk r (Ends Q old new)
+  ends_as (Err e) k = tt
+  ends_as (Ok x) k = record { made = turns new.now k.made; settled = k.settled; only = k.only; was_open = k.was_open; is_open = k.is_open }
+
+  pub left_as : Survives old new (IsLeft P old) → Survives old new (IsLeft Q old)
+  left_as = survives_weaker old new (IsLeft P old) (IsLeft Q old) (λ clean trees it. (it.0, (it.1.0, turns it.1.0 it.1.1, it.1.2)))
+
+-- a read, and then a commit
+module _ (P Q : Database → Database → Type 0) (old mid new : State) (kept : HasCleanDisk mid → IsKept old mid) (before : Survives old mid (λ _. ⊥))
+    (turns : HasCleanDisk mid → (b : Database) → P old.now b → Q old.now b) where
+  takes : HasCleanDisk mid → (b : Database) → IsTrue mid.is_open → P mid.now b → Q old.now b
+  takes clean b live it = turns clean b (subst (λ a. P a b) ((kept clean).now_is live) it)
+
+  pub ends_then : {X : Type 0} (r : Result X Error) → HasCleanDisk mid → OnOk r (Ends P mid new) → OnOk r (Ends Q old new)
+  ends_then (Err e) clean k = tt
+  ends_then (Ok x) clean k = record {
+    made = takes clean new.now k.was_open k.made;
+    settled = k.settled;
+    only = k.only;
+    was_open = (kept clean).was_open k.was_open;
+    is_open = k.is_open;
+  }
+
+  pub left_then : Survives mid new (IsLeft P mid) → Survives old new (IsLeft Q old)
+  left_then last =
+      survives_then old mid new (λ _. ⊥) (IsLeft P mid) (IsLeft Q old) (λ _ db none. absurd none)
+      (λ clean db it. let early : HasCleanDisk mid = omega (arith, last.clean) in ((kept early).was_open it.0, (it.1.0, takes early it.1.0 it.0 it.1.1, it.1.2))) before last

@@ -1,0 +1,10 @@
+-- What a commit makes of a database that has the rows of some contents.
+use Rattle.std.specs.Prelude.{IsTrue, IfOk, Result}
+use Rattle.sqlite.specs.Effect.{Database}
+use Rattle.job_core.specs.Contents.{AreSound, Contents}
+use Rattle.rows_of_facts.specs.Image.{image}
+use Rattle.sql_rows.specs.Image.{IsImage}
+
+-- of whatever sound contents it has the rows, if this is owed of them, it then has those of the next
+abbrev pub Takes : (Contents → Type 0) → (Contents → Contents) → Database → Database → Type 0
+Takes Owed after old new = (c : Contents) → AreSound c → Owed c → IsImage (image c) old → IsImage (image (after c)) new

@@ -1,0 +1,45 @@
+//! What a store says of an error, and how often it said so.
+ghost use Rattle.std.specs.Prelude.{◌≡◌};
+ghost use Rattle.job_core.specs.Store.{failed_after, full_after};
+ghost use Rattle.schema.specs.Link.{IsTold};
+
+use job_core::StoreFault;
+use sqlite::{Error, ErrorCode};
+
+/// How often a store answered that its device failed, and that it is full.
+#[derive(Clone, Copy)]
+pub(crate) struct Counts {
+    pub(crate) failed: u64,
+    pub(crate) full: u64,
+}
+
+// Rows of sound contents are refused nothing, so what is no want of memory is told of the device.
+pub(crate) fn fault_of(error: Error) -> StoreFault {
+    match error {
+        Error::SqliteFailure(ErrorCode::OutOfMemory) => StoreFault::Memory,
+        Error::SqliteFailure(ErrorCode::DiskFull) => StoreFault::Full,
+        _ => StoreFault::Device,
+    }
+}
+
+impl Counts {
+    /// The answer, or what is told of its error, which is counted.
+    pub(crate) fn told<T>(&mut self, answer: Result<T, Error>) -> Result<T, StoreFault>
+        ensures told { IsTold answer result }
+        ensures failed { self.new.failed ≡ failed_after result self.old.failed }
+        ensures full { self.new.full ≡ full_after result self.old.full }
+    {
+        match answer {
+            Ok(value) => Ok(value),
+            Err(error) => {
+                let fault = fault_of(error);
+                match fault {
+                    StoreFault::Memory => (),
+                    StoreFault::Device => self.failed = self.failed.saturating_add(1),
+                    StoreFault::Full => self.full = self.full.saturating_add(1),
+                }
+                Err(fault)
+            }
+        }
+    }
+}

@@ -1,0 +1,10 @@
+//! The store over SQLite: its facts, kept replies and marks in the tables of one database.
+#![tactic(auto)]
+
+mod faults;
+mod keeping;
+pub mod opening;
+pub mod store;
+
+pub use opening::OpenFault;
+pub use store::SqlStore;

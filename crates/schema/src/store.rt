@@ -1,0 +1,237 @@
+//! A store over a connection to our tables.
+ghost use Rattle.std.specs.Prelude.{◌≡◌, false};
+ghost use Rattle.sqlite.specs.Held.{state};
+ghost use Rattle.schema.specs.Link.{link};
+
+use crate::faults::Counts;
+use crate::keeping::{keep, release};
+use facts_of_rows::same_rows_same_contents;
+use job_core::{
+    BatchRow, BatchSize, BatchTotals, BlankTotals, Change, JobStore, KeptReply, Lot, RecordLine,
+    RecordState, SegmentRow, SessionRow, StoreFault,
+};
+use sqlite::{Alter, Connection, Error};
+use std::alloc::Global;
+use store_data::{Name, Product};
+use store_reads as reads;
+
+/// The numbers of SQL end below this.
+const LIMIT: u64 = 1 << 63;
+
+/// A store over a connection to our tables. No transaction is open between its calls.
+pub struct SqlStore<S: Alter> {
+    pub(crate) alloc: Global,
+    pub(crate) conn: Connection<S>,
+    pub(crate) counts: Counts,
+    ghost idle: { conn.in_transaction ≡ false },
+}
+
+impl<S: Alter> SqlStore<S> {
+    ghost use Rattle.schema.specs.Stores.{connection};
+
+    /// Ends a store, and gives its connection back.
+    pub fn close(self) -> Connection<S>
+        ensures handed { result ≡ connection self }
+        ensures idle { result.in_transaction ≡ false }
+    {
+        let SqlStore {
+            alloc: _,
+            conn,
+            counts: _,
+        } = self;
+        conn
+    }
+}
+
+impl<S: Alter + Drop> Drop for SqlStore<S> {
+    fn drop(self) {
+        let SqlStore {
+            alloc: _,
+            conn: _,
+            counts: _,
+        } = self;
+    }
+}
+
+impl<S: Alter> JobStore for SqlStore<S> {
+    ghost state = { λ s. link (state S.Store s.conn) s.counts.failed s.counts.full };
+
+    ghost sound = { λ store c held. held.0 };
+
+    fn product(&mut self, code: &Name) -> Result<Option<Product>, StoreFault> {
+        let answer = reads::product(&mut self.conn, code);
+        self.counts.told(answer)
+    }
+
+    fn lot(&mut self, name: &Name) -> Result<Option<Lot>, StoreFault> {
+        let answer = reads::lot(&mut self.conn, name);
+        self.counts.told(answer)
+    }
+
+    fn lot_of(&mut self, blank: u64) -> Result<Option<Lot>, StoreFault> {
+        let answer = reads::lot_of(&mut self.conn, blank);
+        self.counts.told(answer)
+    }
+
+    fn overlaps(&mut self, first: u64, count: u32) -> Result<bool, StoreFault> {
+        let answer = reads::overlaps(&mut self.conn, first, count);
+        self.counts.told(answer)
+    }
+
+    fn batch(&mut self, name: &Name) -> Result<Option<BatchRow>, StoreFault> {
+        let answer = reads::batch(&mut self.conn, name);
+        self.counts.told(answer)
+    }
+
+    fn batch_size(&mut self, name: &Name) -> Result<Option<BatchSize>, StoreFault> {
+        let answer = reads::batch_size(&mut self.conn, name);
+        self.counts.told(answer)
+    }
+
+    fn batch_has(&mut self, name: &Name, raw: &[u8]) -> Result<bool, StoreFault> {
+        let answer = reads::batch_has(&mut self.conn, name, raw);
+        self.counts.told(answer)
+    }
+
+    fn record_state(
+        &mut self,
+        batch: &Name,
+        rec: &Name,
+    ) -> Result<Option<RecordState>, StoreFault> {
+        let answer = reads::record_state(&mut self.conn, batch, rec);
+        self.counts.told(answer)
+    }
+
+    fn first_waiting(&mut self, batch: &Name) -> Result<Option<Name>, StoreFault> {
+        let answer = reads::first_waiting(&mut self.conn, batch);
+        self.counts.told(answer)
+    }
+
+    fn is_finished(&mut self, batch: &Name) -> Result<bool, StoreFault> {
+        let answer = reads::is_finished(&mut self.conn, batch);
+        self.counts.told(answer)
+    }
+
+    fn session(&mut self, session: u64) -> Result<Option<SessionRow>, StoreFault> {
+        let answer = reads::session(&mut self.conn, session);
+        self.counts.told(answer)
+    }
+
+    fn running_session(&mut self, machine: &Name) -> Result<Option<u64>, StoreFault> {
+        let answer = reads::running_session(&mut self.conn, machine);
+        self.counts.told(answer)
+    }
+
+    fn is_charged(&mut self, blank: u64) -> Result<bool, StoreFault> {
+        let answer = reads::is_charged(&mut self.conn, blank);
+        self.counts.told(answer)
+    }
+
+    fn segment(
+        &mut self,
+        batch: &Name,
+        rec: &Name,
+        app: u16,
+        segment: u16,
+    ) -> Result<Option<SegmentRow>, StoreFault> {
+        let answer = reads::segment(&mut self.conn, batch, rec, app, segment);
+        self.counts.told(answer)
+    }
+
+    fn product_count(&mut self) -> Result<u64, StoreFault> {
+        let answer = reads::product_count(&mut self.conn);
+        self.counts.told(answer)
+    }
+
+    fn lot_count(&mut self) -> Result<u64, StoreFault> {
+        let answer = reads::lot_count(&mut self.conn);
+        self.counts.told(answer)
+    }
+
+    fn batch_count(&mut self) -> Result<u64, StoreFault> {
+        let answer = reads::batch_count(&mut self.conn);
+        self.counts.told(answer)
+    }
+
+    fn session_count(&mut self) -> Result<u64, StoreFault> {
+        let answer = reads::session_count(&mut self.conn);
+        self.counts.told(answer)
+    }
+
+    fn batch_totals(&mut self, batch: &Name) -> Result<BatchTotals, StoreFault> {
+        let answer = reads::batch_totals(&mut self.conn, batch);
+        self.counts.told(answer)
+    }
+
+    fn record_lines(&mut self, batch: &Name) -> Result<Vec<RecordLine>, StoreFault> {
+        let answer = reads::record_lines(&mut self.conn, batch);
+        self.counts.told(answer)
+    }
+
+    fn blank_totals(&mut self, product: &Name) -> Result<BlankTotals, StoreFault> {
+        let answer = reads::blank_totals(&mut self.conn, product);
+        self.counts.told(answer)
+    }
+
+    fn kept(&mut self, client: &Name, number: u64) -> Result<Option<KeptReply>, StoreFault> {
+        let answer = reads::kept(&mut self.conn, client, number);
+        self.counts.told(answer)
+    }
+
+    fn mark(&mut self, client: &Name) -> Result<u64, StoreFault> {
+        let answer = reads::mark(&mut self.conn, client);
+        self.counts.told(answer)
+    }
+
+    fn commit(
+        &mut self,
+        client: &Name,
+        number: u64,
+        ask: &[u8],
+        status: u16,
+        body: &[u8],
+        change: &Change<'_>,
+    ) -> Result<(), StoreFault> {
+        if number >= LIMIT {
+            return self.counts.told(Err(Error::InvalidQuery));
+        }
+        same_rows_same_contents();
+        let answer = keep(
+            &mut self.conn,
+            self.alloc,
+            client,
+            number,
+            ask,
+            status,
+            body,
+            change,
+        );
+        self.counts.told(answer)
+    }
+
+    fn release(
+        &mut self,
+        client: &Name,
+        number: u64,
+        ask: &[u8],
+        status: u16,
+        body: &[u8],
+        mark: u64,
+    ) -> Result<(), StoreFault> {
+        if number >= LIMIT {
+            return self.counts.told(Err(Error::InvalidQuery));
+        }
+        same_rows_same_contents();
+        let answer = release(
+            &mut self.conn,
+            self.alloc,
+            client,
+            number,
+            ask,
+            status,
+            body,
+            mark,
+        );
+        self.counts.told(answer)
+    }
+}
