@@ -47,12 +47,12 @@ struct Line {
 
 // A run, line by line, and what is told of a number of its set-up that was released.
 #[derive(Drop)]
-pub(crate) struct Run {
+struct Run {
     lines: Vec<Line>,
     released: Vec<u8>,
 }
 
-pub(crate) fn run_of(alloc: Global, story: &Story) -> Result<Run, AllocError> {
+fn run_of(alloc: Global, story: &Story) -> Result<Run, AllocError> {
     let mut lines = Vec::new(alloc);
     for exchanges in [SET_UP.as_slice(), RELEASES.as_slice(), story.exchanges] {
         for exchange in exchanges {
@@ -84,30 +84,14 @@ fn reply(alloc: Global, status: u16, body: &str) -> Result<Vec<u8>, AllocError> 
     Ok(text.into_bytes())
 }
 
-impl Run {
-    pub(crate) fn count(&self) -> usize {
-        self.lines.len()
-    }
-
-    pub(crate) fn message(&self, place: usize) -> &[u8] {
-        self.lines
-            .get(place)
-            .map_or(b"", |line| line.message.as_slice())
-    }
-
-    pub(crate) fn reply(&self, place: usize) -> &[u8] {
-        self.lines
-            .get(place)
-            .map_or(b"", |line| line.reply.as_slice())
-    }
-}
-
 // What the line at this place is told, where so many lines had reached the device before it was sent.
 fn wanted(run: &Run, place: usize, reached: usize) -> &[u8] {
     if place < SET_UP.len() && reached > SET_UP.len() {
         return run.released.as_slice();
     }
-    run.reply(place)
+    run.lines
+        .get(place)
+        .map_or(b"", |line| line.reply.as_slice())
 }
 
 // The messages of these lines.

@@ -24,8 +24,6 @@ mod rows;
 #[cfg(test)]
 mod serving;
 #[cfg(test)]
-mod stops;
-#[cfg(test)]
 mod stories;
 #[cfg(test)]
 mod words;
