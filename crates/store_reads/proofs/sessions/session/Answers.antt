@@ -41,8 +41,8 @@ returns-in_default-3-clause-value g c =
     (shown two three _ _ (rw c.in-Some-2.is at c.in_ok-batch.ensures.found) (λ d sound is. is (c.batches_by_id.ensures.once d.facts s.batch)))
     (shown three four _ _ (rw c.in_default-3.is at c.in_ok-card.ensures.found) (λ d sound is. is (c.records_by_place.ensures.once d.facts s.batch s.place)))
     (λ d sound first second third.
-      no_record (stored_sessions d.facts) (stored_batches d.facts) (stored_records d.facts) id s first c.in-Some-2.batch second third
-      ∙ sym (c.sessions_by_number.ensures.row d.facts id sound.facts))
+    no_record (stored_sessions d.facts) (stored_batches d.facts) (stored_records d.facts) id s first c.in-Some-2.batch second third
+    ∙ sym (c.sessions_by_number.ensures.row d.facts id sound.facts))
 
 pub returns-clause-value : goal.returns-clause-value
 returns-clause-value g c =
@@ -58,5 +58,5 @@ returns-clause-value g c =
     (shown two three _ _ (rw c.in-Some-2.is at c.in_ok-batch.ensures.found) (λ d sound is. is (c.batches_by_id.ensures.once d.facts s.batch)))
     (shown three four _ _ (rw c.in-Some-3.is at c.in_ok-card.ensures.found) (λ d sound is. is (c.records_by_place.ensures.once d.facts s.batch s.place)))
     (λ d sound first second third.
-      session_told (stored_sessions d.facts) (stored_batches d.facts) (stored_records d.facts) id s first c.in-Some-2.batch second c.in-Some-3.card third
-      ∙ sym (c.sessions_by_number.ensures.row d.facts id sound.facts))
+    session_told (stored_sessions d.facts) (stored_batches d.facts) (stored_records d.facts) id s first c.in-Some-2.batch second c.in-Some-3.card third
+    ∙ sym (c.sessions_by_number.ensures.row d.facts id sound.facts))
