@@ -6,11 +6,11 @@ ghost use Rattle.sqlite.specs.Order.{column};
 ghost use Rattle.sqlite.specs.State.{HasCleanDisk, Survives};
 ghost use Rattle.row_reads.specs.CardDecoding.{IsGroupingAt, enc_of, grouping_at, grouping_in};
 ghost use Rattle.row_reads.specs.CardDecoding.{line_of};
-ghost use Rattle.row_reads.specs.CardKeys.{is_grouping_at, is_grouping_of};
 ghost use Rattle.row_reads.specs.Decoding.{blob_in, nat_in};
 ghost use Rattle.row_reads.specs.Extremes.{AreSorted};
 ghost use Rattle.sql_base.specs.Ends.{IsKept};
 ghost use Rattle.sql_rows.specs.Image.{IsImage};
+ghost use Rattle.table_rows.specs.Keys.{is_grouping_at, is_grouping_of};
 ghost use Rattle.table_rows.specs.Tables.{Tables};
 
 use crate::values::{bytes_at, count, number_at};

@@ -24,9 +24,9 @@ use Rattle.job_core.proofs.SoundFacts.{is_for}
 use Rattle.step_laws.specs.Sums.{AreBlankSums, batches_of}
 use Rattle.step_laws.proofs.BlankSums.{blank_sums, by_keys, count_beside, one, sum_by_nothing}
 use Rattle.step_laws.proofs.GoodCards.{count_among}
+use Rattle.table_rows.specs.Keys.{is_batch_for, is_lot_for}
 use Rattle.table_rows.specs.Tables.{StoredBatch, StoredLot}
 use Rattle.rows_of_facts.specs.Image.{batches_by_id, stored_batch, stored_batches, stored_lot, stored_lots}
-use Rattle.rows_answer.specs.Keys.{is_batch_for, is_lot_for}
 use Rattle.rows_answer.specs.Telling.{blanks_of}
 use Rattle.rows_answer.proofs.Finding.{kept_numbered}
 use Rattle.rows_answer.proofs.LineRows.{two_cards}

@@ -6,8 +6,8 @@ use Rattle.job_core.specs.declared.rows.SessionRow.{SessionRow}
 use Rattle.row_reads.specs.declared.records.RecordAt.{RecordAt}
 use Rattle.row_reads.specs.declared.sessions.SessionAt.{SessionAt}
 use Rattle.row_reads.specs.CardDecoding.{record_at, session_at}
+use Rattle.table_rows.specs.Keys.{is_batch, is_batch_named, is_record_at, is_record_named, is_session}
 use Rattle.table_rows.specs.Tables.{StoredBatch, StoredRecord, StoredSession}
-use Rattle.rows_answer.specs.Keys.{is_batch, is_batch_named, is_record_at, is_record_named, is_session}
 use Rattle.rows_answer.specs.Telling.{record_row, session_in, session_of}
 use Rattle.rows_answer.proofs.Finding.{option_map-map}
 

@@ -4,8 +4,8 @@ use Rattle.std.specs.Prelude.{filter, find, option_map}
 use Rattle.row_reads.specs.declared.records.RecordAt.{RecordAt}
 use Rattle.row_reads.specs.CardDecoding.{place_of, record_at}
 use Rattle.row_reads.specs.Extremes.{IsLeastBy}
+use Rattle.table_rows.specs.Keys.{is_batch_named, is_waiting_of}
 use Rattle.table_rows.specs.Tables.{StoredBatch, StoredRecord}
-use Rattle.rows_answer.specs.Keys.{is_batch_named, is_waiting_of}
 use Rattle.rows_answer.specs.Telling.{waiting_in}
 use Rattle.rows_answer.proofs.Finding.{option_map-map}
 use Rattle.store_reads.proofs.Found.{found_none, found_some}
