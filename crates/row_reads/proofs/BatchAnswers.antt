@@ -15,6 +15,7 @@ use Rattle.sql_base.proofs.Selecting.{all_pass}
 use Rattle.sql_base.proofs.Tests.{alone, same_blob, same_text}
 use Rattle.sql_rows.specs.Encoding.{batch_row, blank_row}
 use Rattle.sql_rows.specs.Image.{IsImage}
+use Rattle.sql_rows.proofs.OneImage.{flag_back}
 use Rattle.table_rows.specs.Keys.{is_batch, is_batch_for, is_batch_named, is_batch_with, is_blank}
 use Rattle.table_rows.specs.Tables.{PassesOnce, StoredBatch, Tables}
 use Rattle.row_reads.specs.declared.batches.BatchHead.{BatchHead}
@@ -23,7 +24,7 @@ use Rattle.row_reads.specs.CardTexts.{limit_one}
 use Rattle.row_reads.specs.Extremes.{IsGreatest}
 use Rattle.row_reads.specs.NameTexts.{last_batch_text, batches_of_text, by_batch_product, charged_text, batch_has_text, batch_head_text, id_columns, batch_id_text, batch_name_columns, batch_name_text, by_batch_name, by_bytes, by_id, head_columns}
 use Rattle.row_reads.specs.Telling.{head_of}
-use Rattle.row_reads.proofs.Answering.{flag_back, int_key, text_key}
+use Rattle.row_reads.proofs.Answering.{int_key, text_key}
 use Rattle.row_reads.proofs.Asking.{Asks, all_found, any_found, asked, one_found, tells}
 use Rattle.row_reads.proofs.Sorting.{asked_sorted, greatest_found}
 use Rattle.row_reads.proofs.NameMeanings.{last_batch_asks, batches_of_asks, charged_asks, batch_has_asks, batch_head_asks, batch_id_asks, batch_name_asks}

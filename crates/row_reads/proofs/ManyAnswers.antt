@@ -21,12 +21,13 @@ use Rattle.table_rows.specs.Keys.{is_good_of, is_grouping_at, is_grouping_of, is
 use Rattle.table_rows.specs.Tables.{StoredGrouping, StoredRecord, StoredSession, Tables}
 use Rattle.sql_rows.specs.Encoding.{enc_code, grouping_row, number, record_code, record_row, session_code, session_row}
 use Rattle.sql_rows.specs.Image.{IsImage}
+use Rattle.sql_rows.proofs.OneImage.{enc_back, flag_back}
 use Rattle.row_reads.specs.declared.records.RecordAt.{RecordAt}
-use Rattle.row_reads.specs.CardDecoding.{enc_of, good_at, good_in, grouping_at, grouping_in, line_of, place_of, record_at, record_in}
+use Rattle.row_reads.specs.CardDecoding.{good_at, good_in, grouping_at, grouping_in, line_of, place_of, record_at, record_in}
 use Rattle.row_reads.specs.CardTexts.{by_batch, by_batch_and_place, by_good_batch, by_waiting_batch, good_columns, good_text, grouping_count_text, groupings_text, last_session_text, limit_one, more_grouping_columns, more_record_columns, no_limit, record_columns, records_text, waiting_text}
 use Rattle.row_reads.specs.Decoding.{IsFirst, first_number}
 use Rattle.row_reads.specs.Extremes.{AreSorted, IsGreatest, IsLeastBy}
-use Rattle.row_reads.proofs.Answering.{flag_back, int_key}
+use Rattle.row_reads.proofs.Answering.{int_key}
 use Rattle.row_reads.proofs.Asking.{all_found, asked, count_found, tells}
 use Rattle.row_reads.proofs.CardAnswers.{place_key, record_back}
 use Rattle.row_reads.proofs.CardMeanings.{good_asks, grouping_count_asks, groupings_asks, last_session_asks, records_asks, waiting_asks}
@@ -90,11 +91,6 @@ waiting_found batch old new rows h t image =
     least_found (is_waiting_of batch) (λ r. tells false record_columns params (record_row r)) t.records it.0 it.1 it.2 (λ r. refl) record_in record_at (record_back params) place_of (λ r. refl) rows it.3
 
 -- ---- groupings
-
-enc_back : (e : Enc) → enc_of (enc_code e) ≡ e
-enc_back enc.Plain = refl
-enc_back enc.All = refl
-enc_back enc.Mixed = refl
 
 grouping_back : (params : Row) (g : StoredGrouping) → grouping_in (tells false (col 1 2 ∷ more_grouping_columns) params (grouping_row g)) ≡ grouping_at g
 grouping_back params g = rw (enc_back g.enc, flag_back g.tol) refl

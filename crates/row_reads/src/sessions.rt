@@ -5,10 +5,11 @@ ghost use Rattle.sqlite.specs.Held.{state};
 ghost use Rattle.sqlite.specs.State.{HasCleanDisk, Survives};
 ghost use Rattle.store_data.specs.Cursor.{IsCursor};
 ghost use Rattle.row_reads.specs.CardDecoding.{IsGoodCard, IsSessionAt, cursor_in, good_at};
-ghost use Rattle.row_reads.specs.CardDecoding.{good_in, session_at, session_in, session_state_of};
+ghost use Rattle.row_reads.specs.CardDecoding.{good_in, session_at, session_in};
 ghost use Rattle.row_reads.specs.Decoding.{IsFirst};
 ghost use Rattle.row_reads.specs.Extremes.{IsGreatest};
 ghost use Rattle.sql_base.specs.Ends.{IsKept};
+ghost use Rattle.sql_rows.specs.Decoding.{session_state_of_code};
 ghost use Rattle.sql_rows.specs.Image.{IsImage};
 ghost use Rattle.table_rows.specs.Keys.{is_good_of, is_running_on, is_session};
 ghost use Rattle.table_rows.specs.Tables.{PassesOnce, StoredSession, Tables};
@@ -46,7 +47,7 @@ pub struct GoodCard {
 
 // The state that a number stands for.
 fn session_state(code: u64) -> Result<SessionState, Error>
-    ensures { IfOk result (λ stands. stands ≡ session_state_of code) }
+    ensures { IfOk result (λ stands. stands ≡ session_state_of_code code) }
 {
     match code {
         0 => Ok(SessionState::Running),
