@@ -5,3 +5,5 @@ pub mod ForthSessions
 pub mod ForthTold
 pub mod ForthSound
 pub mod ForthRecords
+pub mod ForthImageLists
+pub mod ForthImage
