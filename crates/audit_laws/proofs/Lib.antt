@@ -1,0 +1,9 @@
+pub mod BackOrder
+pub mod BackKeys
+pub mod BackMoved
+pub mod BackPlaces
+pub mod BackFiles
+pub mod BackSessions
+pub mod BackCounted
+pub mod BackBlanks
+pub mod Back

@@ -1,0 +1,11 @@
+//! What the audit tests of rows is just that they are those of sound contents. Each function does nothing; who calls it has its law.
+ghost use Rattle.job_core.specs.Contents.{AreSound, Contents};
+ghost use Rattle.rows_of_facts.specs.Image.{image};
+ghost use Rattle.table_rows.specs.Tables.{HaveSameRows, Tables};
+ghost use Rattle.audit_laws.specs.Audited.{AreInOrder, IsAudited};
+
+/// The rows of sound contents, in the order of their keys, pass the audit.
+pub fn sound_rows_are_audited()
+    ensures { (c : Contents) (t : Tables) → AreSound c → AreInOrder t → HaveSameRows t (image c)
+        → IsAudited t }
+{}
