@@ -1,44 +1,25 @@
 -- The records and batches of sound facts by their rows: how they stand, and their counters.
-use Rattle.std.proofs.Common.{◌≡◌, ℕ, Bool, true, false, cond, List, length, All, refl, sym, ap, ◌∙◌, subst}
+use Rattle.std.proofs.Common.{◌≡◌, ℕ, true, List, length, All, refl, sym, ap, ◌∙◌, subst}
 use Rattle.std.specs.Prelude.{IsTrue, bytes_eq, count_by}
 use Rattle.std.specs.List.{list_any}
-use Rattle.std.proofs.lemmas.Bool.{or_parts}
 use Rattle.std.proofs.lemmas.List.Elements.{All-map, All-weaker}
-use Rattle.std.proofs.lemmas.List.Folds.{list_all-map, list_any_none}
+use Rattle.std.proofs.lemmas.List.Folds.{list_all-map}
 use Rattle.std.proofs.lemmas.List.Sums.{AllPass-from_list_all}
 use Rattle.std.proofs.lemmas.Option.{get_or_from_slice_get, slice_get_within}
-use Rattle.store_data.proofs.IsPlanLemmas.{All-from_list_any}
 use Rattle.job_core.specs.declared.facts.RecordState.TheVariants as rec
-use Rattle.job_core.specs.declared.facts.SessionState.{SessionState}
 use Rattle.job_core.specs.declared.facts.SessionState.TheVariants as session
 use Rattle.job_core.specs.Accounts.{batch_totals, count_records, count_sessions, record_states}
 use Rattle.job_core.specs.Contents.{Contents}
 use Rattle.job_core.specs.Facts.{Batch, Facts}
-use Rattle.job_core.specs.Sound.{IsSound, IsSoundRecord, has_card}
-use Rattle.job_core.specs.States.{is_batch_finished, is_closed, is_finished, is_good, is_running, is_spoiled, is_withdrawn as is_gone, record_state, records_named, remakes_of, same_record_state, state_by, states_of}
+use Rattle.job_core.specs.Sound.{IsSound, IsSoundRecord}
+use Rattle.job_core.specs.States.{is_batch_finished, is_closed, is_finished, is_spoiled, is_withdrawn as is_gone, record_state, records_named, remakes_of, state_by, states_of}
 use Rattle.table_rows.specs.Tables.{StoredBatch, StoredRecord, Tables}
 use Rattle.rows_of_facts.specs.Image.{batches_by_id, image, place_in, placed_records, records_in, stored_batch, stored_batches, stored_record, stored_records}
+use Rattle.facts_of_rows.proofs.Sets.{withdrawn_stands}
 use Rattle.rows_answer.proofs.RecordRows.{name_at}
 use Rattle.audit_laws.specs.Audited.{IsAuditedBatch, IsAuditedRecord, is_withdrawn, record_states_of, states_at}
-use Rattle.audit_laws.proofs.BackPlaces.{All-joined, IsOwn, IsOwnRecord, batch_record_states, batch_session_states, own_batches, own_records, record_session_states}
-
--- ---- how a withdrawn record stands
-
-without_withdrawal : (good running more : Bool)
-    → same_record_state rec.Withdrawn (cond good rec.Good (cond running rec.Running (cond false rec.Withdrawn (cond more rec.Failed rec.Waiting)))) ≡ false
-without_withdrawal true running more = refl
-without_withdrawal false true more = refl
-without_withdrawal false false true = refl
-without_withdrawal false false false = refl
-
-withdrawn_stands : (states : List SessionState) (withdrawn : Bool) (remakes : ℕ) → IsSoundRecord states withdrawn remakes
-    → same_record_state rec.Withdrawn (state_by states withdrawn remakes) ≡ withdrawn
-withdrawn_stands states true remakes is =
-    let none : All (λ s. has_card s ≡ false) states = All-from_list_any has_card states (is.withdrawn_none refl) in
-    let good : list_any is_good states ≡ false = list_any_none is_good states (All-weaker (λ s. has_card s ≡ false) (λ s. is_good s ≡ false) (λ s miss. (or_parts (is_good s) (is_running s) miss).0) states none) in
-    let running : list_any is_running states ≡ false = list_any_none is_running states (All-weaker (λ s. has_card s ≡ false) (λ s. is_running s ≡ false) (λ s miss. (or_parts (is_good s) (is_running s) miss).1) states none) in
-    rw (good, running) refl
-withdrawn_stands states false remakes is = without_withdrawal (list_any is_good states) (list_any is_running states) _
+use Rattle.audit_laws.proofs.BackPlaces.{IsOwn, IsOwnRecord, batch_record_states, batch_session_states, own_batches, own_records, record_session_states}
+use Rattle.audit_laws.proofs.ForthLists.{All-joined}
 
 -- ---- what holds of each name holds of one that is there
 

@@ -1,9 +1,9 @@
 -- Where the batches, records and sessions of sound facts stand in their image, and what is kept of its rows by ids and places.
-use Rattle.std.proofs.Common.{◌≡◌, ℕ, suc, ◌+◌, ◌<◌, ◌==◌, ◌&&◌, Bool, true, List, [], ◌∷◌, get_or, length, map, All, Some, inl, inr, refl, sym, ap, subst, ◌∙◌, arith}
+use Rattle.std.proofs.Common.{◌≡◌, ℕ, ◌+◌, ◌<◌, ◌==◌, ◌&&◌, Bool, true, List, [], get_or, length, map, All, Some, inl, inr, sym, ap, subst, ◌∙◌, arith}
 use Rattle.std.specs.Prelude.{bytes_eq, filter, slice_get}
-use Rattle.std.specs.List.{enumerate_from, flat_map, list_any}
+use Rattle.std.specs.List.{enumerate_from, list_any}
 use Rattle.std.proofs.lemmas.Bool.{cases_Bool, eqb-true}
-use Rattle.std.proofs.lemmas.List.Elements.{All-append, All-cons, All-head, All-nil, All-tail, All-weaker}
+use Rattle.std.proofs.lemmas.List.Elements.{All-weaker}
 use Rattle.std.proofs.lemmas.List.Folds.{list_any_at}
 use Rattle.std.proofs.lemmas.List.FromFn.{get_or-enumerate_from, length-enumerate_from}
 use Rattle.std.proofs.lemmas.Simd.{map-map}
@@ -27,20 +27,13 @@ use Rattle.rows_answer.proofs.GroupingRows.{place_alike}
 use Rattle.rows_answer.proofs.LineRows.{id_alike}
 use Rattle.rows_answer.proofs.RecordRows.{names_are}
 use Rattle.audit_laws.specs.Audited.{is_session_at, is_session_of}
-
--- ---- lists
-
-pub All-joined : {X Y : Type 0} (P : Y → Type 0) (g : X → List Y) (xs : List X) → All (λ x. All P (g x)) xs → All P (flat_map g xs)
-All-joined P g [] each = All-nil P
-All-joined P g (x ∷ xs) each = All-append P (g x) (flat_map g xs) (All-head (λ y. All P (g y)) x xs each) (All-joined P g xs (All-tail (λ y. All P (g y)) x xs each))
+use Rattle.audit_laws.proofs.ForthLists.{numbered_there}
 
 -- what holds of each in its place
 pub All-placed : {X : Type 0} (P : ℕ × X → Type 0) (n : ℕ) (xs : List X) → ((k : ℕ) (x : X) → slice_get xs k ≡ Some x → P (n + k, x)) → All P (enumerate_from n xs)
-All-placed P n [] each = All-nil P
-All-placed P n (x ∷ xs) each =
-    let here : n + 0 ≡ n = omega arith in
-    All-cons P (n, x) (enumerate_from (n + 1) xs) (subst (λ k. P (k, x)) here (each 0 x refl))
-    (All-placed P (n + 1) xs (λ k y there. let place : n + suc k ≡ n + 1 + k = omega arith in subst (λ i. P (i, y)) place (each (suc k) y there)))
+All-placed {X} P n xs each =
+    All-weaker (λ (e : ℕ × X). (k : ℕ) × (e.0 ≡ n + k) × (slice_get xs k ≡ Some e.1)) P
+    (λ e at. subst (λ i. P (i, e.1)) (sym at.1) (each at.0 e.1 at.2)) (enumerate_from n xs) (numbered_there n xs)
 
 -- ---- batches and their records
 

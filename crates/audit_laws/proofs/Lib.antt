@@ -7,3 +7,10 @@ pub mod BackSessions
 pub mod BackCounted
 pub mod BackBlanks
 pub mod Back
+pub mod ForthBasics
+pub mod ForthLists
+pub mod ForthNames
+pub mod ForthSessions
+pub mod ForthTold
+pub mod ForthSound
+pub mod ForthRecords

@@ -3,4 +3,4 @@
 
 mod laws;
 
-pub use laws::sound_rows_are_audited;
+pub use laws::{audited_rows_are_sound, sound_rows_are_audited};
