@@ -1,10 +1,10 @@
 -- Lists whose ids count up, what is kept of a list, and sums where one alone adds.
 use Rattle.std.proofs.Common.{◌≡◌, ◌≢◌, ℕ, zero, suc, ◌+◌, ◌<◌, ◌==◌, ◌&&◌, ◌||◌, Bool, true, false, cond, List, [], ◌∷◌, length, map, drop, get_or, All, Some, inl, inr, refl, sym, ap, subst, ◌∙◌, arith}
 use Rattle.std.specs.Prelude.{count_by, filter, find, option_map, slice_get, sum_by, unwrap_or}
-use Rattle.std.specs.List.{enumerate_from, flat_map, list_any, range_with_len}
+use Rattle.std.specs.List.{enumerate_from, list_any, range_with_len}
 use Rattle.std.proofs.lemmas.Bool.{cases_Bool, cond-false, cond-true}
 use Rattle.std.proofs.lemmas.Bool.Decides.{nat_tests}
-use Rattle.std.proofs.lemmas.List.Elements.{All-append, All-cons, All-head, All-nil, All-tail, All-weaker}
+use Rattle.std.proofs.lemmas.List.Elements.{All-cons, All-head, All-nil, All-tail}
 use Rattle.std.proofs.lemmas.List.FromFn.{get_or-enumerate_from, length-enumerate_from}
 use Rattle.std.proofs.lemmas.List.Kept.{AllPairs-cons}
 use Rattle.std.proofs.lemmas.List.Sums.{sum_by-cons}
@@ -83,18 +83,6 @@ module _ {X : Type 0} where
       let within = slice_get_within xs k x at in
       subst P (get_or-enumerate_from n xs k (0, x) within ∙ ap (λ y. let e : ℕ × X = (n + k, y) in e) (get_or_from_slice_get xs k x x at))
       (each k (0, x) (omega (arith, within, length-enumerate_from n xs)))
-
-  -- each stands at its number
-  pub numbered_there : (n : ℕ) (xs : List X) → All (λ (e : ℕ × X). (k : ℕ) × (e.0 ≡ n + k) × (slice_get xs k ≡ Some e.1)) (enumerate_from n xs)
-  numbered_there n [] = let none : List X = [] in All-nil (λ (e : ℕ × X). (k : ℕ) × (e.0 ≡ n + k) × (slice_get none k ≡ Some e.1))
-  numbered_there n (x ∷ xs) =
-      All-cons (λ (e : ℕ × X). (k : ℕ) × (e.0 ≡ n + k) × (slice_get (x ∷ xs) k ≡ Some e.1)) (n, x) (enumerate_from (n + 1) xs) (0, omega arith, refl)
-      (All-weaker (λ (e : ℕ × X). (k : ℕ) × (e.0 ≡ n + 1 + k) × (slice_get xs k ≡ Some e.1)) (λ e. (k : ℕ) × (e.0 ≡ n + k) × (slice_get (x ∷ xs) k ≡ Some e.1))
-      (λ e at. (suc at.0, omega (arith, at.1), at.2)) (enumerate_from (n + 1) xs) (numbered_there (n + 1) xs))
-
-pub All-joined : {X Y : Type 0} (P : Y → Type 0) (g : X → List Y) (xs : List X) → All (λ x. All P (g x)) xs → All P (flat_map g xs)
-All-joined P g [] each = All-nil P
-All-joined P g (x ∷ xs) each = All-append P (g x) (flat_map g xs) (All-head (λ y. All P (g y)) x xs each) (All-joined P g xs (All-tail (λ y. All P (g y)) x xs each))
 
 -- ---- what is kept
 

@@ -19,10 +19,11 @@ use Rattle.rows_of_facts.proofs.OneRecord.{has_name, records_once}
 use Rattle.rows_of_facts.proofs.Places.{HasPlace, found_alone, once_of, placed}
 use Rattle.facts_of_rows.specs.Decided.{batch_name, batch_of_row, batch_with, facts_of, found_from, record_name}
 use Rattle.facts_of_rows.proofs.Back.{found_from_is}
+use Rattle.facts_of_rows.proofs.Sets.{All-joined, numbered_there}
 use Rattle.rows_answer.specs.Keys.{is_batch, is_record_at}
 use Rattle.rows_answer.proofs.Finding.{AllPairs-from_map, AllPairs-map, find_passes, number_once, once_joined}
 use Rattle.audit_laws.specs.Audited.{IsAudited, file_keys, file_records, key_of}
-use Rattle.audit_laws.proofs.ForthLists.{All-joined, equal, found_at, found_each, ids_once, numbered_at, numbered_by, numbered_there, same_number}
+use Rattle.audit_laws.proofs.ForthLists.{equal, found_at, found_each, ids_once, numbered_at, numbered_by, same_number}
 
 -- where the record of a key stands
 pub record IsPlaced (t : Tables) (key : ℕ × (ℕ × List ℕ)) : Type 0 where

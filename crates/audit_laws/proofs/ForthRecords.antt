@@ -19,11 +19,12 @@ use Rattle.job_core.proofs.Lists.{find-All, find-None}
 use Rattle.step_laws.proofs.BlankSums.{bytes_eq_either}
 use Rattle.table_rows.specs.Tables.{StoredBatch, StoredRecord, StoredRemake, StoredSession, Tables}
 use Rattle.facts_of_rows.specs.Decided.{batch_name, batch_of_row, closed_rows, contents_of, facts_of, record_name, remade_of_row, withdrawn_of_row, withdrawn_rows}
+use Rattle.facts_of_rows.proofs.Sets.{All-joined}
 use Rattle.rows_answer.specs.Keys.{is_record_at}
 use Rattle.rows_answer.proofs.Finding.{AllPairs-from_map, AllPairs-map, filter_none, find_passes}
 use Rattle.audit_laws.specs.Audited.{IsAudited, IsAuditedBatch, IsAuditedRecord, IsAuditedSession, is_withdrawn, record_states_of, states_at, turns_of}
 use Rattle.audit_laws.proofs.ForthBasics.{IsToldBatch, IsToldRecord}
-use Rattle.audit_laws.proofs.ForthLists.{All-joined, count_alike, equal, sum_none}
+use Rattle.audit_laws.proofs.ForthLists.{count_alike, equal, sum_none}
 use Rattle.audit_laws.proofs.ForthNames.{key_found, named_found, of_record, record_found, record_name_found, record_once, records_placed, same_names}
 use Rattle.audit_laws.proofs.ForthSessions.{kept_states, rec_is}
 use Rattle.audit_laws.proofs.ForthSound.{are_named, are_sessions, record_there}

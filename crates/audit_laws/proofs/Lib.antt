@@ -1,3 +1,12 @@
+pub mod BackOrder
+pub mod BackKeys
+pub mod BackMoved
+pub mod BackPlaces
+pub mod BackFiles
+pub mod BackSessions
+pub mod BackCounted
+pub mod BackBlanks
+pub mod Back
 pub mod ForthBasics
 pub mod ForthLists
 pub mod ForthNames

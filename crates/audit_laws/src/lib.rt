@@ -3,4 +3,4 @@
 
 mod laws;
 
-pub use laws::audited_rows_are_sound;
+pub use laws::{audited_rows_are_sound, sound_rows_are_audited};
