@@ -47,10 +47,13 @@ module _ (c : Contents) (t : Tables) (sound : AreSound c) (ordered : AreInOrder 
   batches = sym (in_order (λ (b : StoredBatch). b.id ∷ []) t.batches _ same.batches ordered.batches (keys.batches_below c.facts))
 
   records : stored_records c.facts ≡ t.records
-  records = sym (in_order (λ (r : StoredRecord). r.batch ∷ r.place ∷ []) t.records _ same.records ordered.records (keys.records_below c.facts))
+  records =
+      sym (in_order (λ (r : StoredRecord). r.batch ∷ r.place ∷ []) t.records _ same.records ordered.records (keys.records_below c.facts))
 
   groupings : stored_groupings c.facts ≡ t.groupings
-  groupings = sym (in_order (λ (g : StoredGrouping). g.batch ∷ g.line ∷ []) t.groupings _ same.groupings ordered.groupings (keys.groupings_below c.facts))
+  groupings =
+      sym (in_order (λ (g : StoredGrouping). g.batch ∷ g.line ∷ []) t.groupings _ same.groupings
+      ordered.groupings (keys.groupings_below c.facts))
 
   sessions_are : stored_sessions c.facts ≡ t.sessions
   sessions_are = sym (in_order (λ (s : StoredSession). s.id ∷ []) t.sessions _ same.sessions ordered.sessions (keys.sessions_below c.facts))
@@ -59,7 +62,9 @@ module _ (c : Contents) (t : Tables) (sound : AreSound c) (ordered : AreInOrder 
   words = sym (in_order (λ (w : StoredWord). w.session ∷ w.place ∷ []) t.words _ same.words ordered.words (keys.words_below c.facts))
 
   remakes : stored_remakes c.facts ≡ t.remakes
-  remakes = sym (in_order (λ (r : StoredRemake). r.batch ∷ r.place ∷ r.turn ∷ []) t.remakes _ same.remakes ordered.remakes (keys.remakes_below c.facts))
+  remakes =
+      sym (in_order (λ (r : StoredRemake). r.batch ∷ r.place ∷ r.turn ∷ []) t.remakes _ same.remakes
+      ordered.remakes (keys.remakes_below c.facts))
 
   pub rows_audited : IsAudited t
   rows_audited =

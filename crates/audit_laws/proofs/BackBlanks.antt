@@ -59,7 +59,8 @@ module _ (c : Contents) (sound : IsSound c.facts) where
       ∙ sym (map-map (λ (s : Session). s.blank) (λ (e : ℕ × Session). e.1) (sessions_by_id f))
       ∙ ap (map (λ (s : Session). s.blank)) (unnumbered 1 f.sessions)
 
-  pub opened_audited : IsPermutation (map serial (opened_rows (stored_blanks f))) (map (λ (s : StoredSession). s.serial) (stored_sessions f))
+  pub opened_audited
+      : IsPermutation (map serial (opened_rows (stored_blanks f))) (map (λ (s : StoredSession). s.serial) (stored_sessions f))
   opened_audited = unmoved _ _ (ap (map serial) rows_opened ∙ map-map serial opened f.sessions ∙ sym blanks_of_sessions)
 
   -- ---- lots
@@ -78,7 +79,9 @@ module _ (c : Contents) (sound : IsSound c.facts) where
   -- ---- blanks
 
   pub blanks_apart : AllPairs (λ (b d : StoredBlank). b.serial ≢ d.serial) (stored_blanks f)
-  blanks_apart = AllPairs-from_map (λ (a b : ℕ). a ≢ b) serial (stored_blanks f) (subst (AllPairs (λ (a b : ℕ). a ≢ b)) (sym (serials_are f)) sound.sessions.charged_once)
+  blanks_apart =
+      let apart : ℕ → ℕ → Type 0 = λ a b. a ≢ b in
+      AllPairs-from_map apart serial (stored_blanks f) (subst (AllPairs apart) (sym (serials_are f)) sound.sessions.charged_once)
 
   lots_named : All (λ (b : StoredBlank). b.lot ≡ lot_name f b.serial) (stored_blanks f)
   unfolding stored_blanks
@@ -87,7 +90,9 @@ module _ (c : Contents) (sound : IsSound c.facts) where
       (All-map (λ (b : StoredBlank). b.lot ≡ lot_name f b.serial) (stored_blank f true) f.discarded (λ k d within. refl))
 
   in_lots : All (λ (b : StoredBlank). IsSome (lot_of f.lots b.serial)) (stored_blanks f)
-  in_lots = All-from_map serial (λ n. IsSome (lot_of f.lots n)) (stored_blanks f) (subst (All (λ n. IsSome (lot_of f.lots n))) (sym (serials_are f)) sound.sessions.charged_lots)
+  in_lots =
+      let has_lot : ℕ → Type 0 = λ n. IsSome (lot_of f.lots n) in
+      All-from_map serial has_lot (stored_blanks f) (subst (All has_lot) (sym (serials_are f)) sound.sessions.charged_lots)
 
   blank_audited : (b : StoredBlank) → b.lot ≡ lot_name f b.serial → IsSome (lot_of f.lots b.serial) → IsAuditedBlank (image c) b
   blank_audited b named some =

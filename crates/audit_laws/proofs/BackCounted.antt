@@ -31,7 +31,8 @@ named_holds P names n each there =
 module _ (f : Facts) (b : List ℕ) where
   finished : IsTrue (is_batch_finished f b) → All (λ state. IsTrue (is_finished state)) (record_states f b)
   unfolding is_batch_finished record_states
-  finished done = AllPass-from_list_all is_finished (record_states f b) (list_all-map is_finished (record_state f b) (records_named f b) ∙ done)
+  finished done =
+      AllPass-from_list_all is_finished (record_states f b) (list_all-map is_finished (record_state f b) (records_named f b) ∙ done)
 
 module _ (c : Contents) (sound : IsSound c.facts) where
   abbrev f : Facts
@@ -51,7 +52,9 @@ module _ (c : Contents) (sound : IsSound c.facts) where
 
     gone : is_gone f e.1.name r.1 ≡ is_withdrawn row
     unfolding record_state
-    gone = sym (withdrawn_stands (states_of f e.1.name r.1) (is_gone f e.1.name r.1) (remakes_of f e.1.name r.1) (sound.told.records e.1.name r.1))
+    gone =
+        let b : List ℕ = e.1.name in
+        sym (withdrawn_stands (states_of f b r.1) (is_gone f b r.1) (remakes_of f b r.1) (sound.told.records b r.1))
 
     stands : record_state f e.1.name r.1 ≡ state_by (states_of f e.1.name r.1) (is_gone f e.1.name r.1) (remakes_of f e.1.name r.1)
     unfolding record_state
@@ -70,7 +73,8 @@ module _ (c : Contents) (sound : IsSound c.facts) where
   records_audited = All-joined (IsAuditedRecord t) (records_in f) (batches_by_id f)
       (All-weaker (IsOwn f) (λ e. All (IsAuditedRecord t) (records_in f e))
       (λ e own. All-map (IsAuditedRecord t) (stored_record f e) (placed_records f e)
-      (All-weaker (IsOwnRecord f e) (λ r. IsAuditedRecord t (stored_record f e r)) (record_audited e) (placed_records f e) (own_records f sound e own)))
+      (All-weaker (IsOwnRecord f e) (λ r. IsAuditedRecord t (stored_record f e r)) (record_audited e) (placed_records f e)
+      (own_records f sound e own)))
       (batches_by_id f) (own_batches f sound))
 
   -- ---- batches
@@ -102,4 +106,6 @@ module _ (c : Contents) (sound : IsSound c.facts) where
 
   pub batches_audited : All (IsAuditedBatch t) (stored_batches f)
   unfolding stored_batches
-  batches_audited = All-map (IsAuditedBatch t) (stored_batch f) (batches_by_id f) (All-weaker (IsOwn f) (λ e. IsAuditedBatch t (stored_batch f e)) batch_audited (batches_by_id f) (own_batches f sound))
+  batches_audited =
+      All-map (IsAuditedBatch t) (stored_batch f) (batches_by_id f)
+      (All-weaker (IsOwn f) (λ e. IsAuditedBatch t (stored_batch f e)) batch_audited (batches_by_id f) (own_batches f sound))

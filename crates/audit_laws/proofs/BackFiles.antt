@@ -23,7 +23,9 @@ use Rattle.audit_laws.proofs.BackPlaces.{All-placed}
 numbers_are : {X Y : Type 0} (number : Y → ℕ) (g : ℕ × X → Y) → ((e : ℕ × X) → number (g e) ≡ e.0) → (n : ℕ) (xs : List X)
     → map number (map g (enumerate_from n xs)) ≡ range_with_len n (length (map g (enumerate_from n xs)))
 numbers_are number g is n [] = refl
-numbers_are number g is n (x ∷ xs) = ap (λ k. k ∷ map number (map g (enumerate_from (n + 1) xs))) (is (n, x)) ∙ ap (λ ks. n ∷ ks) (numbers_are number g is (n + 1) xs)
+numbers_are number g is n (x ∷ xs) =
+    ap (λ k. k ∷ map number (map g (enumerate_from (n + 1) xs))) (is (n, x))
+    ∙ ap (λ ks. n ∷ ks) (numbers_are number g is (n + 1) xs)
 
 module _ (c : Contents) where
   abbrev f : Facts
@@ -70,15 +72,19 @@ module _ (c : Contents) where
   own_words k s there =
       let is_own : StoredWord → Bool = λ w. w.session == 1 + k in
       let sw : StoredWord → ℕ = λ w. w.sw in
-      let others : (n : ℕ) (x : Session) → (n == 1 + k) ≡ false → filter is_own (words_in (n, x)) ≡ [] = λ n x miss. none_pass (word n) is_own (enumerate_from 0 x.words) (λ w. miss) in
+      let others : (n : ℕ) (x : Session) → (n == 1 + k) ≡ false → filter is_own (words_in (n, x)) ≡ [] =
+      λ n x miss. none_pass (word n) is_own (enumerate_from 0 x.words) (λ w. miss) in
       let kept : filter is_own (stored_words f) ≡ filter is_own (words_in (1 + k, s)) =
-      subst (λ o. IsOfOne words_in is_own (1 + k) others o (filter is_own (stored_words f))) there (one_listed words_in is_own (1 + k) others f.sessions 1 k refl) in
-      ap (map sw) (kept ∙ filter_all is_own (words_in (1 + k, s)) (All-map (λ w. is_own w ≡ true) (word (1 + k)) (enumerate_from 0 s.words) (λ i d within. equal_self (1 + k))))
+      subst (λ o. IsOfOne words_in is_own (1 + k) others o (filter is_own (stored_words f))) there
+      (one_listed words_in is_own (1 + k) others f.sessions 1 k refl) in
+      ap (map sw) (kept ∙ filter_all is_own (words_in (1 + k, s))
+      (All-map (λ w. is_own w ≡ true) (word (1 + k)) (enumerate_from 0 s.words) (λ i d within. equal_self (1 + k))))
       ∙ map-map sw (word (1 + k)) (enumerate_from 0 s.words) ∙ unnumbered 0 s.words
 
   pub words_placed : stored_words f ≡ flat_map (placed_words (image c)) (stored_sessions f)
   unfolding stored_words stored_sessions
   words_placed =
       flat_map_same words_in (λ e. placed_words (image c) (stored_session f e)) (sessions_by_id f)
-      (All-placed (λ e. words_in e ≡ placed_words (image c) (stored_session f e)) 1 f.sessions (λ k s there. ap (λ ws. map (word (1 + k)) (enumerate_from 0 ws)) (sym (own_words k s there))))
+      (All-placed (λ e. words_in e ≡ placed_words (image c) (stored_session f e)) 1 f.sessions
+      (λ k s there. ap (λ ws. map (word (1 + k)) (enumerate_from 0 ws)) (sym (own_words k s there))))
       ∙ sym (flat_map-map (placed_words (image c)) (stored_session f) (sessions_by_id f))

@@ -30,7 +30,11 @@ pub mapped_below : {X Y : Type 0} (number : Y → ℕ) (g : ℕ × X → Y) → 
     → AllPairs (λ x y. IsBelow (number x ∷ []) (number y ∷ [])) (map g (enumerate_from n xs))
 mapped_below number g is n xs =
     AllPairs-map (λ x y. IsBelow (number x ∷ []) (number y ∷ [])) g (enumerate_from n xs)
-    (λ i j d before within. let less = numbers_rise n xs i j d before within in let from = is (get_or (enumerate_from n xs) i d) in let to = is (get_or (enumerate_from n xs) j d) in inl (omega arith))
+    (λ i j d before within.
+    let less = numbers_rise n xs i j d before within in
+    let from = is (get_or (enumerate_from n xs) i d) in
+    let to = is (get_or (enumerate_from n xs) j d) in
+    inl (omega arith))
 
 range_rises : (n k : ℕ) → AllPairs (λ a b. a < b) (range_with_len n k)
 range_rises n zero = λ i j d before within. absurd (omega arith)
@@ -82,11 +86,13 @@ module _ (f : Facts) where
   of_batch e = All-flat_map (λ (r : StoredRemake). r.batch ≡ e.0) (remakes_at f e)
       (λ r. All-map (λ (x : StoredRemake). x.batch ≡ e.0) (turn_of e.0 r.0) _ (λ k d within. refl)) (placed_records f e)
 
-  pub remakes_below : AllPairs (λ (x y : StoredRemake). IsBelow (x.batch ∷ x.place ∷ x.turn ∷ []) (y.batch ∷ y.place ∷ y.turn ∷ [])) (stored_remakes f)
+  pub remakes_below
+      : AllPairs (λ (x y : StoredRemake). IsBelow (x.batch ∷ x.place ∷ x.turn ∷ []) (y.batch ∷ y.place ∷ y.turn ∷ [])) (stored_remakes f)
   unfolding stored_remakes
   remakes_below = joined_below (λ (r : StoredRemake). r.batch) (λ r. r.place ∷ r.turn ∷ []) (remakes_in f) of_batch
       (λ e. joined_below (λ (r : StoredRemake). r.place) (λ r. r.turn ∷ []) (remakes_at f e)
       (λ r. All-map (λ (x : StoredRemake). x.place ≡ r.0) (turn_of e.0 r.0) _ (λ k d within. refl))
-      (λ r. AllPairs-map (λ (x y : StoredRemake). IsBelow (x.turn ∷ []) (y.turn ∷ [])) (turn_of e.0 r.0) _ (λ i j d before within. inl (range_rises 1 _ i j d before within)))
+      (λ r. AllPairs-map (λ (x y : StoredRemake). IsBelow (x.turn ∷ []) (y.turn ∷ [])) (turn_of e.0 r.0) _
+      (λ i j d before within. inl (range_rises 1 _ i j d before within)))
       0 _)
       1 f.batches

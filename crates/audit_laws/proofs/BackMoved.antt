@@ -30,7 +30,8 @@ module _ (products others : List Product) (moved : IsPermutation products others
   pub products_moved : AreProducts others
   products_moved = record {
     few = omega (arith, are.few, length_permutation products others moved);
-    once = pairs_moved (λ m n. bytes_eq m n ≡ false) turned _ _ (IsPermutation-map (λ (p : Product). p.code) products others moved) are.once;
+    once = pairs_moved (λ m n. bytes_eq m n ≡ false) turned _ _
+        (IsPermutation-map (λ (p : Product). p.code) products others moved) are.once;
     named = All-permutation (λ (p : Product). IsName p.code) products others moved are.named;
     ranged = All-permutation IsProduct products others moved are.ranged;
   }
@@ -68,7 +69,13 @@ module _ (products others : List Product) (moved : IsPermutation products others
     apart_turned l m (inr high) = inl high
 
     lot_kept : (l : Lot) → IsLot products l → IsLot others l
-    lot_kept l is = record { named = is.named; product = subst (λ o. IsSome o) (product_alike l.product) is.product; least = is.least; most = is.most; range = is.range }
+    lot_kept l is = record {
+      named = is.named;
+      product = subst (λ o. IsSome o) (product_alike l.product) is.product;
+      least = is.least;
+      most = is.most;
+      range = is.range;
+    }
 
     pub lots_moved : AreLots others those
     lots_moved = record {
@@ -81,25 +88,32 @@ module _ (products others : List Product) (moved : IsPermutation products others
     pub lot_alike : (serial : ℕ) → lot_of lots serial ≡ lot_of those serial
     lot_alike serial =
         find_moved (is_in serial) lots those lots_same
-        (at_most_one (is_in serial) lots (λ i j d before within. apart_once serial (get_or lots i d) (get_or lots j d) (these.apart i j d before within)))
+        (at_most_one (is_in serial) lots
+        (λ i j d before within. apart_once serial (get_or lots i d) (get_or lots j d) (these.apart i j d before within)))
 
 -- ---- kept replies and marks
 
 number_turned : (d e : Entry) → is_of_number d e ≡ false → is_of_number e d ≡ false
 number_turned d e differ = false_from_ne_true (is_of_number e d) (λ hit.
     let parts = and_parts (bytes_eq e.client d.client) (e.number == d.number) hit in
-    both_ways (is_of_number d e) differ (and_from (bytes_eq d.client e.client) (d.number == e.number) (bytes_eq_either d.client e.client ∙ parts.0) (eq-eqb d.number e.number (sym (eqb-true e.number d.number parts.1)))))
+    both_ways (is_of_number d e) differ (and_from (bytes_eq d.client e.client) (d.number == e.number)
+    (bytes_eq_either d.client e.client ∙ parts.0)
+    (eq-eqb d.number e.number (sym (eqb-true e.number d.number parts.1)))))
 
-module _ (marks others : List Mark) (moved : IsPermutation marks others) (once : AllPairs (λ (m n : Mark). bytes_eq m.client n.client ≡ false) marks) where
+module _ (marks others : List Mark) (moved : IsPermutation marks others)
+    (once : AllPairs (λ (m n : Mark). bytes_eq m.client n.client ≡ false) marks) where
   pub mark_alike : (client : List ℕ) → mark_of marks client ≡ mark_of others client
   mark_alike client =
       ap (λ o. unwrap_or (option_map (λ (m : Mark). m.upto) o) 0)
-      (find_moved (has_mark client) marks others moved (at_most_one (has_mark client) marks (λ i j d before within. name_alone client _ _ (once i j d before within))))
+      (find_moved (has_mark client) marks others moved
+      (at_most_one (has_mark client) marks (λ i j d before within. name_alone client _ _ (once i j d before within))))
 
 -- ---- rows
 
-module _ (u : Tables) (is : IsAudited u) (products : List Product) (lots : List StoredLot) (blanks : List StoredBlank) (replies : List Entry) (marks : List Mark)
-    (products_same : IsPermutation u.products products) (lots_same : IsPermutation u.lots lots) (blanks_same : IsPermutation u.blanks blanks)
+module _ (u : Tables) (is : IsAudited u)
+    (products : List Product) (lots : List StoredLot) (blanks : List StoredBlank) (replies : List Entry) (marks : List Mark)
+    (products_same : IsPermutation u.products products) (lots_same : IsPermutation u.lots lots)
+    (blanks_same : IsPermutation u.blanks blanks)
     (replies_same : IsPermutation u.replies replies) (marks_same : IsPermutation u.marks marks) where
   abbrev pub with_moved : Tables
   with_moved = record u { products = products; lots = lots; blanks = blanks; replies = replies; marks = marks }
@@ -160,8 +174,13 @@ module _ (u : Tables) (is : IsAudited u) (products : List Product) (lots : List 
   discarded_alike : (p : StoredBlank → Bool) → count_by p (discarded_rows u.blanks) ≡ count_by p (discarded_rows blanks)
   discarded_alike p = count_moved p _ _ (IsPermutation-filter (λ (b : StoredBlank). b.discarded) u.blanks blanks blanks_same)
 
-  opened_same : IsPermutation (map (λ (b : StoredBlank). b.serial) (opened_rows blanks)) (map (λ (b : StoredBlank). b.serial) (opened_rows u.blanks))
-  opened_same = IsPermutation-map (λ (b : StoredBlank). b.serial) _ _ (IsPermutation-filter (λ (b : StoredBlank). not b.discarded) blanks u.blanks (IsPermutation-sym _ _ blanks_same))
+  abbrev serial : StoredBlank → ℕ
+  serial b = b.serial
+
+  opened_same : IsPermutation (map serial (opened_rows blanks)) (map serial (opened_rows u.blanks))
+  opened_same =
+      IsPermutation-map serial _ _
+      (IsPermutation-filter (λ (b : StoredBlank). not b.discarded) blanks u.blanks (IsPermutation-sym _ _ blanks_same))
 
   above_alike : (e : Entry) → is_above u.marks e ≡ is_above marks e
   above_alike e = ap (λ n. nat_lt n e.number) (mark_alike u.marks marks marks_same is.marked_once e.client)
@@ -178,7 +197,11 @@ module _ (u : Tables) (is : IsAudited u) (products : List Product) (lots : List 
     words = is.words;
     each_session = All-weaker (IsAuditedSession u) (IsAuditedSession with_moved) session_moved u.sessions is.each_session;
     machines = is.machines;
-    each_record = All-weaker (IsAuditedRecord u) (IsAuditedRecord with_moved) (λ r of. record { sound = of.sound; state = of.state; spoiled = of.spoiled }) u.records is.each_record;
+    each_record = All-weaker (IsAuditedRecord u) (IsAuditedRecord with_moved) (λ r of. record {
+      sound = of.sound;
+      state = of.state;
+      spoiled = of.spoiled;
+    }) u.records is.each_record;
     remakes = is.remakes;
     each_batch = All-weaker (IsAuditedBatch u) (IsAuditedBatch with_moved) (λ b of. record {
       waiting = of.waiting;
@@ -191,15 +214,23 @@ module _ (u : Tables) (is : IsAudited u) (products : List Product) (lots : List 
       closed = of.closed;
     }) u.batches is.each_batch;
     each_lot = All-permutation (IsAuditedLot with_moved) u.lots lots lots_same
-        (All-weaker (IsAuditedLot u) (IsAuditedLot with_moved) (λ l of. of ∙ discarded_alike (λ (b : StoredBlank). is_in b.serial l.lot)) u.lots is.each_lot);
-    blanks_once = pairs_moved (λ (b c : StoredBlank). b.serial ≢ c.serial) (λ b c differ e. differ (sym e)) u.blanks blanks blanks_same is.blanks_once;
+        (All-weaker (IsAuditedLot u) (IsAuditedLot with_moved)
+        (λ l of. of ∙ discarded_alike (λ (b : StoredBlank). is_in b.serial l.lot)) u.lots is.each_lot);
+    blanks_once = pairs_moved (λ (b c : StoredBlank). b.serial ≢ c.serial) (λ b c differ e. differ (sym e))
+        u.blanks blanks blanks_same is.blanks_once;
     each_blank = All-permutation (IsAuditedBlank with_moved) u.blanks blanks blanks_same
-        (All-weaker (IsAuditedBlank u) (IsAuditedBlank with_moved) (λ b of. record { lot = of.lot; lot_is = sym (found_lot b.serial) ∙ of.lot_is; named = of.named }) u.blanks is.each_blank);
+        (All-weaker (IsAuditedBlank u) (IsAuditedBlank with_moved) (λ b of. record {
+          lot = of.lot;
+          lot_is = sym (found_lot b.serial) ∙ of.lot_is;
+          named = of.named;
+        }) u.blanks is.each_blank);
     opened = IsPermutation-trans _ _ _ opened_same is.opened;
     kept = All-permutation IsEntry u.replies replies replies_same is.kept;
     kept_once = pairs_moved (λ (d e : Entry). is_of_number d e ≡ false) number_turned u.replies replies replies_same is.kept_once;
     marks = All-permutation IsMark u.marks marks marks_same is.marks;
-    marked_once = pairs_moved (λ (m n : Mark). bytes_eq m.client n.client ≡ false) (λ m n. turned m.client n.client) u.marks marks marks_same is.marked_once;
+    marked_once = pairs_moved (λ (m n : Mark). bytes_eq m.client n.client ≡ false) (λ m n. turned m.client n.client)
+        u.marks marks marks_same is.marked_once;
     above = All-permutation (λ (e : Entry). IsTrue (is_above marks e)) u.replies replies replies_same
-        (All-weaker (λ (e : Entry). IsTrue (is_above u.marks e)) (λ (e : Entry). IsTrue (is_above marks e)) (λ e up. subst (λ t. IsTrue t) (above_alike e) up) u.replies is.above);
+        (All-weaker (λ (e : Entry). IsTrue (is_above u.marks e)) (λ (e : Entry). IsTrue (is_above marks e))
+        (λ e up. subst (λ t. IsTrue t) (above_alike e) up) u.replies is.above);
   }

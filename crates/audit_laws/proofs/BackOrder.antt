@@ -61,7 +61,8 @@ module _ {X : Type 0} (Before : X → X → Type 0) (one_way : (x y : X) → Bef
   abbrev AreIn : List X → List X → Type 0
   AreIn xs ys = (z : X) → Contains xs z → Contains ys z
 
-  first_same : (x y : X) (xs ys : List X) → AllPairs Before (x ∷ xs) → AllPairs Before (y ∷ ys) → AreIn (x ∷ xs) (y ∷ ys) → AreIn (y ∷ ys) (x ∷ xs) → x ≡ y
+  first_same : (x y : X) (xs ys : List X) → AllPairs Before (x ∷ xs) → AllPairs Before (y ∷ ys)
+      → AreIn (x ∷ xs) (y ∷ ys) → AreIn (y ∷ ys) (x ∷ xs) → x ≡ y
   first_same x y xs ys left right into back = elim (in_rest x y ys (into x (0, omega arith, refl))) [
     | inl same ↦ sym same
     | inr later ↦ elim (in_rest y x xs (back y (0, omega arith, refl))) [
@@ -85,9 +86,13 @@ module _ {X : Type 0} (Before : X → X → Type 0) (one_way : (x y : X) → Bef
   same_members (x ∷ xs) (y ∷ ys) left right into back =
       let same : x ≡ y = first_same x y xs ys left right into back in
       let here : All (Before x) xs = λ k d within. left 0 (suc k) d (omega arith) (omega arith) in
-      let there : All (Before x) ys = subst (λ z. All (Before z) ys) (sym same) (λ k d within. right 0 (suc k) d (omega arith) (omega arith)) in
-      let rest = same_members xs ys (λ i j d before within. left (suc i) (suc j) d (omega arith) (omega arith)) (λ i j d before within. right (suc i) (suc j) d (omega arith) (omega arith))
-      (rest_in x xs ys here (subst (λ z. AreIn (x ∷ xs) (z ∷ ys)) (sym same) into)) (rest_in x ys xs there (subst (λ z. AreIn (z ∷ ys) (x ∷ xs)) (sym same) back)) in
+      let there : All (Before x) ys =
+      subst (λ z. All (Before z) ys) (sym same) (λ k d within. right 0 (suc k) d (omega arith) (omega arith)) in
+      let rest =
+      same_members xs ys (λ i j d before within. left (suc i) (suc j) d (omega arith) (omega arith))
+      (λ i j d before within. right (suc i) (suc j) d (omega arith) (omega arith))
+      (rest_in x xs ys here (subst (λ z. AreIn (x ∷ xs) (z ∷ ys)) (sym same) into))
+      (rest_in x ys xs there (subst (λ z. AreIn (z ∷ ys) (x ∷ xs)) (sym same) back)) in
       ap (λ zs. x ∷ zs) rest ∙ ap (λ z. z ∷ ys) same
 
 -- ---- keys
@@ -142,7 +147,8 @@ module _ {X : Type 0} (key : X → List ℕ) where
 
   pub in_order : (xs ys : List X) → IsPermutation xs ys → AreOrderedBy key xs → AllPairs (λ x y. IsBelow (key x) (key y)) ys → xs ≡ ys
   in_order xs ys same ordered below =
-      let apart : AllPairs (λ x y. key x ≢ key y) xs = pairs_moved (λ x y. key x ≢ key y) (λ x y differ e. differ (sym e)) ys xs (IsPermutation-sym xs ys same)
+      let apart : AllPairs (λ x y. key x ≢ key y) xs =
+      pairs_moved (λ x y. key x ≢ key y) (λ x y differ e. differ (sym e)) ys xs (IsPermutation-sym xs ys same)
       (λ i j d before within. below_apart _ _ (below i j d before within)) in
       same_members IsBefore (λ x y up down. up.1 (one_key (key x) (key y) up.0 down.0)) xs ys
       (λ i j d before within. (ordered i j d before within, apart i j d before within))

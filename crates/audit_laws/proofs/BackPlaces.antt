@@ -30,7 +30,8 @@ use Rattle.rows_answer.proofs.RecordRows.{names_are}
 use Rattle.audit_laws.specs.Audited.{is_session_at, is_session_of}
 
 -- what holds of each in its place
-pub All-placed : {X : Type 0} (P : ℕ × X → Type 0) (n : ℕ) (xs : List X) → ((k : ℕ) (x : X) → slice_get xs k ≡ Some x → P (n + k, x)) → All P (enumerate_from n xs)
+pub All-placed : {X : Type 0} (P : ℕ × X → Type 0) (n : ℕ) (xs : List X)
+    → ((k : ℕ) (x : X) → slice_get xs k ≡ Some x → P (n + k, x)) → All P (enumerate_from n xs)
 All-placed {X} P n xs each =
     All-weaker (λ (e : ℕ × X). (k : ℕ) × (e.0 ≡ n + k) × (slice_get xs k ≡ Some e.1)) P
     (λ e at. subst (λ i. P (i, e.1)) (sym at.1) (each at.0 e.1 at.2)) (enumerate_from n xs) (numbered_there n xs)
@@ -52,7 +53,8 @@ module _ (f : Facts) (sound : IsSound f) where
   own_batches k d within =
       let e : ℕ × Batch = get_or (batches_by_id f) k d in
       let itself = bytes_eq-same e.1.name in
-      (named_alone f e.1.name [] sound k d within itself, eqb-true e.0 (batch_id f.batches e.1.name) (ids f e.1.name [] sound k d within ∙ itself))
+      let b : List ℕ = e.1.name in
+      (named_alone f b [] sound k d within itself, eqb-true e.0 (batch_id f.batches b) (ids f b [] sound k d within ∙ itself))
 
   pub own_records : (e : ℕ × Batch) → IsOwn f e → All (IsOwnRecord f e) (placed_records f e)
   own_records e own k d within =
@@ -60,16 +62,19 @@ module _ (f : Facts) (sound : IsSound f) where
       let r : ℕ × List ℕ = get_or (placed_records f e) k d in
       let inside : k < length names = omega (arith, within, length-enumerate_from 0 names) in
       let name : get_or names k d.1 ≡ r.1 = sym (ap (λ (x : ℕ × List ℕ). x.1) (get_or-enumerate_from 0 names k d inside)) in
-      let there : list_any (bytes_eq r.1) names ≡ true = list_any_at (bytes_eq r.1) names k d.1 inside (ap (bytes_eq r.1) name ∙ bytes_eq-same r.1) in
+      let there : list_any (bytes_eq r.1) names ≡ true =
+      list_any_at (bytes_eq r.1) names k d.1 inside (ap (bytes_eq r.1) name ∙ bytes_eq-same r.1) in
       record {
         batch = own;
         there = ap (list_any (bytes_eq r.1)) (sym (names_are f e.1.name e.1 own.0)) ∙ there;
-        place = eqb-true r.0 (place_in (records_named f e.1.name) r.1) (places_in f e.1.name r.1 sound e own.0 k d within ∙ bytes_eq-same r.1);
+        place = eqb-true r.0 (place_in (records_named f e.1.name) r.1)
+            (places_in f e.1.name r.1 sound e own.0 k d within ∙ bytes_eq-same r.1);
       }
 
   -- ---- the states of sessions
 
-  kept_states : (p : StoredSession → Bool) (q : Session → Bool) → ((k : ℕ) (s : Session) → IsSession f s → p (stored_session f (k, s)) ≡ q s)
+  kept_states : (p : StoredSession → Bool) (q : Session → Bool)
+      → ((k : ℕ) (s : Session) → IsSession f s → p (stored_session f (k, s)) ≡ q s)
       → map (λ (s : StoredSession). s.state) (filter p (stored_sessions f)) ≡ map (session_state f) (filter q f.sessions)
   unfolding stored_sessions
   kept_states p q alike =
@@ -79,7 +84,8 @@ module _ (f : Facts) (sound : IsSound f) where
       ap (map state) (filter-map p (stored_session f) (sessions_by_id f))
       ∙ map-map state (stored_session f) (filter by_row (sessions_by_id f))
       ∙ ap (map (λ (e : ℕ × Session). session_state f e.1)) (filter_alike by_row by_name (sessions_by_id f)
-      (All-weaker (λ (e : ℕ × Session). IsSession f e.1) (λ e. by_row e ≡ by_name e) (λ e is. alike e.0 e.1 is) (sessions_by_id f) (All-numbered (IsSession f) 1 f.sessions sound.sessions.each)))
+      (All-weaker (λ (e : ℕ × Session). IsSession f e.1) (λ e. by_row e ≡ by_name e) (λ e is. alike e.0 e.1 is) (sessions_by_id f)
+      (All-numbered (IsSession f) 1 f.sessions sound.sessions.each)))
       ∙ sym (map-map (session_state f) (λ (e : ℕ × Session). e.1) (filter by_name (sessions_by_id f)))
       ∙ ap (map (session_state f)) (kept_numbered q 1 f.sessions)
 
@@ -87,7 +93,8 @@ module _ (f : Facts) (sound : IsSound f) where
     of_batch : (s : Session) → IsSession f s → (batch_id f.batches s.batch == e.0) ≡ bytes_eq s.batch e.1.name
     of_batch s is = ap (λ id. batch_id f.batches s.batch == id) own.1 ∙ id_alike f s.batch e.1.name is.batch e.1 is.batch_is own.0
 
-    pub batch_session_states : map (λ (s : StoredSession). s.state) (filter (is_session_of e.0) (stored_sessions f)) ≡ session_states f e.1.name
+    pub batch_session_states
+        : map (λ (s : StoredSession). s.state) (filter (is_session_of e.0) (stored_sessions f)) ≡ session_states f e.1.name
     unfolding session_states
     batch_session_states = kept_states (is_session_of e.0) (λ s. bytes_eq s.batch e.1.name) (λ k s is. of_batch s is)
 
@@ -103,7 +110,8 @@ module _ (f : Facts) (sound : IsSound f) where
         ∙ ap (map (record_state f b)) (unnumbered 0 (records_named f b))
 
   module _ (e : ℕ × Batch) (r : ℕ × List ℕ) (own : IsOwnRecord f e r) where
-    of_record : (s : Session) → IsSession f s → ((batch_id f.batches s.batch == e.0) && (place_in (records_named f s.batch) s.rec == r.0)) ≡ is_for e.1.name r.1 s
+    of_record : (s : Session) → IsSession f s
+        → ((batch_id f.batches s.batch == e.0) && (place_in (records_named f s.batch) s.rec == r.0)) ≡ is_for e.1.name r.1 s
     of_record s is =
         let at : Bool = place_in (records_named f s.batch) s.rec == r.0 in
         let names : List (List ℕ) = records_named f e.1.name in
@@ -112,10 +120,14 @@ module _ (f : Facts) (sound : IsSound f) where
           | inl hit ↦
               let mine : s.batch ≡ e.1.name = same-bytes_eq s.batch e.1.name hit in
               let among : IsRecord f e.1.name s.rec = ap (λ n. list_any (bytes_eq s.rec) (records_named f n)) (sym mine) ∙ is.there in
-              ap (λ t. bytes_eq s.batch e.1.name && t) (ap (λ n. place_in (records_named f n) s.rec == r.0) mine ∙ ap (λ k. place_in names s.rec == k) own.place ∙ place_alike names s.rec r.1 among own.there)
+              let by_place : at ≡ bytes_eq s.rec r.1 =
+              ap (λ n. place_in (records_named f n) s.rec == r.0) mine ∙ ap (λ k. place_in names s.rec == k) own.place
+              ∙ place_alike names s.rec r.1 among own.there in
+              ap (λ t. bytes_eq s.batch e.1.name && t) by_place
           | inr miss ↦ ap (λ t. t && at) miss ∙ sym (ap (λ t. t && bytes_eq s.rec r.1) miss)
         ]
 
-    pub record_session_states : map (λ (s : StoredSession). s.state) (filter (is_session_at e.0 r.0) (stored_sessions f)) ≡ states_of f e.1.name r.1
+    pub record_session_states
+        : map (λ (s : StoredSession). s.state) (filter (is_session_at e.0 r.0) (stored_sessions f)) ≡ states_of f e.1.name r.1
     unfolding states_of
     record_session_states = kept_states (is_session_at e.0 r.0) (is_for e.1.name r.1) (λ k s is. of_record s is)

@@ -28,18 +28,24 @@ use Rattle.audit_laws.proofs.BackPlaces.{All-placed}
 
 few_going : (commands : List Command) (words : List ℕ) → going commands words ≤ length words
 few_going commands words = elim (cases_Bool (last_stops commands words)) [
-  | inl stops ↦ let is : going commands words ≡ length words - 1 = cond-true (last_stops commands words) (length words - 1) (length words) stops in omega arith
-  | inr goes ↦ let is : going commands words ≡ length words = cond-false (last_stops commands words) (length words - 1) (length words) goes in omega arith
+  | inl stops ↦
+      let is : going commands words ≡ length words - 1 = cond-true (last_stops commands words) (length words - 1) (length words) stops in
+      omega arith
+  | inr goes ↦
+      let is : going commands words ≡ length words = cond-false (last_stops commands words) (length words - 1) (length words) goes in
+      omega arith
 ]
 
-module _ (f : Facts) (b r : List ℕ) (batch : Batch) (product : Product) (there : batch_named f.batches b ≡ Some batch) (named : product_named f.products batch.product ≡ Some product) where
+module _ (f : Facts) (b r : List ℕ) (batch : Batch) (product : Product)
+    (there : batch_named f.batches b ≡ Some batch) (named : product_named f.products batch.product ≡ Some product) where
   abbrev own_plan : Plan
   own_plan = plan_of product (rows_of_record (rows_of f.products batch) r)
 
   plan_is : plan_for f b r ≡ Some own_plan
   unfolding plan_for
   plan_is =
-      let under : Batch → Option Product → Option Plan = λ x o. option_map (λ (p : Product). plan_of p (rows_of_record (rows_of f.products x) r)) o in
+      let under : Batch → Option Product → Option Plan =
+      λ x o. option_map (λ (p : Product). plan_of p (rows_of_record (rows_of f.products x) r)) o in
       ap (option_and_then (λ (x : Batch). under x (product_named f.products x.product))) there ∙ ap (under batch) named
 
 module _ (f : Facts) (x : Session) (plan : Plan) (is : plan_for f x.batch x.rec ≡ Some plan) where
@@ -47,13 +53,16 @@ module _ (f : Facts) (x : Session) (plan : Plan) (is : plan_for f x.batch x.rec 
   unfolding session_state
   state_is = ap (λ o. state_with (commands_under o) x) is
 
-  cursor_is : IsPlan plan → length x.words ≤ length (commands_of plan) → cursor_at plan (going (commands_of plan) x.words) ≡ Some (session_cursor f x)
+  cursor_is : IsPlan plan → length x.words ≤ length (commands_of plan)
+      → cursor_at plan (going (commands_of plan) x.words) ≡ Some (session_cursor f x)
   unfolding session_cursor
   cursor_is sound few =
       let many : ℕ = going (commands_of plan) x.words in
-      let at = item_there (cursors_of plan) many (omega (arith, few, few_going (commands_of plan) x.words, length-cursors_of plan sound, length-sequence plan)) in
+      let at = item_there (cursors_of plan) many
+      (omega (arith, few, few_going (commands_of plan) x.words, length-cursors_of plan sound, length-sequence plan)) in
       at.1
-      ∙ ap Some (sym (ap (λ o. unwrap_or (option_and_then (λ (p : Plan). cursor_at p (going (commands_of p) x.words)) o) (select_cursor 0)) is
+      ∙ ap Some (sym
+      (ap (λ o. unwrap_or (option_and_then (λ (p : Plan). cursor_at p (going (commands_of p) x.words)) o) (select_cursor 0)) is
       ∙ ap (λ o. unwrap_or o (select_cursor 0)) at.1))
 
 module _ (c : Contents) (sound : IsSound c.facts) where
@@ -63,7 +72,8 @@ module _ (c : Contents) (sound : IsSound c.facts) where
   audited : (k : ℕ) (x : Session) → slice_get f.sessions k ≡ Some x → IsAuditedSession (image c) (stored_session f (1 + k, x))
   audited k x there =
       let is = session_sound f (suc k) x sound there in
-      let of = find-All (λ (b : Batch). bytes_eq b.name x.batch) (IsBatch f.products) f.batches is.batch sound.named.batches.each is.batch_is in
+      let of = find-All (λ (b : Batch). bytes_eq b.name x.batch) (IsBatch f.products) f.batches is.batch
+      sound.named.batches.each is.batch_is in
       let id : ℕ = batch_id f.batches x.batch in
       let plan : Plan = own_plan f x.batch x.rec is.batch of.product is.batch_is of.there in
       let planned : plan_for f x.batch x.rec ≡ Some plan = plan_is f x.batch x.rec is.batch of.product is.batch_is of.there in
@@ -93,7 +103,9 @@ module _ (c : Contents) (sound : IsSound c.facts) where
 
   pub sessions_audited : All (IsAuditedSession (image c)) (stored_sessions f)
   unfolding stored_sessions
-  sessions_audited = All-map (IsAuditedSession (image c)) (stored_session f) _ (All-placed (λ e. IsAuditedSession (image c) (stored_session f e)) 1 f.sessions audited)
+  sessions_audited =
+      All-map (IsAuditedSession (image c)) (stored_session f) _
+      (All-placed (λ e. IsAuditedSession (image c) (stored_session f e)) 1 f.sessions audited)
 
   pub machines_audited : (machine : List ℕ) → count_by (is_running_on machine) (stored_sessions f) ≤ 1
   machines_audited machine = at_most_one (is_running_on machine) (stored_sessions f) (running_once f sound machine)
