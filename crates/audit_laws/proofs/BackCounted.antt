@@ -13,9 +13,10 @@ use Rattle.job_core.specs.Contents.{Contents}
 use Rattle.job_core.specs.Facts.{Batch, Facts}
 use Rattle.job_core.specs.Sound.{IsSound, IsSoundRecord}
 use Rattle.job_core.specs.States.{is_batch_finished, is_closed, is_finished, is_spoiled, is_withdrawn as is_gone, record_state, records_named, remakes_of, state_by, states_of}
+use Rattle.rows_of_facts.proofs.Lists.{All-joined}
 use Rattle.table_rows.specs.Tables.{StoredBatch, StoredRecord, Tables}
 use Rattle.rows_of_facts.specs.Image.{batches_by_id, image, place_in, placed_records, records_in, stored_batch, stored_batches, stored_record, stored_records}
-use Rattle.facts_of_rows.proofs.Sets.{All-joined, withdrawn_stands}
+use Rattle.facts_of_rows.proofs.Sets.{withdrawn_stands}
 use Rattle.rows_answer.proofs.RecordRows.{name_at}
 use Rattle.audit_laws.specs.Audited.{IsAuditedBatch, IsAuditedRecord, is_withdrawn, record_states_of, states_at}
 use Rattle.audit_laws.proofs.BackPlaces.{IsOwn, IsOwnRecord, batch_record_states, batch_session_states, own_batches, own_records, record_session_states}

@@ -16,14 +16,15 @@ use Rattle.job_core.specs.Facts.{Batch, Facts, Session}
 use Rattle.job_core.specs.Sound.{IsRecord, IsSession, IsSound}
 use Rattle.job_core.specs.States.{batch_named, record_state, records_named, records_of, session_state, states_of}
 use Rattle.job_core.proofs.SoundFacts.{is_for}
+use Rattle.table_rows.proofs.Found.{filter_alike}
 use Rattle.table_rows.specs.Tables.{StoredRecord, StoredSession}
 use Rattle.rows_of_facts.specs.Image.{batch_id, batches_by_id, place_in, placed_records, sessions_by_id, stored_record, stored_records, stored_session, stored_sessions}
 use Rattle.rows_of_facts.proofs.Lists.{All-numbered}
 use Rattle.rows_of_facts.proofs.OneRecord.{ids, named_alone, places_in}
 use Rattle.facts_of_rows.proofs.Sets.{numbered_there}
-use Rattle.rows_answer.specs.Keys.{is_record_of}
+use Rattle.table_rows.specs.Keys.{is_record_of}
 use Rattle.rows_answer.proofs.BatchRecords.{rows_of_batch}
-use Rattle.rows_answer.proofs.Finding.{filter_alike, kept_numbered, unnumbered}
+use Rattle.rows_answer.proofs.Finding.{kept_numbered, unnumbered}
 use Rattle.rows_answer.proofs.GroupingRows.{place_alike}
 use Rattle.rows_answer.proofs.LineRows.{id_alike}
 use Rattle.rows_answer.proofs.RecordRows.{names_are}

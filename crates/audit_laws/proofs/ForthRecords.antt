@@ -17,11 +17,12 @@ use Rattle.job_core.specs.Sound.{AreTold, IsRecord, IsSoundRecord}
 use Rattle.job_core.specs.States.{batch_named, is_batch_finished, is_finished, is_record, is_withdrawn as is_gone, record_state, records_named, remakes_of, states_of}
 use Rattle.job_core.proofs.Lists.{find-All, find-None}
 use Rattle.step_laws.proofs.BlankSums.{bytes_eq_either}
+use Rattle.table_rows.proofs.Found.{filter_none, find_passes}
+use Rattle.rows_of_facts.proofs.Lists.{All-joined}
 use Rattle.table_rows.specs.Tables.{StoredBatch, StoredRecord, StoredRemake, StoredSession, Tables}
 use Rattle.facts_of_rows.specs.Decided.{batch_name, batch_of_row, closed_rows, contents_of, facts_of, record_name, remade_of_row, withdrawn_of_row, withdrawn_rows}
-use Rattle.facts_of_rows.proofs.Sets.{All-joined}
-use Rattle.rows_answer.specs.Keys.{is_record_at}
-use Rattle.rows_answer.proofs.Finding.{AllPairs-from_map, AllPairs-map, filter_none, find_passes}
+use Rattle.table_rows.specs.Keys.{is_record_at}
+use Rattle.rows_answer.proofs.Finding.{AllPairs-from_map, AllPairs-map}
 use Rattle.audit_laws.specs.Audited.{IsAudited, IsAuditedBatch, IsAuditedRecord, IsAuditedSession, is_withdrawn, record_states_of, states_at, turns_of}
 use Rattle.audit_laws.proofs.ForthBasics.{IsToldBatch, IsToldRecord}
 use Rattle.audit_laws.proofs.ForthLists.{count_alike, equal, sum_none}

@@ -13,12 +13,13 @@ use Rattle.store_data.specs.Sequence.{Plan, commands_of, plan_of}
 use Rattle.job_core.specs.Facts.{Batch, Facts, Session}
 use Rattle.job_core.specs.States.{batch_named, commands_for, commands_under, going, plan_for, product_named, records_named, records_under, rows_of, rows_of_record, session_cursor, session_state, state_with}
 use Rattle.job_core.proofs.Lists.{map_same}
+use Rattle.table_rows.proofs.Found.{filter_alike}
 use Rattle.table_rows.specs.Tables.{StoredSession, StoredWord, Tables}
 use Rattle.rows_of_facts.specs.Image.{batch_id, place_in, sessions_by_id}
 use Rattle.facts_of_rows.specs.Decided.{batch_name, batch_of_row, facts_of, found_from, record_name, session_of_row, session_with, word_with}
 use Rattle.facts_of_rows.proofs.Back.{found_from_is}
-use Rattle.rows_answer.specs.Keys.{is_batch, is_session}
-use Rattle.rows_answer.proofs.Finding.{filter_all, filter_alike, find-filter, find-map, kept_joined, number_found}
+use Rattle.table_rows.specs.Keys.{is_batch, is_session}
+use Rattle.rows_answer.proofs.Finding.{filter_all, find-filter, find-map, kept_joined, number_found}
 use Rattle.audit_laws.specs.Audited.{IsAudited, IsAuditedSession, file_records, file_rows, key_of, named_session, placed_words, words_of}
 use Rattle.audit_laws.proofs.ForthBasics.{IsToldSession}
 use Rattle.audit_laws.proofs.ForthLists.{equal, found_at, found_each, ids_once, numbered_by}

@@ -18,7 +18,7 @@ use Rattle.job_core.specs.States.{going, is_finished, is_in, is_spoiled, lot_of,
 use Rattle.table_rows.specs.Tables.{StoredBatch, StoredBlank, StoredGrouping, StoredLot, StoredRecord, StoredRemake, StoredSession, StoredWord, Tables}
 use Rattle.rows_of_facts.specs.Image.{place_in}
 use Rattle.facts_of_rows.specs.Decided.{batch_name, batch_of_row, discarded_rows, record_name}
-use Rattle.rows_answer.specs.Keys.{is_batch, is_record_at, is_record_of, is_running_on}
+use Rattle.table_rows.specs.Keys.{is_batch, is_record_at, is_record_of, is_running_on}
 
 -- ---- files
 
