@@ -44,7 +44,9 @@ module _ (t : Tables) (audited : IsAudited t) (tells : Tells t) where
 
   lots_same : stored_lots f ≡ t.lots
   unfolding stored_lots
-  lots_same = made_again (stored_lot f) (λ (l : StoredLot). l.lot) t.lots (All-weaker (IsAuditedLot t) (λ l. stored_lot f l.lot ≡ l) lot_again t.lots audited.each_lot)
+  lots_same =
+      made_again (stored_lot f) (λ (l : StoredLot). l.lot) t.lots
+      (All-weaker (IsAuditedLot t) (λ l. stored_lot f l.lot ≡ l) lot_again t.lots audited.each_lot)
 
   -- ---- batches
 
@@ -90,7 +92,8 @@ module _ (t : Tables) (audited : IsAudited t) (tells : Tells t) where
       ap (λ n. map (stored_record f (b.id, under_name n)) file) (sym told.name) ∙ sym (map-map record_by keyed file)
 
   record_again : (r : StoredRecord) → IsToldRecord t r → record_by (key_of r) ≡ r
-  record_again r told = λ i. record { batch = r.batch; place = r.place; name = r.name; state = told.state i; spoiled = told.spoiled i; remakes = told.remakes i }
+  record_again r told =
+      λ i. record { batch = r.batch; place = r.place; name = r.name; state = told.state i; spoiled = told.spoiled i; remakes = told.remakes i }
 
   records_same : stored_records f ≡ t.records
   unfolding stored_records
@@ -98,10 +101,12 @@ module _ (t : Tables) (audited : IsAudited t) (tells : Tells t) where
       ap (flat_map (records_in f)) tells.batches
       ∙ flat_map-map (records_in f) numbered_batch t.batches
       ∙ flat_map_same (λ b. records_in f (numbered_batch b)) (λ b. map record_by (file_keys t b)) t.batches
-      (All-weaker (IsToldBatch t) (λ b. records_in f (numbered_batch b) ≡ map record_by (file_keys t b)) records_of_file t.batches tells.each_batch)
+      (All-weaker (IsToldBatch t)
+      (λ b. records_in f (numbered_batch b) ≡ map record_by (file_keys t b)) records_of_file t.batches tells.each_batch)
       ∙ map_joined record_by (file_keys t) t.batches
       ∙ ap (map record_by) (sym audited.records)
-      ∙ made_again record_by key_of t.records (All-weaker (IsToldRecord t) (λ r. record_by (key_of r) ≡ r) record_again t.records tells.each_record)
+      ∙ made_again record_by key_of t.records
+      (All-weaker (IsToldRecord t) (λ r. record_by (key_of r) ≡ r) record_again t.records tells.each_record)
 
   abbrev remakes_by : ℕ × (ℕ × List ℕ) → List StoredRemake
   remakes_by key = remakes_at f (key.0, under_name (batch_name t key.0)) key.1
@@ -114,7 +119,8 @@ module _ (t : Tables) (audited : IsAudited t) (tells : Tells t) where
 
   turns_again : (r : StoredRecord) → IsToldRecord t r → remakes_by (key_of r) ≡ turns_of r
   turns_again r told =
-      ap (λ n. map (λ turn. let row : StoredRemake = record { batch = r.batch; place = r.place; turn = turn } in row) (range_with_len 1 n)) told.remakes
+      ap (λ n. map (λ turn. let row : StoredRemake = record { batch = r.batch; place = r.place; turn = turn } in row)
+      (range_with_len 1 n)) told.remakes
 
   remakes_same : stored_remakes f ≡ t.remakes
   unfolding stored_remakes
@@ -122,7 +128,8 @@ module _ (t : Tables) (audited : IsAudited t) (tells : Tells t) where
       ap (flat_map (remakes_in f)) tells.batches
       ∙ flat_map-map (remakes_in f) numbered_batch t.batches
       ∙ flat_map_same (λ b. remakes_in f (numbered_batch b)) (λ b. flat_map remakes_by (file_keys t b)) t.batches
-      (All-weaker (IsToldBatch t) (λ b. remakes_in f (numbered_batch b) ≡ flat_map remakes_by (file_keys t b)) remakes_of_file t.batches tells.each_batch)
+      (All-weaker (IsToldBatch t)
+      (λ b. remakes_in f (numbered_batch b) ≡ flat_map remakes_by (file_keys t b)) remakes_of_file t.batches tells.each_batch)
       ∙ flat_joined remakes_by (file_keys t) t.batches
       ∙ ap (flat_map remakes_by) (sym audited.records)
       ∙ flat_map-map remakes_by key_of t.records
@@ -134,7 +141,8 @@ module _ (t : Tables) (audited : IsAudited t) (tells : Tells t) where
 
   groupings_same : stored_groupings f ≡ t.groupings
   unfolding stored_groupings
-  groupings_same = ap (flat_map (groupings_in f)) tells.batches ∙ flat_map-map (groupings_in f) numbered_batch t.batches ∙ sym audited.groupings
+  groupings_same =
+      ap (flat_map (groupings_in f)) tells.batches ∙ flat_map-map (groupings_in f) numbered_batch t.batches ∙ sym audited.groupings
 
   -- ---- sessions and words
 
@@ -165,7 +173,9 @@ module _ (t : Tables) (audited : IsAudited t) (tells : Tells t) where
   -- ---- blanks
 
   blank_again : (b : StoredBlank) → IsAuditedBlank t b → stored_blank f b.discarded b.serial ≡ b
-  blank_again b is = let made : List ℕ → StoredBlank = λ n. record { serial = b.serial; lot = n; discarded = b.discarded } in ap made (ap name_of is.lot_is ∙ is.named)
+  blank_again b is =
+      let made : List ℕ → StoredBlank = λ n. record { serial = b.serial; lot = n; discarded = b.discarded } in
+      ap made (ap name_of is.lot_is ∙ is.named)
 
   out_again : (b : StoredBlank) → IsAuditedBlank t b → b.discarded ≡ true → stored_blank f true b.serial ≡ b
   out_again b is out = ap (λ d. stored_blank f d b.serial) (sym out) ∙ blank_again b is
@@ -178,17 +188,21 @@ module _ (t : Tables) (audited : IsAudited t) (tells : Tells t) where
       in_use false opened = refl
 
   -- the rows that pass, each made again from its serial
-  blanks_again : (p : StoredBlank → Bool) (discarded : Bool) → ((b : StoredBlank) → IsAuditedBlank t b → p b ≡ true → stored_blank f discarded b.serial ≡ b)
+  blanks_again : (p : StoredBlank → Bool) (discarded : Bool)
+      → ((b : StoredBlank) → IsAuditedBlank t b → p b ≡ true → stored_blank f discarded b.serial ≡ b)
       → map (stored_blank f discarded) (map (λ (b : StoredBlank). b.serial) (filter p t.blanks)) ≡ filter p t.blanks
   blanks_again p discarded again =
       made_again (stored_blank f discarded) (λ (b : StoredBlank). b.serial) (filter p t.blanks)
-      (λ k d within. again (get_or (filter p t.blanks) k d) (All-filter p (IsAuditedBlank t) t.blanks audited.each_blank k d within) (filter_passes p t.blanks k d within))
+      (λ k d within. again (get_or (filter p t.blanks) k d) (All-filter p (IsAuditedBlank t) t.blanks audited.each_blank k d within)
+      (filter_passes p t.blanks k d within))
 
   -- the blanks of the sessions
-  blanks_opened : map (λ (s : Session). stored_blank f false s.blank) f.sessions ≡ map (stored_blank f false) (map (λ (s : StoredSession). s.serial) t.sessions)
+  blanks_opened : map (λ (s : Session). stored_blank f false s.blank) f.sessions
+      ≡ map (stored_blank f false) (map (λ (s : StoredSession). s.serial) t.sessions)
   blanks_opened =
       let opened : Session → StoredBlank = λ s. stored_blank f false s.blank in
-      ap (map opened) (sessions_are t audited) ∙ map-map opened (named_session t) t.sessions ∙ sym (map-map (stored_blank f false) (λ (s : StoredSession). s.serial) t.sessions)
+      ap (map opened) (sessions_are t audited) ∙ map-map opened (named_session t) t.sessions
+      ∙ sym (map-map (stored_blank f false) (λ (s : StoredSession). s.serial) t.sessions)
 
   blanks_same : IsPermutation t.blanks (stored_blanks f)
   unfolding stored_blanks
@@ -200,7 +214,8 @@ module _ (t : Tables) (audited : IsAudited t) (tells : Tells t) where
       let opened : IsPermutation (opened_rows t.blanks) of_sessions =
       subst (λ rows. IsPermutation rows of_sessions) (blanks_again is_opened false opened_again)
       (subst (IsPermutation (map (stored_blank f false) (map serial (opened_rows t.blanks)))) (sym blanks_opened)
-      (IsPermutation-map (stored_blank f false) (map serial (opened_rows t.blanks)) (map (λ (s : StoredSession). s.serial) t.sessions) audited.opened)) in
+      (IsPermutation-map (stored_blank f false) (map serial (opened_rows t.blanks))
+      (map (λ (s : StoredSession). s.serial) t.sessions) audited.opened)) in
       IsPermutation-trans t.blanks (opened_rows t.blanks ++ discarded_rows t.blanks) (stored_blanks f)
       (IsPermutation-filter_both is_opened is_out (λ b. twice b.discarded) t.blanks)
       (IsPermutation-append (opened_rows t.blanks) of_sessions (discarded_rows t.blanks) (map (stored_blank f true) f.discarded) opened

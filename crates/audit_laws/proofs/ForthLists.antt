@@ -44,7 +44,8 @@ module _ {X : Type 0} (id : X → ℕ) where
   found_at (x ∷ xs) n (suc j) up =
       let first : id x ≡ n = first_id x xs n up in
       let next : n + suc j ≡ n + 1 + j = omega arith in
-      cond-false (id x == n + suc j) (Some x) (find (λ y. id y == n + suc j) xs) (differs (id x) (n + suc j) (λ same. omega (arith, first, same)))
+      cond-false (id x == n + suc j) (Some x) (find (λ y. id y == n + suc j) xs)
+      (differs (id x) (n + suc j) (λ same. omega (arith, first, same)))
       ∙ ap (λ m. find (λ y. id y == m) xs) next ∙ found_at xs (n + 1) j (other_ids x xs n up)
 
   later_ids : (xs : List X) (n m : ℕ) → CountUp n xs → m < n → All (λ x. (id x == m) ≡ false) xs
@@ -59,7 +60,9 @@ module _ {X : Type 0} (id : X → ℕ) where
   ids_once (x ∷ xs) n m up =
       let first : id x ≡ n = first_id x xs n up in
       AllPairs-cons (λ y z. (id y == m) ≡ true → (id z == m) ≡ false) x xs
-      (λ k d within hit. let same : id x ≡ m = same_number (id x) m hit in later_ids xs (n + 1) m (other_ids x xs n up) (omega (arith, first, same)) k d within)
+      (λ k d within hit.
+      let same : id x ≡ m = same_number (id x) m hit in
+      later_ids xs (n + 1) m (other_ids x xs n up) (omega (arith, first, same)) k d within)
       (ids_once xs (n + 1) m (other_ids x xs n up))
 
   -- each is found by its id
@@ -68,7 +71,8 @@ module _ {X : Type 0} (id : X → ℕ) where
       let x = get_or xs k d in
       found_alone (λ y. id y == id x) xs (once_of (λ y. id y == id x) xs (ids_once xs n (id x) up)) k d within (equal (id x) (id x) refl)
 
-  pub numbered_by : {Y : Type 0} (g : X → Y) (xs : List X) (n : ℕ) → CountUp n xs → enumerate_from n (map g xs) ≡ map (λ x. let e : ℕ × Y = (id x, g x) in e) xs
+  pub numbered_by : {Y : Type 0} (g : X → Y) (xs : List X) (n : ℕ) → CountUp n xs
+      → enumerate_from n (map g xs) ≡ map (λ x. let e : ℕ × Y = (id x, g x) in e) xs
   numbered_by g [] n up = refl
   numbered_by {Y} g (x ∷ xs) n up =
       let more : List (ℕ × Y) = enumerate_from (n + 1) (map g xs) in
@@ -78,7 +82,8 @@ module _ {X : Type 0} (id : X → ℕ) where
 
 module _ {X : Type 0} where
   -- what holds of each with its number holds of the one at a number
-  pub numbered_at : (P : ℕ × X → Type 0) (n : ℕ) (xs : List X) → All P (enumerate_from n xs) → (k : ℕ) (x : X) → slice_get xs k ≡ Some x → P (n + k, x)
+  pub numbered_at : (P : ℕ × X → Type 0) (n : ℕ) (xs : List X) → All P (enumerate_from n xs) → (k : ℕ) (x : X) → slice_get xs k ≡ Some x
+      → P (n + k, x)
   numbered_at P n xs each k x at =
       let within = slice_get_within xs k x at in
       subst P (get_or-enumerate_from n xs k (0, x) within ∙ ap (λ y. let e : ℕ × X = (n + k, y) in e) (get_or_from_slice_get xs k x x at))
@@ -115,7 +120,8 @@ module _ {X : Type 0} (keep at p : X → Bool) where
 -- ---- sums
 
 -- what is made alike of each counts alike
-pub count_alike : {X Y : Type 0} (p : Y → Bool) (g : X → Y) (b : Bool) → ((x : X) → p (g x) ≡ b) → (xs : List X) → count_by p (map g xs) ≡ cond b (length xs) 0
+pub count_alike : {X Y : Type 0} (p : Y → Bool) (g : X → Y) (b : Bool) → ((x : X) → p (g x) ≡ b) → (xs : List X)
+    → count_by p (map g xs) ≡ cond b (length xs) 0
 count_alike p g true same [] = refl
 count_alike p g false same [] = refl
 count_alike p g true same (x ∷ xs) =
@@ -153,6 +159,8 @@ module _ {X : Type 0} (at : X → Bool) (h m : X → ℕ) where
             all ∙ ap m same
         | inr miss ↦
             let none : h y ≡ 0 = here ∙ cond-false {A = ℕ} (at y) (m y) 0 miss in
-            let rest = sum_alone xs x others (λ i j d before within. once (suc i) (suc j) d (omega arith) (omega arith)) (sym (cond-false (at y) (Some y) (find at xs) miss) ∙ found) in
+            let rest =
+            sum_alone xs x others (λ i j d before within. once (suc i) (suc j) d (omega arith) (omega arith))
+            (sym (cond-false (at y) (Some y) (find at xs) miss) ∙ found) in
             omega (arith, sum, none, rest)
       ]

@@ -68,7 +68,8 @@ module _ (t : Tables) (audited : IsAudited t) where
     -- ---- a name of no record
 
     module _ (none : All (λ q. passes q ≡ false) t.records) where
-      no_session : (s : StoredSession) → IsAuditedSession t s → (bytes_eq (batch_name t s.batch) b && bytes_eq (record_name t s.batch s.place) r) ≡ false
+      no_session : (s : StoredSession) → IsAuditedSession t s
+          → (bytes_eq (batch_name t s.batch) b && bytes_eq (record_name t s.batch s.place) r) ≡ false
       no_session s is =
           let key = key_found t audited s.batch s.place is.rec is.rec_is in
           ap (λ n. bytes_eq (batch_name t s.batch) b && bytes_eq n r) (rec_is t audited s is)
@@ -91,10 +92,12 @@ module _ (t : Tables) (audited : IsAudited t) where
       abbrev is_turn : StoredRemake → Bool
       is_turn m = is_record b r (remade_of_row t m)
 
-      no_turns : (q : StoredRecord) → find (is_record_at q.batch q.place) t.records ≡ Some q → passes q ≡ false → count_by is_turn (turns_of q) ≡ 0
+      no_turns : (q : StoredRecord) → find (is_record_at q.batch q.place) t.records ≡ Some q → passes q ≡ false
+          → count_by is_turn (turns_of q) ≡ 0
       no_turns q found other =
           count_alike is_turn (λ turn. let m : StoredRemake = record { batch = q.batch; place = q.place; turn = turn } in m) false
-          (λ turn. ap (λ n. bytes_eq (batch_name t q.batch) b && bytes_eq n r) (record_name_found t audited q.batch q.place q found) ∙ other)
+          (λ turn. ap (λ n. bytes_eq (batch_name t q.batch) b && bytes_eq n r) (record_name_found t audited q.batch q.place q found)
+          ∙ other)
           (range_with_len 1 q.remakes)
 
       no_remakes : remakes_of f b r ≡ 0
@@ -103,7 +106,8 @@ module _ (t : Tables) (audited : IsAudited t) where
           ∙ ap (count_by is_turn) audited.remakes
           ∙ sum_by-flat_map (λ m. cond {A = ℕ} (is_turn m) 1 0) turns_of t.records
           ∙ sum_none passes (λ q. count_by is_turn (turns_of q)) (λ q. 0) t.records
-          (λ k d within. let q = get_or t.records k d in no_turns q (record_found t audited k d within) (none k d within) ∙ sym (nothing (passes q))) none
+          (λ k d within. let q = get_or t.records k d in no_turns q (record_found t audited k d within) (none k d within)
+          ∙ sym (nothing (passes q))) none
         where
           nothing : (hit : Bool) → cond {A = ℕ} hit 0 0 ≡ 0
           nothing true = refl
@@ -112,7 +116,8 @@ module _ (t : Tables) (audited : IsAudited t) where
       none_sound : IsSoundFor b r
       none_sound =
           subst (λ states. IsSoundRecord states (is_gone f b r) (remakes_of f b r)) (sym no_states)
-          (subst (λ gone. IsSoundRecord [] gone (remakes_of f b r)) (sym not_gone) (subst (IsSoundRecord [] false) (sym no_remakes) without_any))
+          (subst (λ gone. IsSoundRecord [] gone (remakes_of f b r)) (sym not_gone)
+          (subst (IsSoundRecord [] false) (sym no_remakes) without_any))
 
     record_sound : IsSoundFor b r
     record_sound = by_found (find passes t.records) refl
@@ -121,27 +126,34 @@ module _ (t : Tables) (audited : IsAudited t) where
         by_found None missing = none_sound (find-None passes t.records missing)
         by_found (Some q) found =
             let parts = and_parts (bytes_eq (batch_name t q.batch) b) (bytes_eq q.name r) (find_passes passes t.records q found) in
-            let sound = own_sound q (find-All passes (IsToldRecord t) t.records q (told_records t audited) found) (find-All passes (IsAuditedRecord t) t.records q audited.each_record found) in
-            subst (λ c. IsSoundFor c r) (same-bytes_eq (batch_name t q.batch) b parts.0) (subst (IsSoundFor (batch_name t q.batch)) (same-bytes_eq q.name r parts.1) sound)
+            let sound =
+            own_sound q (find-All passes (IsToldRecord t) t.records q (told_records t audited) found)
+            (find-All passes (IsAuditedRecord t) t.records q audited.each_record found) in
+            subst (λ c. IsSoundFor c r) (same-bytes_eq (batch_name t q.batch) b parts.0)
+            (subst (IsSoundFor (batch_name t q.batch)) (same-bytes_eq q.name r parts.1) sound)
 
   -- ---- remakes and withdrawals
 
   records_there : All (λ q. IsThere (name_of q)) t.records
   records_there k d within = record_there t audited (get_or t.records k d) (records_placed t audited k d within)
 
-  remade_there : (q : StoredRecord) → find (is_record_at q.batch q.place) t.records ≡ Some q → IsThere (name_of q) → All (λ m. IsThere (remade_of_row t m)) (turns_of q)
+  remade_there : (q : StoredRecord) → find (is_record_at q.batch q.place) t.records ≡ Some q → IsThere (name_of q)
+      → All (λ m. IsThere (remade_of_row t m)) (turns_of q)
   remade_there q found there =
-      All-map (λ m. IsThere (remade_of_row t m)) (λ turn. let m : StoredRemake = record { batch = q.batch; place = q.place; turn = turn } in m) (range_with_len 1 q.remakes)
+      All-map (λ m. IsThere (remade_of_row t m))
+      (λ turn. let m : StoredRemake = record { batch = q.batch; place = q.place; turn = turn } in m) (range_with_len 1 q.remakes)
       (λ k d within. subst (IsRecord f (batch_name t q.batch)) (sym (record_name_found t audited q.batch q.place q found)) there)
 
   remade : All IsThere f.remakes
   remade =
       All-map IsThere (remade_of_row t) t.remakes
       (subst (All (λ m. IsThere (remade_of_row t m))) (sym audited.remakes)
-      (All-joined (λ m. IsThere (remade_of_row t m)) turns_of t.records (λ k d within. remade_there (get_or t.records k d) (record_found t audited k d within) (records_there k d within))))
+      (All-joined (λ m. IsThere (remade_of_row t m)) turns_of t.records
+      (λ k d within. remade_there (get_or t.records k d) (record_found t audited k d within) (records_there k d within))))
 
   withdrawn : All IsThere f.withdrawn
-  withdrawn = All-map IsThere name_of (withdrawn_rows t.records) (All-filter is_withdrawn (λ q. IsThere (name_of q)) t.records records_there)
+  withdrawn =
+      All-map IsThere name_of (withdrawn_rows t.records) (All-filter is_withdrawn (λ q. IsThere (name_of q)) t.records records_there)
 
   abbrev AreApart : StoredRecord → StoredRecord → Type 0
   AreApart q r = is_record (batch_name t r.batch) r.name (name_of q) ≡ false
@@ -151,13 +163,15 @@ module _ (t : Tables) (audited : IsAudited t) where
       let q = get_or t.records i d in
       let r = get_or t.records j d in
       let at : StoredRecord → Bool = is_record_at r.batch r.place in
-      let own : at r ≡ true = and_from (r.batch == r.batch) (r.place == r.place) (equal r.batch r.batch refl) (equal r.place r.place refl) in
+      let own : at r ≡ true =
+      and_from (r.batch == r.batch) (r.place == r.place) (equal r.batch r.batch refl) (equal r.place r.place refl) in
       same_names t audited q r (records_placed t audited i d (omega (arith, before, within))) (records_placed t audited j d within)
       ∙ false_from_ne_true (at q) (λ hit. both_ways (at r) (record_once t audited r.batch r.place i j d before within hit) own)
 
   withdrawn_once : AllPairs (λ (m n : RecordName). is_record n.batch n.rec m ≡ false) f.withdrawn
   withdrawn_once =
-      AllPairs-map (λ (m n : RecordName). is_record n.batch n.rec m ≡ false) name_of (withdrawn_rows t.records) (AllPairs-filter AreApart is_withdrawn t.records records_apart)
+      AllPairs-map (λ (m n : RecordName). is_record n.batch n.rec m ≡ false) name_of (withdrawn_rows t.records)
+      (AllPairs-filter AreApart is_withdrawn t.records records_apart)
 
   -- ---- closed batches
 
@@ -171,11 +185,15 @@ module _ (t : Tables) (audited : IsAudited t) where
   batches_apart i j d before within =
       let Apart : List ℕ → List ℕ → Type 0 = λ m n. bytes_eq m n ≡ false in
       let batch_name_of : Batch → List ℕ = λ b. b.name in
-      let once = AllPairs-from_map (λ (b c : Batch). bytes_eq b.name c.name ≡ false) batch_of_row t.batches (AllPairs-from_map Apart batch_name_of (map batch_of_row t.batches) audited.batches.once) in
+      let once =
+      AllPairs-from_map (λ (b c : Batch). bytes_eq b.name c.name ≡ false) batch_of_row t.batches
+      (AllPairs-from_map Apart batch_name_of (map batch_of_row t.batches) audited.batches.once) in
       bytes_eq_either (get_or t.batches j d).name (get_or t.batches i d).name ∙ once i j d before within
 
   closed_once : AllPairs (λ b c. bytes_eq c b ≡ false) f.closed
-  closed_once = AllPairs-map (λ b c. bytes_eq c b ≡ false) name (closed_rows t.batches) (AllPairs-filter (λ b c. bytes_eq c.name b.name ≡ false) is_closed_row t.batches batches_apart)
+  closed_once =
+      AllPairs-map (λ b c. bytes_eq c b ≡ false) name (closed_rows t.batches)
+      (AllPairs-filter (λ b c. bytes_eq c.name b.name ≡ false) is_closed_row t.batches batches_apart)
 
   closed_there : All (λ b. IsSome (batch_named f.batches b)) f.closed
   closed_there =
@@ -187,13 +205,15 @@ module _ (t : Tables) (audited : IsAudited t) where
   batch_finished : (b : StoredBatch) → b.closed ≡ true → IsToldBatch t b → IsAuditedBatch t b → is_batch_finished f b.name ≡ true
   unfolding is_batch_finished record_states
   batch_finished b hit told is =
-      sym (list_all-map is_finished (record_state f b.name) (records_named f b.name)) ∙ ap (list_all is_finished) told.its_records ∙ list_all-from_AllPass is_finished (record_states_of t b) (is.closed hit)
+      sym (list_all-map is_finished (record_state f b.name) (records_named f b.name)) ∙ ap (list_all is_finished) told.its_records
+      ∙ list_all-from_AllPass is_finished (record_states_of t b) (is.closed hit)
 
   closed : All (λ b. IsTrue (is_batch_finished f b)) f.closed
   closed =
       All-map (λ b. IsTrue (is_batch_finished f b)) name (closed_rows t.batches)
       (λ k d within. batch_finished (get_or (closed_rows t.batches) k d) (filter_passes is_closed_row t.batches k d within)
-      (All-filter is_closed_row (IsToldBatch t) t.batches (told_batches t audited) k d within) (All-filter is_closed_row (IsAuditedBatch t) t.batches audited.each_batch k d within))
+      (All-filter is_closed_row (IsToldBatch t) t.batches (told_batches t audited) k d within)
+      (All-filter is_closed_row (IsAuditedBatch t) t.batches audited.each_batch k d within))
 
   are_told : AreTold f
   are_told = record {

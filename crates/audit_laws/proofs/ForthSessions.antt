@@ -44,12 +44,15 @@ module _ (t : Tables) (audited : IsAudited t) where
   words_kept s found =
       ap (filter (is_word_of s.id)) audited.words
       ∙ kept_joined (is_word_of s.id) (is_session s.id) (placed_words t)
-      (λ x miss. All-map (λ w. is_word_of s.id w ≡ false) (placed_word x.id) (enumerate_from 0 (words_of t.words x.id)) (λ k d within. miss))
+      (λ x miss. All-map (λ w. is_word_of s.id w ≡ false) (placed_word x.id) (enumerate_from 0 (words_of t.words x.id))
+      (λ k d within. miss))
       t.sessions s (ids_once session_id_of t.sessions 1 s.id audited.session_ids) found
       ∙ filter_all (is_word_of s.id) (placed_words t s)
-      (All-map (λ w. is_word_of s.id w ≡ true) (placed_word s.id) (enumerate_from 0 (words_of t.words s.id)) (λ k d within. equal s.id s.id refl))
+      (All-map (λ w. is_word_of s.id w ≡ true) (placed_word s.id) (enumerate_from 0 (words_of t.words s.id))
+      (λ k d within. equal s.id s.id refl))
 
-  word_at : (s : StoredSession) → find (is_session s.id) t.sessions ≡ Some s → (j : ℕ) → word_with t s.id (0 + j) ≡ slice_get (words_of t.words s.id) j
+  word_at : (s : StoredSession) → find (is_session s.id) t.sessions ≡ Some s → (j : ℕ)
+      → word_with t s.id (0 + j) ≡ slice_get (words_of t.words s.id) j
   word_at s found j =
       let number : 0 + j ≡ j = omega arith in
       let words : List ℕ = words_of t.words s.id in
@@ -61,27 +64,35 @@ module _ (t : Tables) (audited : IsAudited t) where
       ∙ ap (option_map (placed_word s.id)) (number_found j j 0 words (omega arith)))
       ∙ back (slice_get words j)
     where
-      back : (o : Option ℕ) → option_map (λ (w : StoredWord). w.sw) (option_map (placed_word s.id) (option_map (λ (x : ℕ). let e : ℕ × ℕ = (j, x) in e) o)) ≡ o
+      back : (o : Option ℕ)
+          → option_map (λ (w : StoredWord). w.sw) (option_map (placed_word s.id) (option_map (λ (x : ℕ). let e : ℕ × ℕ = (j, x) in e) o))
+          ≡ o
       back None = refl
       back (Some x) = refl
 
-  words_are : (s : StoredSession) → IsAuditedSession t s → find (is_session s.id) t.sessions ≡ Some s → found_from (word_with t s.id) 0 s.words ≡ words_of t.words s.id
-  words_are s is found = ap (found_from (word_with t s.id) 0) is.count ∙ found_from_is (word_with t s.id) (words_of t.words s.id) 0 (word_at s found)
+  words_are : (s : StoredSession) → IsAuditedSession t s → find (is_session s.id) t.sessions ≡ Some s
+      → found_from (word_with t s.id) 0 s.words ≡ words_of t.words s.id
+  words_are s is found =
+      ap (found_from (word_with t s.id) 0) is.count ∙ found_from_is (word_with t s.id) (words_of t.words s.id) 0 (word_at s found)
 
   -- ---- the sessions as facts
 
-  session_is : (s : StoredSession) → IsAuditedSession t s → find (is_session s.id) t.sessions ≡ Some s → session_of_row t s ≡ named_session t s
+  session_is : (s : StoredSession) → IsAuditedSession t s → find (is_session s.id) t.sessions ≡ Some s
+      → session_of_row t s ≡ named_session t s
   session_is s is found =
-      let made : List ℕ → Session = λ words. record { machine = s.machine; batch = batch_name t s.batch; rec = record_name t s.batch s.place; blank = s.serial; words = words; ended = s.ended } in
+      let made : List ℕ → Session =
+      λ words. record { machine = s.machine; batch = batch_name t s.batch; rec = record_name t s.batch s.place; blank = s.serial; words = words; ended = s.ended } in
       ap made (words_are s is found)
 
   pub sessions_are : f.sessions ≡ map (named_session t) t.sessions
   sessions_are =
       ap (found_from (session_with t) 1) (sym (length-map t.sessions (session_of_row t)))
       ∙ found_from_is (session_with t) (map (session_of_row t) t.sessions) 1
-      (λ j. ap (option_map (session_of_row t)) (found_at session_id_of t.sessions 1 j audited.session_ids) ∙ sym (slice_get-map (session_of_row t) t.sessions j))
+      (λ j. ap (option_map (session_of_row t)) (found_at session_id_of t.sessions 1 j audited.session_ids)
+      ∙ sym (slice_get-map (session_of_row t) t.sessions j))
       ∙ map_same (session_of_row t) (named_session t) t.sessions
-      (λ k d within. session_is (get_or t.sessions k d) (audited.each_session k d within) (found_each session_id_of t.sessions 1 audited.session_ids k d within))
+      (λ k d within. session_is (get_or t.sessions k d) (audited.each_session k d within)
+      (found_each session_id_of t.sessions 1 audited.session_ids k d within))
 
   pub sessions_numbered : sessions_by_id f ≡ map (λ (s : StoredSession). let e : ℕ × Session = (s.id, named_session t s) in e) t.sessions
   sessions_numbered = ap (enumerate_from 1) sessions_are ∙ numbered_by session_id_of (named_session t) t.sessions 1 audited.session_ids
@@ -96,7 +107,8 @@ module _ (t : Tables) (audited : IsAudited t) where
     rec_is = record_name_found t audited s.batch s.place is.rec is.rec_is
 
     pub batch_there : batch_named f.batches is.batch.name ≡ Some (batch_of_row is.batch)
-    batch_there = of_batch t audited (λ b. batch_named f.batches b.name ≡ Some (batch_of_row b)) s.batch is.batch (named_found t audited) is.batch_is
+    batch_there =
+        of_batch t audited (λ b. batch_named f.batches b.name ≡ Some (batch_of_row b)) s.batch is.batch (named_found t audited) is.batch_is
 
     -- its record stands in its batch
     pub rec_placed : IsPlaced t (key_of is.rec)
@@ -109,7 +121,8 @@ module _ (t : Tables) (audited : IsAudited t) where
     unfolding plan_for
     plan_named =
         let n : List ℕ = is.rec.name in
-        ap (option_and_then (λ (b : Batch). option_map (λ (p : Product). plan_of p (rows_of_record (rows_of t.products b) n)) (product_named t.products b.product))) batch_there
+        ap (option_and_then (λ (b : Batch). option_map (λ (p : Product). plan_of p (rows_of_record (rows_of t.products b) n))
+        (product_named t.products b.product))) batch_there
         ∙ ap (option_map (λ (p : Product). plan_of p (rows_of_record (file_rows t is.batch) n))) is.product_is
         ∙ ap Some (sym is.plan_is)
 
@@ -133,7 +146,9 @@ module _ (t : Tables) (audited : IsAudited t) where
     rec_key = key_found t audited s.batch s.place is.rec is.rec_is
 
     same_batch : rec_placed.batch ≡ is.batch
-    same_batch = let same = sym rec_placed.batch_is ∙ ap (λ id. find (is_batch id) t.batches) rec_key.0 ∙ is.batch_is in same_Some rec_placed.batch is.batch same
+    same_batch =
+        let same = sym rec_placed.batch_is ∙ ap (λ id. find (is_batch id) t.batches) rec_key.0 ∙ is.batch_is in
+        same_Some rec_placed.batch is.batch same
 
     place_is : place_in (records_named f (batch_name t s.batch)) (record_name t s.batch s.place) ≡ s.place
     place_is =
@@ -142,7 +157,8 @@ module _ (t : Tables) (audited : IsAudited t) where
 
     pub told_session : IsToldSession t s
     told_session = record {
-      batch = ap (batch_id f.batches) batch_is ∙ of_batch t audited (λ b. batch_id f.batches b.name ≡ b.id) s.batch is.batch (own_ids t audited) is.batch_is ∙ id_found t audited s.batch is.batch is.batch_is;
+      batch = ap (batch_id f.batches) batch_is ∙ of_batch t audited (λ b. batch_id f.batches b.name ≡ b.id) s.batch is.batch
+          (own_ids t audited) is.batch_is ∙ id_found t audited s.batch is.batch is.batch_is;
       place = place_is;
       state = state_is;
       cursor = cursor_is;
@@ -161,4 +177,5 @@ module _ (t : Tables) (audited : IsAudited t) where
       ∙ map-map (session_state f) named (filter (λ s. p (named s)) t.sessions)
       ∙ ap (map (λ (s : StoredSession). session_state f (named s))) (filter_alike (λ s. p (named s)) q t.sessions alike)
       ∙ map_same (λ s. session_state f (named s)) (λ s. s.state) (filter q t.sessions)
-      (All-filter q (λ s. session_state f (named s) ≡ s.state) t.sessions (All-weaker (IsToldSession t) (λ s. session_state f (named s) ≡ s.state) (λ s told. told.state) t.sessions told_sessions))
+      (All-filter q (λ s. session_state f (named s) ≡ s.state) t.sessions
+      (All-weaker (IsToldSession t) (λ s. session_state f (named s) ≡ s.state) (λ s told. told.state) t.sessions told_sessions))

@@ -28,7 +28,8 @@ use Rattle.audit_laws.proofs.ForthSessions.{batch_is, batch_there, commands_are,
 -- a name is among those where it stands
 named_among : (names : List (List ℕ)) (k : ℕ) (n : List ℕ) → slice_get names k ≡ Some n → list_any (bytes_eq n) names ≡ true
 named_among [] k n at = absurd (none-some n at)
-named_among (m ∷ names) zero n at = or_left (bytes_eq n m) (list_any (bytes_eq n) names) (ap (bytes_eq n) (same_Some m n at) ∙ bytes_eq-same n)
+named_among (m ∷ names) zero n at =
+    or_left (bytes_eq n m) (list_any (bytes_eq n) names) (ap (bytes_eq n) (same_Some m n at) ∙ bytes_eq-same n)
 named_among (m ∷ names) (suc k) n at = or_right (bytes_eq n m) (list_any (bytes_eq n) names) (named_among names k n at)
 
 count_same : {X : Type 0} (p q : X → Bool) (xs : List X) → All (λ x. p x ≡ q x) xs → count_by p xs ≡ count_by q xs
@@ -46,8 +47,10 @@ module _ (t : Tables) (audited : IsAudited t) where
   -- a record that stands in its batch
   pub record_there : (r : StoredRecord) → IsPlaced t (key_of r) → IsRecord f (batch_name t r.batch) r.name
   record_there r at =
-      let named = of_batch t audited (λ b. batch_named f.batches b.name ≡ Some (batch_of_row b)) r.batch at.batch (named_found t audited) at.batch_is in
-      let own : records_named f (batch_name t r.batch) ≡ file_records t at.batch = ap (records_named f) (name_found t audited r.batch at.batch at.batch_is) ∙ ap (records_under t.products) named in
+      let named =
+      of_batch t audited (λ b. batch_named f.batches b.name ≡ Some (batch_of_row b)) r.batch at.batch (named_found t audited) at.batch_is in
+      let own : records_named f (batch_name t r.batch) ≡ file_records t at.batch =
+      ap (records_named f) (name_found t audited r.batch at.batch at.batch_is) ∙ ap (records_under t.products) named in
       ap (list_any (bytes_eq r.name)) own ∙ named_among (file_records t at.batch) r.place r.name at.name_is
 
   -- ---- sessions
@@ -74,17 +77,20 @@ module _ (t : Tables) (audited : IsAudited t) where
   each : All (IsSession f) f.sessions
   each =
       subst (All (IsSession f)) (sym (sessions_are t audited))
-      (All-map (IsSession f) (named_session t) t.sessions (λ k d within. session_sound (get_or t.sessions k d) (audited.each_session k d within)))
+      (All-map (IsSession f) (named_session t) t.sessions
+      (λ k d within. session_sound (get_or t.sessions k d) (audited.each_session k d within)))
 
   machines : (machine : List ℕ) → count_by (runs_on f machine) f.sessions ≤ 1
   machines machine =
       let named : StoredSession → Session = named_session t in
-      let runs : (s : StoredSession) → IsToldSession t s → runs_on f machine (named s) ≡ is_running_on machine s = λ s told. ap (λ state. bytes_eq s.machine machine && is_running state) told.state in
+      let runs : (s : StoredSession) → IsToldSession t s → runs_on f machine (named s) ≡ is_running_on machine s =
+      λ s told. ap (λ state. bytes_eq s.machine machine && is_running state) told.state in
       let same : count_by (runs_on f machine) f.sessions ≡ count_by (is_running_on machine) t.sessions =
       ap (count_by (runs_on f machine)) (sessions_are t audited)
       ∙ sum_by-map (λ x. cond {A = ℕ} (runs_on f machine x) 1 0) named t.sessions
       ∙ count_same (λ s. runs_on f machine (named s)) (is_running_on machine) t.sessions
-      (All-weaker (IsToldSession t) (λ s. runs_on f machine (named s) ≡ is_running_on machine s) runs t.sessions (told_sessions t audited)) in
+      (All-weaker (IsToldSession t) (λ s. runs_on f machine (named s) ≡ is_running_on machine s) runs t.sessions
+      (told_sessions t audited)) in
       omega (arith, same, audited.machines machine)
 
   -- ---- charged blanks
@@ -98,7 +104,8 @@ module _ (t : Tables) (audited : IsAudited t) where
   charges_are : charges f ≡ opened ++ map serial (discarded_rows t.blanks)
   charges_are =
       let blank : Session → ℕ = λ s. s.blank in
-      ap (λ ss. map blank ss ++ f.discarded) (sessions_are t audited) ∙ ap (λ bs. bs ++ f.discarded) (map-map blank (named_session t) t.sessions)
+      ap (λ ss. map blank ss ++ f.discarded) (sessions_are t audited)
+      ∙ ap (λ bs. bs ++ f.discarded) (map-map blank (named_session t) t.sessions)
 
   -- each is that of a row
   charges_counted : (z : ℕ) → count_by (λ a. a == z) (charges f) ≡ count_by (λ (b : StoredBlank). b.serial == z) t.blanks
@@ -106,8 +113,10 @@ module _ (t : Tables) (audited : IsAudited t) where
       let one : ℕ → ℕ = λ a. cond {A = ℕ} (a == z) 1 0 in
       let out : List StoredBlank = discarded_rows t.blanks in
       let in_use : List StoredBlank = opened_rows t.blanks in
-      let moved : count_by (λ a. a == z) (map serial in_use) ≡ count_by (λ a. a == z) opened = count_moved (λ a. a == z) (map serial in_use) opened audited.opened in
-      let all : sum_by one (charges f) ≡ sum_by one opened + sum_by one (map serial out) = ap (sum_by one) charges_are ∙ sum_by-append one opened (map serial out) in
+      let moved : count_by (λ a. a == z) (map serial in_use) ≡ count_by (λ a. a == z) opened =
+      count_moved (λ a. a == z) (map serial in_use) opened audited.opened in
+      let all : sum_by one (charges f) ≡ sum_by one opened + sum_by one (map serial out) =
+      ap (sum_by one) charges_are ∙ sum_by-append one opened (map serial out) in
       let both = sum_by-filter_both (λ (b : StoredBlank). b.discarded) (λ b. not b.discarded) (λ b. refl) (λ b. one b.serial) t.blanks in
       omega (arith, moved, all, both, sum_by-map one serial out, sum_by-map one serial in_use)
 
@@ -121,7 +130,8 @@ module _ (t : Tables) (audited : IsAudited t) where
   charged_once i j d before within same =
       let a : ℕ = get_or (charges f) i d in
       let b : ℕ = get_or (charges f) j d in
-      both_ways (b == a) (once_from_count (λ x. x == a) (charges f) (charges_few a) i j d before within (equal a a refl)) (equal b a (sym same))
+      both_ways (b == a) (once_from_count (λ x. x == a) (charges f) (charges_few a) i j d before within (equal a a refl))
+      (equal b a (sym same))
 
   abbrev HasLot : ℕ → Type 0
   HasLot blank = IsSome (lot_of f.lots blank)
@@ -130,9 +140,12 @@ module _ (t : Tables) (audited : IsAudited t) where
   charged_lots =
       subst (All HasLot) (sym charges_are)
       (All-append HasLot opened (map serial (discarded_rows t.blanks))
-      (All-map HasLot (λ (s : StoredSession). s.serial) t.sessions (All-weaker (IsAuditedSession t) (λ s. HasLot s.serial) (λ s is. subst (λ o. IsSome o) (sym is.lot_is) refl) t.sessions audited.each_session))
+      (All-map HasLot (λ (s : StoredSession). s.serial) t.sessions
+      (All-weaker (IsAuditedSession t) (λ s. HasLot s.serial)
+      (λ s is. subst (λ o. IsSome o) (sym is.lot_is) refl) t.sessions audited.each_session))
       (All-map HasLot serial (discarded_rows t.blanks) (All-filter (λ b. b.discarded) (λ b. HasLot b.serial) t.blanks
-      (All-weaker (IsAuditedBlank t) (λ b. HasLot b.serial) (λ b is. subst (λ o. IsSome o) (sym is.lot_is) refl) t.blanks audited.each_blank))))
+      (All-weaker (IsAuditedBlank t) (λ b. HasLot b.serial)
+      (λ b is. subst (λ o. IsSome o) (sym is.lot_is) refl) t.blanks audited.each_blank))))
 
   pub are_sessions : AreSessions f
   are_sessions = record { each = each; machines = machines; charged_once = charged_once; charged_lots = charged_lots }

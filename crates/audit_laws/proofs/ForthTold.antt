@@ -30,7 +30,8 @@ module _ (t : Tables) (audited : IsAudited t) where
 
   -- ---- a record
 
-  module _ (r : StoredRecord) (placed : IsPlaced t (key_of r)) (found : find (is_record_at r.batch r.place) t.records ≡ Some r) (is : IsAuditedRecord t r) where
+  module _ (r : StoredRecord) (placed : IsPlaced t (key_of r)) (found : find (is_record_at r.batch r.place) t.records ≡ Some r)
+      (is : IsAuditedRecord t r) where
     abbrev at : StoredRecord → Bool
     at = is_record_at r.batch r.place
 
@@ -42,9 +43,12 @@ module _ (t : Tables) (audited : IsAudited t) where
     IsAlike q = (bytes_eq (batch_name t q.batch) batch && bytes_eq q.name r.name) ≡ at q
 
     names_alike : All IsAlike t.records
-    names_alike = All-weaker (λ (q : StoredRecord). IsPlaced t (key_of q)) IsAlike (λ q at_q. same_names t audited q r at_q placed) t.records (records_placed t audited)
+    names_alike =
+        All-weaker (λ (q : StoredRecord). IsPlaced t (key_of q)) IsAlike (λ q at_q. same_names t audited q r at_q placed) t.records
+        (records_placed t audited)
 
-    session_alike : (s : StoredSession) → IsAuditedSession t s → (bytes_eq (batch_name t s.batch) batch && bytes_eq (record_name t s.batch s.place) r.name) ≡ is_session_at r.batch r.place s
+    session_alike : (s : StoredSession) → IsAuditedSession t s
+        → (bytes_eq (batch_name t s.batch) batch && bytes_eq (record_name t s.batch s.place) r.name) ≡ is_session_at r.batch r.place s
     session_alike s a =
         let key = key_found t audited s.batch s.place a.rec a.rec_is in
         ap (λ n. bytes_eq (batch_name t s.batch) batch && bytes_eq n r.name) (rec_is t audited s a)
@@ -62,15 +66,18 @@ module _ (t : Tables) (audited : IsAudited t) where
     withdrawn_is : is_gone f batch r.name ≡ is_withdrawn r
     withdrawn_is =
         list_any-map (is_record batch r.name) (withdrawn_of_row t) (withdrawn_rows t.records)
-        ∙ any_kept is_withdrawn at (λ q. is_record batch r.name (withdrawn_of_row t q)) t.records r names_alike (record_once t audited r.batch r.place) found
+        ∙ any_kept is_withdrawn at (λ q. is_record batch r.name (withdrawn_of_row t q)) t.records r names_alike
+        (record_once t audited r.batch r.place) found
 
     abbrev is_turn : StoredRemake → Bool
     is_turn m = is_record batch r.name (remade_of_row t m)
 
-    turns_counted : (q : StoredRecord) → find (is_record_at q.batch q.place) t.records ≡ Some q → IsAlike q → count_by is_turn (turns_of q) ≡ cond (at q) q.remakes 0
+    turns_counted : (q : StoredRecord) → find (is_record_at q.batch q.place) t.records ≡ Some q → IsAlike q
+        → count_by is_turn (turns_of q) ≡ cond (at q) q.remakes 0
     turns_counted q found_q alike =
         count_alike is_turn (λ turn. let m : StoredRemake = record { batch = q.batch; place = q.place; turn = turn } in m) (at q)
-        (λ turn. ap (λ n. bytes_eq (batch_name t q.batch) batch && bytes_eq n r.name) (record_name_found t audited q.batch q.place q found_q) ∙ alike)
+        (λ turn. ap (λ n. bytes_eq (batch_name t q.batch) batch && bytes_eq n r.name)
+        (record_name_found t audited q.batch q.place q found_q) ∙ alike)
         (range_with_len 1 q.remakes)
         ∙ ap (λ n. cond (at q) n 0) (length-range_with_len 1 q.remakes)
 
@@ -100,11 +107,14 @@ module _ (t : Tables) (audited : IsAudited t) where
     }
 
   pub told_records : All (IsToldRecord t) t.records
-  told_records k d within = told_record (get_or t.records k d) (records_placed t audited k d within) (record_found t audited k d within) (audited.each_record k d within)
+  told_records k d within =
+      told_record (get_or t.records k d) (records_placed t audited k d within) (record_found t audited k d within)
+      (audited.each_record k d within)
 
   -- ---- a batch
 
-  module _ (b : StoredBatch) (found : find (is_batch b.id) t.batches ≡ Some b) (own : batch_id f.batches b.name ≡ b.id) (there : batch_named f.batches b.name ≡ Some (batch_of_row b)) where
+  module _ (b : StoredBatch) (found : find (is_batch b.id) t.batches ≡ Some b) (own : batch_id f.batches b.name ≡ b.id)
+      (there : batch_named f.batches b.name ≡ Some (batch_of_row b)) where
     closed_is : is_closed f b.name ≡ b.closed
     closed_is =
         list_any-map (bytes_eq b.name) (λ (c : StoredBatch). c.name) (closed_rows t.batches)
@@ -139,13 +149,15 @@ module _ (t : Tables) (audited : IsAudited t) where
         ∙ kept_joined is_key_of (is_batch b.id) (file_keys t)
         (λ c miss. All-map (λ key. is_key_of key ≡ false) (key_in c.id) (enumerate_from 0 (file_records t c)) (λ k d within. miss))
         t.batches b (batch_once t audited b.id) found
-        ∙ filter_all is_key_of (file_keys t b) (All-map (λ key. is_key_of key ≡ true) (key_in b.id) (enumerate_from 0 (file_records t b)) (λ k d within. equal b.id b.id refl))
+        ∙ filter_all is_key_of (file_keys t b)
+        (All-map (λ key. is_key_of key ≡ true) (key_in b.id) (enumerate_from 0 (file_records t b)) (λ k d within. equal b.id b.id refl))
 
     -- its rows have the names of its file
     names_are : map (λ (r : StoredRecord). r.name) rows ≡ file_records t b
     names_are =
         let name : ℕ × (ℕ × List ℕ) → List ℕ = λ key. key.1.1 in
-        sym (map-map name key_of rows) ∙ ap (map name) keys_are ∙ map-map name (key_in b.id) (enumerate_from 0 (file_records t b)) ∙ unnumbered 0 (file_records t b)
+        sym (map-map name key_of rows) ∙ ap (map name) keys_are ∙ map-map name (key_in b.id) (enumerate_from 0 (file_records t b))
+        ∙ unnumbered 0 (file_records t b)
 
     row_state : (r : StoredRecord) → (r.batch == b.id) ≡ true → IsToldRecord t r → record_state f b.name r.name ≡ r.state
     row_state r hit told =
@@ -159,10 +171,12 @@ module _ (t : Tables) (audited : IsAudited t) where
         ∙ ap (map (record_state f b.name)) (sym names_are)
         ∙ map-map (record_state f b.name) (λ (r : StoredRecord). r.name) rows
         ∙ map_same (λ (r : StoredRecord). record_state f b.name r.name) (λ (r : StoredRecord). r.state) rows
-        (λ k d within. row_state (get_or rows k d) (filter_passes (is_record_of b.id) t.records k d within) (All-filter (is_record_of b.id) (IsToldRecord t) t.records told_records k d within))
+        (λ k d within. row_state (get_or rows k d) (filter_passes (is_record_of b.id) t.records k d within)
+        (All-filter (is_record_of b.id) (IsToldRecord t) t.records told_records k d within))
 
     told_batch : IsToldBatch t b
-    told_batch = record { name = name_found t audited b.id b found; closed = closed_is; its_records = records_are; its_sessions = sessions_are }
+    told_batch =
+        record { name = name_found t audited b.id b found; closed = closed_is; its_records = records_are; its_sessions = sessions_are }
 
   pub told_batches : All (IsToldBatch t) t.batches
   told_batches k d within =
