@@ -14,15 +14,6 @@ pub wrote_many : {X : Type 0} (R : Database → Database → Type 0) (a b : Stat
 wrote_many R a b (Ok x) well kept = record { well = record { made = well.made; committed = well.committed; inside = λ _. well.inside }; kept = kept }
 wrote_many R a b (Err e) well kept = record { well = tt; kept = kept }
 
--- a part that may have done nothing, and then one that has run
-pub wrote_after : {X : Type 0} (P Q R : Database → Database → Type 0) (a b c : State) (r : Result X Error) → (P a.now b.now → Q b.now c.now → R a.now c.now) → GoesOn P a b → KeepsCommit a b → Wrote Q b c r
-    → Wrote R a c r
-wrote_after P Q R a b c (Ok x) both one kept two = record {
-  well = record { made = both one.made two.well.made; committed = two.well.committed ∙ one.committed; inside = two.well.inside; was_open = kept.was_open two.well.was_open };
-  kept = keeps_then a b c kept two.kept;
-}
-wrote_after P Q R a b c (Err e) both one kept two = record { well = tt; kept = keeps_then a b c kept two.kept }
-
 -- rows that move, and move on
 module _ (f g : Tables → Tables) (a b c : Database) where
   pub moved_on : Moves f a b → Moves g b c → Moves (λ t. g (f t)) a c

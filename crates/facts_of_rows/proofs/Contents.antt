@@ -1,8 +1,9 @@
 -- The rows of sound contents give these back; so contents with the same rows are the same.
 use Rattle.std.proofs.Common.{sym, ◌∙◌}
-use Rattle.std.proofs.lemmas.List.Sorted.{IsPermutation-refl, IsPermutation-sym, IsPermutation-trans}
+use Rattle.std.proofs.lemmas.List.Sorted.{IsPermutation-sym, IsPermutation-trans}
 use Rattle.job_core.specs.Contents.{AreSame, AreSound, Contents}
 use Rattle.table_rows.specs.Tables.{HaveSameRows, Tables}
+use Rattle.table_rows.proofs.Same.{itself}
 use Rattle.rows_of_facts.specs.Image.{image}
 use Rattle.facts_of_rows.specs.Decided.{contents_of}
 use Rattle.facts_of_rows.proofs.Back.{batches_are, sessions_are}
@@ -25,21 +26,6 @@ rows_decide_contents c t sound same = record {
 }
 
 -- ---- two contents
-
-itself : (t : Tables) → HaveSameRows t t
-itself t = record {
-  products = IsPermutation-refl t.products;
-  lots = IsPermutation-refl t.lots;
-  batches = IsPermutation-refl t.batches;
-  records = IsPermutation-refl t.records;
-  groupings = IsPermutation-refl t.groupings;
-  sessions = IsPermutation-refl t.sessions;
-  words = IsPermutation-refl t.words;
-  blanks = IsPermutation-refl t.blanks;
-  remakes = IsPermutation-refl t.remakes;
-  replies = IsPermutation-refl t.replies;
-  marks = IsPermutation-refl t.marks;
-}
 
 -- what is the same as both is the same
 between : (b c d : Contents) → AreSame b c → AreSame b d → AreSame c d

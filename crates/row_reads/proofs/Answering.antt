@@ -19,7 +19,8 @@ use Rattle.sql_base.proofs.Tests.{alone, same_int, same_text}
 use Rattle.table_rows.specs.Tables.{Tables}
 use Rattle.sql_rows.specs.Encoding.{flag, mark_row, number, product_row}
 use Rattle.sql_rows.specs.Image.{IsImage}
-use Rattle.row_reads.specs.Decoding.{IsFirst, first_number, flag_in, product_in}
+use Rattle.sql_rows.proofs.OneImage.{flag_back}
+use Rattle.row_reads.specs.Decoding.{IsFirst, first_number, product_in}
 use Rattle.row_reads.specs.Texts.{by_first_column, mark_columns, mark_text, product_columns, product_text}
 use Rattle.row_reads.proofs.Asking.{asked, one_found, tells}
 use Rattle.row_reads.proofs.Looking.{one_answered}
@@ -32,10 +33,6 @@ text_key key name = alone (is_true (binary (Compare Eq Binary) (Text name) (Text
 -- or a number
 pub int_key : (key n : ℕ) → (is_true (binary (Compare Eq Binary) (Int (pos n)) (Int (pos key))) && true) ≡ (n == key)
 int_key key n = alone (is_true (binary (Compare Eq Binary) (Int (pos n)) (Int (pos key)))) ∙ same_int n key
-
-pub flag_back : (b : Bool) → flag_in (number (flag b)) ≡ b
-flag_back true = refl
-flag_back false = refl
 
 option_same : {X : Type 0} (o : Option X) → option_map (λ x. x) o ≡ o
 option_same None = refl

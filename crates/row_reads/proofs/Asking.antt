@@ -20,8 +20,9 @@ use Rattle.sql_base.proofs.Selecting.{map_map, map_same, passes, selected, shown
 use Rattle.sql_tables.specs.Tables.{our_schema}
 use Rattle.sql_rows.specs.Image.{told}
 use Rattle.table_rows.specs.Tables.{PassesOnce}
+use Rattle.table_rows.proofs.Found.{find_passes}
 use Rattle.row_reads.specs.Decoding.{IsFirst, has_rows}
-use Rattle.row_reads.proofs.Looking.{find_passes, looked_up, one_answered}
+use Rattle.row_reads.proofs.Looking.{looked_up, one_answered}
 
 -- at our schema the text asks for the rows of this tree that pass, each shown so
 pub record Asks (text : List ℕ) (tree : ℕ) (filters project : List Term) : Type 0 where

@@ -14,13 +14,14 @@ use Rattle.job_core.specs.declared.facts.SessionState.{SessionState}
 use Rattle.job_core.specs.declared.facts.SessionState.TheVariants as session
 use Rattle.job_core.specs.States.{is_running}
 use Rattle.sql_base.proofs.Tests.{alone, same_int, same_text}
+use Rattle.table_rows.specs.Keys.{is_record_at, is_record_named, is_running_on, is_session}
 use Rattle.table_rows.specs.Tables.{PassesOnce, StoredRecord, StoredSession, Tables}
 use Rattle.sql_rows.specs.Encoding.{number, record_code, record_row, session_code, session_row}
 use Rattle.sql_rows.specs.Image.{IsImage}
+use Rattle.sql_rows.proofs.OneImage.{record_state_back, session_state_back}
 use Rattle.row_reads.specs.declared.records.RecordAt.{RecordAt}
 use Rattle.row_reads.specs.declared.sessions.SessionAt.{SessionAt}
-use Rattle.row_reads.specs.CardDecoding.{record_at, record_in, record_state_of, session_at, session_in, session_state_of}
-use Rattle.row_reads.specs.CardKeys.{has_id, is_record_at, is_record_named, is_running_on}
+use Rattle.row_reads.specs.CardDecoding.{record_at, record_in, session_at, session_in}
 use Rattle.row_reads.specs.CardTexts.{by_batch_and_name, by_id, by_running_machine, record_at_text, record_columns, record_named_text, running_columns, running_text, session_columns, session_text}
 use Rattle.row_reads.specs.Decoding.{IsFirst, id_in}
 use Rattle.row_reads.specs.NameTexts.{by_two_columns}
@@ -30,20 +31,15 @@ use Rattle.row_reads.proofs.CardMeanings.{record_at_asks, record_named_asks, run
 
 -- ---- sessions
 
-session_state_back : (s : SessionState) → session_state_of (session_code s) ≡ s
-session_state_back session.Running = refl
-session_state_back session.Good = refl
-session_state_back session.Spoiled = refl
-
 session_back : (params : Row) (s : StoredSession) → session_in (tells true session_columns params (session_row s)) ≡ session_at s
 session_back params s = rw (session_state_back s.state) refl
 
 pub session_found : (id : ℕ) (old new : State) (rows : List Row) → Shown session_text (number id ∷ []) old new rows → (t : Tables) → IsImage t old.now
-    → PassesOnce (has_id id) t.sessions → (found : Option SessionAt) → IsFirst (map session_in rows) found → found ≡ option_map session_at (find (has_id id) t.sessions)
+    → PassesOnce (is_session id) t.sessions → (found : Option SessionAt) → IsFirst (map session_in rows) found → found ≡ option_map session_at (find (is_session id) t.sessions)
 session_found id old new rows h t image once found first =
     let params = number id ∷ [] in
-    one_found (has_id id) (λ s. tells true session_columns params (session_row s)) t.sessions rows
-    (asked true session_row by_id session_columns params (has_id id) refl (λ v r. refl) (λ s. int_key id s.id) session_text 12 session_asks old new rows h image.ours t.sessions
+    one_found (is_session id) (λ s. tells true session_columns params (session_row s)) t.sessions rows
+    (asked true session_row by_id session_columns params (is_session id) refl (λ v r. refl) (λ s. int_key id s.id) session_text 12 session_asks old new rows h image.ours t.sessions
     image.each.1.1.1.1.1.1.0.rows)
     session_in session_at once (λ s is. session_back params s) found first
 
@@ -67,13 +63,6 @@ running_found machine old new rows h t image once found first =
     id_in (λ (s : StoredSession). s.id) once (λ s is. refl) found first
 
 -- ---- records
-
-record_state_back : (s : RecordState) → record_state_of (record_code s) ≡ s
-record_state_back rec.Waiting = refl
-record_state_back rec.Running = refl
-record_state_back rec.Failed = refl
-record_state_back rec.Withdrawn = refl
-record_state_back rec.Good = refl
 
 pub record_back : (params : Row) (r : StoredRecord) → record_in (tells false record_columns params (record_row r)) ≡ record_at r
 record_back params r = rw (record_state_back r.state) refl

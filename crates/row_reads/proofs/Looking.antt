@@ -5,7 +5,7 @@ use Rattle.std.specs.List.Sorted.{IsPermutation}
 use Rattle.std.specs.Option.{option_to_list}
 use Rattle.std.proofs.lemmas.Bool.{cases_Bool, cond-false, cond-true}
 use Rattle.std.proofs.lemmas.Option.{none-some, same_Some}
-use Rattle.std.proofs.lemmas.List.Elements.{All-head, All-tail}
+use Rattle.std.proofs.lemmas.List.Elements.{filter_agree}
 use Rattle.std.proofs.lemmas.List.Sorted.{IsPermutation-map, IsPermutation-trans}
 use Rattle.sqlite.specs.Order.{Row}
 use Rattle.sqlite.proofs.Callers.{one_permutation}
@@ -13,10 +13,7 @@ use Rattle.sqlite_keyed.proofs.ListLemmas.{IsPermutation-filter, filter-map}
 use Rattle.sql_base.proofs.Replacing.{nothing_found}
 use Rattle.sql_base.proofs.Selecting.{map_map, map_same}
 use Rattle.table_rows.specs.Tables.{PassesOnce}
-
-filter_same : {X : Type 0} (p q : X → Bool) → ((x : X) → p x ≡ q x) → (xs : List X) → filter p xs ≡ filter q xs
-filter_same p q same [] = refl
-filter_same p q same (x ∷ xs) = rw (same x, filter_same p q same xs) refl
+use Rattle.table_rows.proofs.Found.{filter_none}
 
 -- a stored row is seen with its rowid or without
 module _ {X : Type 0} (encode : X → Row) (view : Row → Row) (hit hit_seen : Row → Bool) (key : X → Bool) (show show_seen : Row → Row) (told : X → Row)
@@ -25,13 +22,13 @@ module _ {X : Type 0} (encode : X → Row) (view : Row → Row) (hit hit_seen : 
   seen : (stored : List Row) → map show (filter hit stored) ≡ map show_seen (filter hit_seen (map view stored))
   seen stored =
       map_same show (λ r. show_seen (view r)) show_is (filter hit stored)
-      ∙ ap (map (λ r. show_seen (view r))) (filter_same hit (λ r. hit_seen (view r)) hit_is stored)
+      ∙ ap (map (λ r. show_seen (view r))) (filter_agree hit (λ r. hit_seen (view r)) hit_is stored)
       ∙ sym (map_map show_seen view (filter (λ r. hit_seen (view r)) stored))
       ∙ sym (ap (map show_seen) (filter-map hit_seen view stored))
 
   encoded : (xs : List X) → map show_seen (filter hit_seen (map encode xs)) ≡ map told (filter key xs)
   encoded xs =
-      ap (map show_seen) (filter-map hit_seen encode xs ∙ ap (map encode) (filter_same (λ x. hit_seen (encode x)) key key_is xs))
+      ap (map show_seen) (filter-map hit_seen encode xs ∙ ap (map encode) (filter_agree (λ x. hit_seen (encode x)) key key_is xs))
       ∙ map_map show_seen encode (filter key xs) ∙ map_same (λ x. show_seen (encode x)) told told_is (filter key xs)
 
   -- what is answered is what the rows with the key tell
@@ -43,24 +40,11 @@ module _ {X : Type 0} (encode : X → Row) (view : Row → Row) (hit hit_seen : 
       (subst (λ zs. IsPermutation zs rows) (seen stored) got)
 
 module _ {X : Type 0} (p : X → Bool) where
-  filter_none : (xs : List X) → All (λ x. p x ≡ false) xs → filter p xs ≡ []
-  filter_none [] none = refl
-  filter_none (x ∷ xs) none =
-      let miss : p x ≡ false = All-head (λ y. p y ≡ false) x xs none in
-      rw miss (filter_none xs (All-tail (λ y. p y ≡ false) x xs none))
-
-  pub find_passes : (xs : List X) (x : X) → find p xs ≡ Some x → p x ≡ true
-  find_passes [] x is = absurd (none-some x is)
-  find_passes (y ∷ xs) x is = elim (cases_Bool (p y)) [
-    | inl hit ↦ ap p (sym (same_Some y x (sym (cond-true (p y) (Some y) (find p xs) hit) ∙ is))) ∙ hit
-    | inr miss ↦ find_passes xs x (sym (cond-false (p y) (Some y) (find p xs) miss) ∙ is)
-  ]
-
   filter_once : (xs : List X) → PassesOnce p xs → filter p xs ≡ option_to_list (find p xs)
   filter_once [] once = refl
   filter_once (x ∷ xs) once = elim (cases_Bool (p x)) [
     | inl hit ↦
-        let none : filter p xs ≡ [] = filter_none xs (λ k d within. once 0 (suc k) d (omega arith) (omega arith) hit) in
+        let none : filter p xs ≡ [] = filter_none p xs (λ k d within. once 0 (suc k) d (omega arith) (omega arith) hit) in
         rw (hit, none) refl
     | inr miss ↦ rw miss (filter_once xs (λ i j d before within. once (suc i) (suc j) d (omega arith) (omega arith)))
   ]

@@ -8,10 +8,10 @@ use Rattle.sqlite.specs.State.{Shown, State}
 use Rattle.sql_base.proofs.Selecting.{all_pass}
 use Rattle.sql_rows.specs.Encoding.{lot_row, product_row}
 use Rattle.sql_rows.specs.Image.{IsImage}
+use Rattle.table_rows.specs.Keys.{is_lot_for, is_lot_named}
 use Rattle.table_rows.specs.Tables.{PassesOnce, StoredLot, Tables}
 use Rattle.row_reads.specs.declared.lots.LotRow.{LotRow}
 use Rattle.row_reads.specs.Decoding.{IsFirst, lot_in, lot_row_in}
-use Rattle.row_reads.specs.Keys.{is_lot_named, is_lot_of}
 use Rattle.row_reads.specs.NameTexts.{first_column, lot_names_text, products_text, by_second_column, lot_columns, lot_row_columns, lot_text, lots_of_text, lots_text}
 use Rattle.row_reads.specs.Telling.{lot_row_of}
 use Rattle.row_reads.specs.Texts.{by_first_column}
@@ -29,11 +29,11 @@ lot_found name old new rows h t image once found first =
     lot_row_in lot_row_of once (λ l is. refl) found first
 
 pub lots_of_found : (product : List ℕ) (old new : State) (rows : List Row) → Shown lots_of_text (Text product ∷ []) old new rows → (t : Tables) → IsImage t old.now
-    → IsPermutation (map lot_row_of (filter (is_lot_of product) t.lots)) (map lot_row_in rows)
+    → IsPermutation (map lot_row_of (filter (is_lot_for product) t.lots)) (map lot_row_in rows)
 lots_of_found product old new rows h t image =
     let params = Text product ∷ [] in
-    all_found (is_lot_of product) (λ l. tells false lot_row_columns params (lot_row l)) t.lots rows
-    (asked false lot_row by_second_column lot_row_columns params (is_lot_of product) refl (λ v r. refl) (λ l. text_key product l.lot.product) lots_of_text 3 lots_of_asks old new rows h image.ours t.lots
+    all_found (is_lot_for product) (λ l. tells false lot_row_columns params (lot_row l)) t.lots rows
+    (asked false lot_row by_second_column lot_row_columns params (is_lot_for product) refl (λ v r. refl) (λ l. text_key product l.lot.product) lots_of_text 3 lots_of_asks old new rows h image.ours t.lots
     image.each.1.1.0.rows)
     lot_row_in lot_row_of (λ l. refl)
 

@@ -17,16 +17,17 @@ use Rattle.job_core.specs.declared.facts.SessionState.{SessionState}
 use Rattle.job_core.specs.declared.facts.SessionState.TheVariants as session
 use Rattle.job_core.specs.States.{is_good, is_waiting}
 use Rattle.sql_base.proofs.Selecting.{all_pass}
+use Rattle.table_rows.specs.Keys.{is_good_of, is_grouping_at, is_grouping_of, is_record_of, is_waiting_of}
 use Rattle.table_rows.specs.Tables.{StoredGrouping, StoredRecord, StoredSession, Tables}
 use Rattle.sql_rows.specs.Encoding.{enc_code, grouping_row, number, record_code, record_row, session_code, session_row}
 use Rattle.sql_rows.specs.Image.{IsImage}
+use Rattle.sql_rows.proofs.OneImage.{enc_back, flag_back}
 use Rattle.row_reads.specs.declared.records.RecordAt.{RecordAt}
-use Rattle.row_reads.specs.CardDecoding.{enc_of, good_at, good_in, grouping_at, grouping_in, line_of, place_of, record_at, record_in}
-use Rattle.row_reads.specs.CardKeys.{is_good_in, is_grouping_at, is_grouping_of, is_record_of, is_waiting_in}
+use Rattle.row_reads.specs.CardDecoding.{good_at, good_in, grouping_at, grouping_in, line_of, place_of, record_at, record_in}
 use Rattle.row_reads.specs.CardTexts.{by_batch, by_batch_and_place, by_good_batch, by_waiting_batch, good_columns, good_text, grouping_count_text, groupings_text, last_session_text, limit_one, more_grouping_columns, more_record_columns, no_limit, record_columns, records_text, waiting_text}
 use Rattle.row_reads.specs.Decoding.{IsFirst, first_number}
 use Rattle.row_reads.specs.Extremes.{AreSorted, IsGreatest, IsLeastBy}
-use Rattle.row_reads.proofs.Answering.{flag_back, int_key}
+use Rattle.row_reads.proofs.Answering.{int_key}
 use Rattle.row_reads.proofs.Asking.{all_found, asked, count_found, tells}
 use Rattle.row_reads.proofs.CardAnswers.{place_key, record_back}
 use Rattle.row_reads.proofs.CardMeanings.{good_asks, grouping_count_asks, groupings_asks, last_session_asks, records_asks, waiting_asks}
@@ -48,15 +49,15 @@ good_code session.Good = refl
 good_code session.Spoiled = refl
 
 good_key : (batch : ℕ) (s : StoredSession)
-    → (is_true (binary (Compare Eq Binary) (number s.batch) (number batch)) && (is_true (binary (Compare Eq Binary) (number (session_code s.state)) (number 1)) && true)) ≡ is_good_in batch s
+    → (is_true (binary (Compare Eq Binary) (number s.batch) (number batch)) && (is_true (binary (Compare Eq Binary) (number (session_code s.state)) (number 1)) && true)) ≡ is_good_of batch s
 good_key batch s = place_key s.batch (session_code s.state) batch 1 ∙ ap (λ b. (s.batch == batch) && b) (good_code s.state)
 
 pub good_found : (batch : ℕ) (old new : State) (rows : List Row) → Shown good_text (number batch ∷ []) old new rows → (t : Tables) → IsImage t old.now
-    → IsPermutation (map good_at (filter (is_good_in batch) t.sessions)) (map good_in rows)
+    → IsPermutation (map good_at (filter (is_good_of batch) t.sessions)) (map good_in rows)
 good_found batch old new rows h t image =
     let params = number batch ∷ [] in
-    all_found (is_good_in batch) (λ s. tells true good_columns params (session_row s)) t.sessions rows
-    (asked true session_row by_good_batch good_columns params (is_good_in batch) refl (λ v r. refl) (good_key batch) good_text 12 good_asks old new rows h image.ours t.sessions
+    all_found (is_good_of batch) (λ s. tells true good_columns params (session_row s)) t.sessions rows
+    (asked true session_row by_good_batch good_columns params (is_good_of batch) refl (λ v r. refl) (good_key batch) good_text 12 good_asks old new rows h image.ours t.sessions
     image.each.1.1.1.1.1.1.0.rows)
     good_in good_at (λ s. refl)
 
@@ -78,23 +79,18 @@ waiting_code rec.Withdrawn = refl
 waiting_code rec.Good = refl
 
 waiting_key : (batch : ℕ) (r : StoredRecord)
-    → (is_true (binary (Compare Eq Binary) (number r.batch) (number batch)) && (is_true (binary (Compare Eq Binary) (number (record_code r.state)) (number 0)) && true)) ≡ is_waiting_in batch r
+    → (is_true (binary (Compare Eq Binary) (number r.batch) (number batch)) && (is_true (binary (Compare Eq Binary) (number (record_code r.state)) (number 0)) && true)) ≡ is_waiting_of batch r
 waiting_key batch r = place_key r.batch (record_code r.state) batch 0 ∙ ap (λ b. (r.batch == batch) && b) (waiting_code r.state)
 
 pub waiting_found : (batch : ℕ) (old new : State) (rows : List Row) → Shown waiting_text (number batch ∷ []) old new rows → (t : Tables) → IsImage t old.now
-    → (found : Option RecordAt) → IsFirst (map record_in rows) found → IsLeastBy place_of (map record_at (filter (is_waiting_in batch) t.records)) found
+    → (found : Option RecordAt) → IsFirst (map record_in rows) found → IsLeastBy place_of (map record_at (filter (is_waiting_of batch) t.records)) found
 waiting_found batch old new rows h t image =
     let params = number batch ∷ [] in
-    let it = asked_sorted false record_row by_waiting_batch (col 1 2) more_record_columns params (is_waiting_in batch) refl (λ v r. refl) (waiting_key batch) false limit_one waiting_text 7
+    let it = asked_sorted false record_row by_waiting_batch (col 1 2) more_record_columns params (is_waiting_of batch) refl (λ v r. refl) (waiting_key batch) false limit_one waiting_text 7
     waiting_asks old new rows h image.ours t.records image.each.1.1.1.1.0.rows in
-    least_found (is_waiting_in batch) (λ r. tells false record_columns params (record_row r)) t.records it.0 it.1 it.2 (λ r. refl) record_in record_at (record_back params) place_of (λ r. refl) rows it.3
+    least_found (is_waiting_of batch) (λ r. tells false record_columns params (record_row r)) t.records it.0 it.1 it.2 (λ r. refl) record_in record_at (record_back params) place_of (λ r. refl) rows it.3
 
 -- ---- groupings
-
-enc_back : (e : Enc) → enc_of (enc_code e) ≡ e
-enc_back enc.Plain = refl
-enc_back enc.All = refl
-enc_back enc.Mixed = refl
 
 grouping_back : (params : Row) (g : StoredGrouping) → grouping_in (tells false (col 1 2 ∷ more_grouping_columns) params (grouping_row g)) ≡ grouping_at g
 grouping_back params g = rw (enc_back g.enc, flag_back g.tol) refl

@@ -27,9 +27,10 @@ use Rattle.sql_base.specs.Queries.{from_tree}
 use Rattle.sql_base.proofs.Replacing.{nothing_found}
 use Rattle.sql_base.proofs.Selecting.{map_map, map_same, matched, no_overlay, passes, shown}
 use Rattle.sql_tables.specs.Tables.{our_schema}
+use Rattle.sql_rows.specs.Decoding.{number_in}
 use Rattle.sql_rows.specs.Encoding.{number}
 use Rattle.sql_rows.specs.Image.{told}
-use Rattle.row_reads.specs.Decoding.{IsFirst, first_number, id_in, nat_in}
+use Rattle.row_reads.specs.Decoding.{IsFirst, first_number, id_in}
 use Rattle.row_reads.specs.Extremes.{AreSorted, IsGreatest, IsLeastBy}
 use Rattle.row_reads.proofs.Asking.{all_found, look, part, tells, told_as, whole}
 
@@ -107,11 +108,11 @@ at_most : (a b : ℕ) → is_lt (nat_cmp a b) ≡ false → b ≤ a
 at_most a b h = grind (arith, nat_tests)
 
 abbrev IsNumbered : Row → Type 0
-IsNumbered r = column r 0 ≡ number (nat_in (column r 0))
+IsNumbered r = column r 0 ≡ number (number_in (column r 0))
 
-below_as_numbers : (r s : Row) → IsNumbered r → IsNumbered s → is_lt (value_cmp (column r 0) (column s 0)) ≡ is_lt (nat_cmp (nat_in (column r 0)) (nat_in (column s 0)))
+below_as_numbers : (r s : Row) → IsNumbered r → IsNumbered s → is_lt (value_cmp (column r 0) (column s 0)) ≡ is_lt (nat_cmp (number_in (column r 0)) (number_in (column s 0)))
 below_as_numbers r s a b =
-    ap (λ v. is_lt (value_cmp v (column s 0))) a ∙ ap (λ v. is_lt (value_cmp (number (nat_in (column r 0))) v)) b ∙ not_below (nat_in (column r 0)) (nat_in (column s 0))
+    ap (λ v. is_lt (value_cmp v (column s 0))) a ∙ ap (λ v. is_lt (value_cmp (number (number_in (column r 0))) v)) b ∙ not_below (number_in (column r 0)) (number_in (column s 0))
 
 told_numbers : {X : Type 0} (tell : X → Row) → ((x : X) → IsNumbered (tell x)) → (xs : List X) → All IsNumbered (map tell xs)
 told_numbers tell first_is [] k d low = absurd (omega arith)
@@ -123,7 +124,7 @@ pub numbered : {X : Type 0} (tell : X → Row) → ((x : X) → IsNumbered (tell
 numbered tell first_is xs all got = All-permutation IsNumbered _ _ got (told_numbers tell first_is xs)
 
 -- decoded rows in order
-module _ {Y : Type 0} (decode : Row → Y) (rank : Y → ℕ) (rank_is : (r : Row) → rank (decode r) ≡ nat_in (column r 0)) where
+module _ {Y : Type 0} (decode : Row → Y) (rank : Y → ℕ) (rank_is : (r : Row) → rank (decode r) ≡ number_in (column r 0)) where
   rises : (all : List Row) → All IsNumbered all → IsInOrder false all → IsNonDecreasingBy rank (map decode all)
   rises all numbers sorted =
       let none : Row = [] in
@@ -133,7 +134,7 @@ module _ {Y : Type 0} (decode : Row → Y) (rank : Y → ℕ) (rank_is : (r : Ro
       let s = get_or all k none in
       ap (λ y. is_lt (nat_cmp (rank y) (rank (get_or (map decode all) k d)))) (get_or-map decode all (k + 1) none d within)
       ∙ ap (λ y. is_lt (nat_cmp (rank (decode r)) (rank y))) (get_or-map decode all k none d (omega arith))
-      ∙ ap (λ n. is_lt (nat_cmp n (rank (decode s)))) (rank_is r) ∙ ap (λ n. is_lt (nat_cmp (nat_in (column r 0)) n)) (rank_is s)
+      ∙ ap (λ n. is_lt (nat_cmp n (rank (decode s)))) (rank_is r) ∙ ap (λ n. is_lt (nat_cmp (number_in (column r 0)) n)) (rank_is s)
       ∙ sym (below_as_numbers r s (numbers (k + 1) none within) (numbers k none (omega arith))) ∙ sorted k none (omega arith) within)
 
 least_of : {Y : Type 0} (rank : Y → ℕ) (zs ys : List Y) → IsPermutation zs ys → IsNonDecreasingBy rank ys → (found : Option Y) → IsFirst ys found → IsLeastBy rank zs found
@@ -150,7 +151,7 @@ first_of_one decode (r ∷ all) found first = first
 -- what is made of an answer in order
 module _ {X Y : Type 0} (key : X → Bool) (tell : X → Row) (xs : List X) (all : List Row) (got : IsPermutation (map tell (filter key xs)) all) (sorted : IsInOrder false all)
     (first_is : (x : X) → IsNumbered (tell x)) (decode : Row → Y) (f : X → Y) (back : (x : X) → decode (tell x) ≡ f x) (rank : Y → ℕ)
-    (rank_is : (r : Row) → rank (decode r) ≡ nat_in (column r 0)) where
+    (rank_is : (r : Row) → rank (decode r) ≡ number_in (column r 0)) where
   up : IsNonDecreasingBy rank (map decode all)
   up = rises decode rank rank_is all (numbered tell first_is (filter key xs) all got) sorted
 
@@ -165,14 +166,14 @@ module _ {X Y : Type 0} (key : X → Bool) (tell : X → Row) (xs : List X) (all
       (first_of_one decode all found (subst (λ rs. IsFirst (map decode rs) found) is first))
 
 -- rows that fall: none is above the first
-falls : (all : List Row) → All IsNumbered all → IsInOrder true all → (j : ℕ) → j < length all → nat_in (column (get_or all j []) 0) ≤ nat_in (column (get_or all 0 []) 0)
+falls : (all : List Row) → All IsNumbered all → IsInOrder true all → (j : ℕ) → j < length all → number_in (column (get_or all j []) 0) ≤ number_in (column (get_or all 0 []) 0)
 falls all numbers sorted zero low = omega arith
 falls all numbers sorted (suc j) low =
     let before = falls all numbers sorted j (omega arith) in
     let r = get_or all j [] in
     let next = get_or all (j + 1) [] in
-    let step : nat_in (column next 0) ≤ nat_in (column r 0) =
-    at_most (nat_in (column r 0)) (nat_in (column next 0)) (sym (below_as_numbers r next (numbers j [] (omega arith)) (numbers (j + 1) [] (omega arith))) ∙ sorted j [] (omega arith) (omega arith)) in
+    let step : number_in (column next 0) ≤ number_in (column r 0) =
+    at_most (number_in (column r 0)) (number_in (column next 0)) (sym (below_as_numbers r next (numbers j [] (omega arith)) (numbers (j + 1) [] (omega arith))) ∙ sorted j [] (omega arith) (omega arith)) in
     rw (sym (add-one j)) (omega arith)
 
 greatest_of : (zs ys : List ℕ) → IsPermutation zs ys → (n : ℕ) → IsFirst ys (Some n) → All (λ m. m ≤ n) ys → IsGreatest zs n
@@ -186,17 +187,17 @@ greatest_of (z ∷ zs) (y ∷ ys) same n first most =
 
 -- the first of rows that fall has the greatest number
 pub greatest_found : {X : Type 0} (tell : X → Row) → ((x : X) → IsNumbered (tell x)) → (xs : List X) (all : List Row) → IsPermutation (map tell xs) all → IsInOrder true all
-    → (f : X → ℕ) → ((x : X) → nat_in (column (tell x) 0) ≡ f x) → (rows : List Row) → rows ≡ take 1 all → IsGreatest (map f xs) (first_number rows)
+    → (f : X → ℕ) → ((x : X) → number_in (column (tell x) 0) ≡ f x) → (rows : List Row) → rows ≡ take 1 all → IsGreatest (map f xs) (first_number rows)
 greatest_found tell first_is xs all got sorted f back rows is =
     subst (λ rs. IsGreatest (map f xs) (first_number rs)) (sym is)
     (from all (falls all (numbered tell first_is xs all got) sorted)
     (subst (λ zs. IsPermutation zs (map id_in all)) (map_map id_in tell xs ∙ map_same (λ x. id_in (tell x)) f back xs) (IsPermutation-map id_in (map tell xs) all got)))
   where
-    from : (all : List Row) → ((j : ℕ) → j < length all → nat_in (column (get_or all j []) 0) ≤ nat_in (column (get_or all 0 []) 0)) → IsPermutation (map f xs) (map id_in all)
+    from : (all : List Row) → ((j : ℕ) → j < length all → number_in (column (get_or all j []) 0) ≤ number_in (column (get_or all 0 []) 0)) → IsPermutation (map f xs) (map id_in all)
         → IsGreatest (map f xs) (first_number (take 1 all))
     from [] most same = subst (λ zs. IsGreatest zs 0) (sym (nothing_found (map f xs) (IsPermutation-sym (map f xs) [] same))) refl
     from (r ∷ rest) most same =
-        greatest_of (map f xs) (map id_in (r ∷ rest)) same (nat_in (column r 0)) refl
+        greatest_of (map f xs) (map id_in (r ∷ rest)) same (number_in (column r 0)) refl
         (λ k d low.
         let within : k < length (r ∷ rest) = omega (arith, length-map (r ∷ rest) id_in) in
-        subst (λ m. m ≤ nat_in (column r 0)) (sym (get_or-map id_in (r ∷ rest) k [] d within)) (most k within))
+        subst (λ m. m ≤ number_in (column r 0)) (sym (get_or-map id_in (r ∷ rest) k [] d within)) (most k within))

@@ -9,31 +9,26 @@ use Rattle.job_core.specs.declared.facts.RecordState.{RecordState}
 use Rattle.job_core.specs.declared.facts.RecordState.TheVariants as rec
 use Rattle.job_core.specs.declared.facts.SessionState.{SessionState}
 use Rattle.job_core.specs.declared.facts.SessionState.TheVariants as session
+use Rattle.sql_rows.specs.Decoding.{enc_of_code, flag_in, number_in, record_state_of_code, session_state_of_code}
 use Rattle.row_reads.specs.declared.groupings.GroupingAt.{GroupingAt}
 use Rattle.row_reads.specs.declared.records.RecordAt.{RecordAt}
 use Rattle.row_reads.specs.declared.sessions.GoodCard.{GoodCard}
 use Rattle.row_reads.specs.declared.sessions.SessionAt.{SessionAt}
 use Rattle.table_rows.specs.Tables.{StoredGrouping, StoredRecord, StoredSession}
-use Rattle.row_reads.specs.Decoding.{blob_in, flag_in, nat_in, text_in}
+use Rattle.row_reads.specs.Decoding.{blob_in, text_in}
 
 -- ---- sessions
 
--- the state that a number stands for
-abbrev pub session_state_of : ℕ → SessionState
-session_state_of zero = session.Running
-session_state_of (suc zero) = session.Good
-session_state_of (suc (suc n)) = session.Spoiled
-
 abbrev pub cursor_in : Row → Cursor
-cursor_in row = record { app = nat_in (column row 5); segment = nat_in (column row 6); offset = nat_in (column row 7); block = nat_in (column row 8) }
+cursor_in row = record { app = number_in (column row 5); segment = number_in (column row 6); offset = number_in (column row 7); block = number_in (column row 8) }
 
 abbrev pub session_in : Row → SessionAt
 session_in row = record {
   machine = text_in (column row 0);
-  batch = nat_in (column row 1);
-  place = nat_in (column row 2);
-  stands = session_state_of (nat_in (column row 3));
-  words = nat_in (column row 4);
+  batch = number_in (column row 1);
+  place = number_in (column row 2);
+  stands = session_state_of_code (number_in (column row 3));
+  words = number_in (column row 4);
   cursor = cursor_in row;
 }
 
@@ -49,7 +44,7 @@ pub record IsSessionAt (s : SessionAt) : Type 0 where
   pub cursor : IsCursor s.cursor
 
 abbrev pub good_in : Row → GoodCard
-good_in row = record { place = nat_in (column row 0); serial = nat_in (column row 1) }
+good_in row = record { place = number_in (column row 0); serial = number_in (column row 1) }
 
 -- what is told of a stored session that is good
 abbrev pub good_at : StoredSession → GoodCard
@@ -62,21 +57,13 @@ pub record IsGoodCard (g : GoodCard) : Type 0 where
 
 -- ---- records
 
--- the state that a number stands for
-abbrev pub record_state_of : ℕ → RecordState
-record_state_of zero = rec.Waiting
-record_state_of (suc zero) = rec.Running
-record_state_of (suc (suc zero)) = rec.Failed
-record_state_of (suc (suc (suc zero))) = rec.Withdrawn
-record_state_of (suc (suc (suc (suc n)))) = rec.Good
-
 abbrev pub record_in : Row → RecordAt
 record_in row = record {
-  place = nat_in (column row 0);
+  place = number_in (column row 0);
   name = text_in (column row 1);
-  stands = record_state_of (nat_in (column row 2));
-  spoiled = nat_in (column row 3);
-  remakes = nat_in (column row 4);
+  stands = record_state_of_code (number_in (column row 2));
+  spoiled = number_in (column row 3);
+  remakes = number_in (column row 4);
 }
 
 -- what is told of a stored record
@@ -94,18 +81,12 @@ place_of r = r.place
 
 -- ---- groupings
 
--- what a number stands for
-abbrev pub enc_of : ℕ → Enc
-enc_of zero = enc.Plain
-enc_of (suc zero) = enc.All
-enc_of (suc (suc n)) = enc.Mixed
-
 abbrev pub grouping_in : Row → GroupingAt
 grouping_in row = record {
-  line = nat_in (column row 0);
+  line = number_in (column row 0);
   aid = blob_in (column row 1);
-  rank = nat_in (column row 2);
-  enc = enc_of (nat_in (column row 3));
+  rank = number_in (column row 2);
+  enc = enc_of_code (number_in (column row 3));
   tol = flag_in (column row 4);
   coded = blob_in (column row 5);
 }

@@ -8,16 +8,9 @@ use Rattle.store_data.specs.declared.row.Product.{Product}
 use Rattle.job_core.specs.declared.rows.BatchTotals.{BatchTotals}
 use Rattle.job_core.specs.declared.rows.KeptReply.{KeptReply}
 use Rattle.job_core.specs.declared.facts.Lot.{Lot}
+use Rattle.sql_rows.specs.Decoding.{flag_in, number_in}
 use Rattle.row_reads.specs.declared.batches.BatchHead.{BatchHead}
 use Rattle.row_reads.specs.declared.lots.LotRow.{LotRow}
-
-abbrev pub nat_in : Value → ℕ
-nat_in (Int (pos n)) = n
-nat_in _ = 0
-
-abbrev pub flag_in : Value → Bool
-flag_in (Int n) = not (int_eq n (pos 0))
-flag_in _ = false
 
 abbrev pub text_in : Value → List ℕ
 text_in (Text text) = text
@@ -29,13 +22,13 @@ blob_in _ = []
 
 -- the product of this code
 abbrev pub product_in : List ℕ → Row → Product
-product_in code row = record { code = code; max = nat_in (column row 0); low = nat_in (column row 1); check = flag_in (column row 2) }
+product_in code row = record { code = code; max = number_in (column row 0); low = number_in (column row 1); check = flag_in (column row 2) }
 
 abbrev pub reply_in : Row → KeptReply
-reply_in row = record { ask = blob_in (column row 0); status = nat_in (column row 1); body = blob_in (column row 2) }
+reply_in row = record { ask = blob_in (column row 0); status = number_in (column row 1); body = blob_in (column row 2) }
 
 abbrev pub id_in : Row → ℕ
-id_in row = nat_in (column row 0)
+id_in row = number_in (column row 0)
 
 abbrev pub name_in : Row → List ℕ
 name_in row = text_in (column row 0)
@@ -43,24 +36,24 @@ name_in row = text_in (column row 0)
 -- the counters of a batch, from column 3 on
 abbrev pub totals_in : Row → BatchTotals
 totals_in row = record {
-  records = nat_in (column row 3) + nat_in (column row 4) + nat_in (column row 5) + nat_in (column row 6) + nat_in (column row 7);
-  waiting = nat_in (column row 3);
-  running = nat_in (column row 4);
-  failed = nat_in (column row 5);
-  withdrawn = nat_in (column row 6);
-  good = nat_in (column row 7);
-  sessions = nat_in (column row 8);
-  spoiled = nat_in (column row 9);
+  records = number_in (column row 3) + number_in (column row 4) + number_in (column row 5) + number_in (column row 6) + number_in (column row 7);
+  waiting = number_in (column row 3);
+  running = number_in (column row 4);
+  failed = number_in (column row 5);
+  withdrawn = number_in (column row 6);
+  good = number_in (column row 7);
+  sessions = number_in (column row 8);
+  spoiled = number_in (column row 9);
 }
 
 abbrev pub head_in : Row → BatchHead
-head_in row = record { id = nat_in (column row 0); product = text_in (column row 1); is_closed = flag_in (column row 2); totals = totals_in row }
+head_in row = record { id = number_in (column row 0); product = text_in (column row 1); is_closed = flag_in (column row 2); totals = totals_in row }
 
 abbrev pub lot_in : Row → Lot
-lot_in row = record { name = text_in (column row 0); product = text_in (column row 1); first = nat_in (column row 2); count = nat_in (column row 3) }
+lot_in row = record { name = text_in (column row 0); product = text_in (column row 1); first = number_in (column row 2); count = number_in (column row 3) }
 
 abbrev pub lot_row_in : Row → LotRow
-lot_row_in row = record { lot = lot_in row; discarded = nat_in (column row 4) }
+lot_row_in row = record { lot = lot_in row; discarded = number_in (column row 4) }
 
 -- the first of them, if there is one
 abbrev pub IsFirst : {X : Type 0} → List X → Option X → Type 0
@@ -70,7 +63,7 @@ IsFirst (x ∷ xs) found = found ≡ Some x
 -- the number of the first row; 0 where there is none
 abbrev pub first_number : List Row → ℕ
 first_number [] = 0
-first_number (row ∷ rows) = nat_in (column row 0)
+first_number (row ∷ rows) = number_in (column row 0)
 
 -- a row is answered
 abbrev pub has_rows : List Row → Bool

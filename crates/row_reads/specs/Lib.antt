@@ -3,7 +3,5 @@ pub mod NameTexts
 pub mod CardTexts
 pub mod Decoding
 pub mod CardDecoding
-pub mod Keys
 pub mod Telling
 pub mod Extremes
-pub mod CardKeys

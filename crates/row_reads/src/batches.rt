@@ -6,10 +6,10 @@ ghost use Rattle.sqlite.specs.Held.{state};
 ghost use Rattle.sqlite.specs.State.{HasCleanDisk, Survives};
 ghost use Rattle.row_reads.specs.Decoding.{IsFirst, head_in, totals_in};
 ghost use Rattle.row_reads.specs.Extremes.{IsGreatest};
-ghost use Rattle.row_reads.specs.Keys.{has_bytes, has_id, has_name, is_batch_of};
 ghost use Rattle.row_reads.specs.Telling.{AreCounts, IsHead, head_of};
 ghost use Rattle.sql_base.specs.Ends.{IsKept};
 ghost use Rattle.sql_rows.specs.Image.{IsImage};
+ghost use Rattle.table_rows.specs.Keys.{is_batch, is_batch_for, is_batch_named, is_batch_with};
 ghost use Rattle.table_rows.specs.Tables.{PassesOnce, StoredBatch, Tables};
 
 use crate::values::{first_id, first_name, first_number, has_rows, name_at, number_at};
@@ -104,8 +104,8 @@ pub fn batch_id<S: Alter>(conn: &mut Connection<S>, name: &Name) -> Result<Optio
     requires { conn.old.in_transaction ≡ false }
     ensures found { HasCleanDisk (state S.Store conn.new) → IfOk result
         (λ found. IsTrue (state S.Store conn.old).is_open × ((t : Tables)
-        → IsImage t (state S.Store conn.old).now → PassesOnce (has_name name.now) t.batches
-        → found ≡ option_map (λ (b : StoredBatch). b.id) (find (has_name name.now) t.batches))) }
+        → IsImage t (state S.Store conn.old).now → PassesOnce (is_batch_named name.now) t.batches
+        → found ≡ option_map (λ (b : StoredBatch). b.id) (find (is_batch_named name.now) t.batches))) }
     ensures ranged { IfOk result (λ found. IfSome found (λ id. id < 2 ^ 63)) }
     ensures kept { HasCleanDisk (state S.Store conn.new)
         → IsKept (state S.Store conn.old) (state S.Store conn.new) }
@@ -127,8 +127,8 @@ pub fn batch_name<S: Alter>(conn: &mut Connection<S>, id: u64) -> Result<Option<
     requires id { id < 2 ^ 63 }
     ensures found { HasCleanDisk (state S.Store conn.new) → IfOk result
         (λ found. IsTrue (state S.Store conn.old).is_open × ((t : Tables)
-        → IsImage t (state S.Store conn.old).now → PassesOnce (has_id id) t.batches
-        → found ≡ option_map (λ (b : StoredBatch). b.name) (find (has_id id) t.batches))) }
+        → IsImage t (state S.Store conn.old).now → PassesOnce (is_batch id) t.batches
+        → found ≡ option_map (λ (b : StoredBatch). b.name) (find (is_batch id) t.batches))) }
     ensures kept { HasCleanDisk (state S.Store conn.new)
         → IsKept (state S.Store conn.old) (state S.Store conn.new) }
     ensures idle { conn.new.in_transaction ≡ false }
@@ -147,8 +147,8 @@ pub fn batch_head<S: Alter>(
     requires { conn.old.in_transaction ≡ false }
     ensures found { HasCleanDisk (state S.Store conn.new) → IfOk result
         (λ found. IsTrue (state S.Store conn.old).is_open × ((t : Tables)
-        → IsImage t (state S.Store conn.old).now → PassesOnce (has_name name.now) t.batches
-        → found ≡ option_map head_of (find (has_name name.now) t.batches))) }
+        → IsImage t (state S.Store conn.old).now → PassesOnce (is_batch_named name.now) t.batches
+        → found ≡ option_map head_of (find (is_batch_named name.now) t.batches))) }
     ensures ranged { IfOk result (λ found. IfSome found IsHead) }
     ensures kept { HasCleanDisk (state S.Store conn.new)
         → IsKept (state S.Store conn.old) (state S.Store conn.new) }
@@ -171,7 +171,7 @@ pub fn batch_has<S: Alter>(conn: &mut Connection<S>, name: &Name, raw: &[u8]) ->
     ensures found { HasCleanDisk (state S.Store conn.new) → IfOk result
         (λ has. IsTrue (state S.Store conn.old).is_open × ((t : Tables)
         → IsImage t (state S.Store conn.old).now
-        → has ≡ list_any (has_bytes name.now raw.now) t.batches)) }
+        → has ≡ list_any (is_batch_with name.now raw.now) t.batches)) }
     ensures kept { HasCleanDisk (state S.Store conn.new)
         → IsKept (state S.Store conn.old) (state S.Store conn.new) }
     ensures idle { conn.new.in_transaction ≡ false }
@@ -195,7 +195,7 @@ pub fn batches_of<S: Alter>(
     ensures found { HasCleanDisk (state S.Store conn.new) → IfOk result
         (λ heads. IsTrue (state S.Store conn.old).is_open × ((t : Tables)
         → IsImage t (state S.Store conn.old).now
-        → IsPermutation (map head_of (filter (is_batch_of product.now) t.batches)) heads.items)) }
+        → IsPermutation (map head_of (filter (is_batch_for product.now) t.batches)) heads.items)) }
     ensures kept { HasCleanDisk (state S.Store conn.new)
         → IsKept (state S.Store conn.old) (state S.Store conn.new) }
     ensures idle { conn.new.in_transaction ≡ false }

@@ -3,9 +3,9 @@ ghost use Rattle.std.specs.Prelude.{◌≡◌, ◌<◌, ◌^◌, false, IfOk, Is
 ghost use Rattle.std.specs.List.{list_any};
 ghost use Rattle.sqlite.specs.Held.{state};
 ghost use Rattle.sqlite.specs.State.{HasCleanDisk, Survives};
-ghost use Rattle.row_reads.specs.Keys.{has_serial};
 ghost use Rattle.sql_base.specs.Ends.{IsKept};
 ghost use Rattle.sql_rows.specs.Image.{IsImage};
+ghost use Rattle.table_rows.specs.Keys.{is_blank};
 ghost use Rattle.table_rows.specs.Tables.{Tables};
 
 use crate::values::has_rows;
@@ -20,7 +20,7 @@ pub fn is_charged<S: Alter>(conn: &mut Connection<S>, serial: u64) -> Result<boo
     ensures found { HasCleanDisk (state S.Store conn.new) → IfOk result
         (λ charged. IsTrue (state S.Store conn.old).is_open × ((t : Tables)
         → IsImage t (state S.Store conn.old).now
-        → charged ≡ list_any (has_serial serial) t.blanks)) }
+        → charged ≡ list_any (is_blank serial) t.blanks)) }
     ensures kept { HasCleanDisk (state S.Store conn.new)
         → IsKept (state S.Store conn.old) (state S.Store conn.new) }
     ensures idle { conn.new.in_transaction ≡ false }

@@ -4,13 +4,14 @@ ghost use Rattle.std.specs.Prelude.{map};
 ghost use Rattle.sqlite.specs.Held.{state};
 ghost use Rattle.sqlite.specs.Order.{column};
 ghost use Rattle.sqlite.specs.State.{HasCleanDisk, Survives};
-ghost use Rattle.row_reads.specs.CardDecoding.{IsGroupingAt, enc_of, grouping_at, grouping_in};
+ghost use Rattle.row_reads.specs.CardDecoding.{IsGroupingAt, grouping_at, grouping_in};
 ghost use Rattle.row_reads.specs.CardDecoding.{line_of};
-ghost use Rattle.row_reads.specs.CardKeys.{is_grouping_at, is_grouping_of};
-ghost use Rattle.row_reads.specs.Decoding.{blob_in, nat_in};
+ghost use Rattle.row_reads.specs.Decoding.{blob_in};
 ghost use Rattle.row_reads.specs.Extremes.{AreSorted};
 ghost use Rattle.sql_base.specs.Ends.{IsKept};
+ghost use Rattle.sql_rows.specs.Decoding.{enc_of_code, number_in};
 ghost use Rattle.sql_rows.specs.Image.{IsImage};
+ghost use Rattle.table_rows.specs.Keys.{is_grouping_at, is_grouping_of};
 ghost use Rattle.table_rows.specs.Tables.{Tables};
 
 use crate::values::{bytes_at, count, number_at};
@@ -57,7 +58,7 @@ fn aid_at(row: &Row, at: usize) -> Result<Aid, Error>
 
 // The rank in this column.
 fn rank_at(row: &Row, at: usize) -> Result<u16, Error>
-    ensures value { IfOk result (λ rank. rank ≡ nat_in (column row.now at)) }
+    ensures value { IfOk result (λ rank. rank ≡ number_in (column row.now at)) }
     ensures least { IfOk result (λ rank. 1 ≤ rank) }
     ensures most { IfOk result (λ rank. rank ≤ 999) }
 {
@@ -70,7 +71,7 @@ fn rank_at(row: &Row, at: usize) -> Result<u16, Error>
 
 // What a number stands for.
 fn enc_of(code: u64) -> Result<Enc, Error>
-    ensures { IfOk result (λ enc. enc ≡ enc_of code) }
+    ensures { IfOk result (λ enc. enc ≡ enc_of_code code) }
 {
     match code {
         0 => Ok(Enc::Plain),

@@ -5,10 +5,10 @@ ghost use Rattle.sqlite.specs.Held.{state};
 ghost use Rattle.sqlite.specs.State.{HasCleanDisk, Survives};
 ghost use Rattle.job_core.specs.States.{any_overlaps, is_in, lot_of};
 ghost use Rattle.row_reads.specs.Decoding.{IsFirst, lot_in, lot_row_in};
-ghost use Rattle.row_reads.specs.Keys.{is_lot_named, is_lot_of};
 ghost use Rattle.row_reads.specs.Telling.{IsLotRow, lot_row_of};
 ghost use Rattle.sql_base.specs.Ends.{IsKept};
 ghost use Rattle.sql_rows.specs.Image.{IsImage};
+ghost use Rattle.table_rows.specs.Keys.{is_lot_for, is_lot_named};
 ghost use Rattle.table_rows.specs.Tables.{PassesOnce, StoredLot, Tables};
 
 use crate::values::{count, name_at, number_at};
@@ -155,7 +155,7 @@ pub fn lots_of<S: Alter>(conn: &mut Connection<S>, product: &Name) -> Result<Vec
     ensures found { HasCleanDisk (state S.Store conn.new) → IfOk result
         (λ lots. IsTrue (state S.Store conn.old).is_open × ((t : Tables)
         → IsImage t (state S.Store conn.old).now
-        → IsPermutation (map lot_row_of (filter (is_lot_of product.now) t.lots)) lots.items)) }
+        → IsPermutation (map lot_row_of (filter (is_lot_for product.now) t.lots)) lots.items)) }
     ensures kept { HasCleanDisk (state S.Store conn.new)
         → IsKept (state S.Store conn.old) (state S.Store conn.new) }
     ensures idle { conn.new.in_transaction ≡ false }

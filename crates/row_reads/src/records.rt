@@ -4,13 +4,12 @@ ghost use Rattle.std.specs.Prelude.{IfSome, IsTrue, map};
 ghost use Rattle.sqlite.specs.Held.{state};
 ghost use Rattle.sqlite.specs.State.{HasCleanDisk, Survives};
 ghost use Rattle.row_reads.specs.CardDecoding.{IsRecordAt, place_of, record_at, record_in};
-ghost use Rattle.row_reads.specs.CardDecoding.{record_state_of};
-ghost use Rattle.row_reads.specs.CardKeys.{is_record_at, is_record_named, is_record_of};
-ghost use Rattle.row_reads.specs.CardKeys.{is_waiting_in};
 ghost use Rattle.row_reads.specs.Decoding.{IsFirst};
 ghost use Rattle.row_reads.specs.Extremes.{AreSorted, IsLeastBy};
 ghost use Rattle.sql_base.specs.Ends.{IsKept};
+ghost use Rattle.sql_rows.specs.Decoding.{record_state_of_code};
 ghost use Rattle.sql_rows.specs.Image.{IsImage};
+ghost use Rattle.table_rows.specs.Keys.{is_record_at, is_record_named, is_record_of, is_waiting_of};
 ghost use Rattle.table_rows.specs.Tables.{PassesOnce, Tables};
 
 use crate::values::{name_at, number_at};
@@ -36,7 +35,7 @@ pub struct RecordAt {
 
 // The state that a number stands for.
 fn record_state(code: u64) -> Result<RecordState, Error>
-    ensures { IfOk result (λ stands. stands ≡ record_state_of code) }
+    ensures { IfOk result (λ stands. stands ≡ record_state_of_code code) }
 {
     match code {
         0 => Ok(RecordState::Waiting),
@@ -183,7 +182,7 @@ pub fn first_waiting<S: Alter>(
     ensures found { HasCleanDisk (state S.Store conn.new) → IfOk result
         (λ found. IsTrue (state S.Store conn.old).is_open × ((t : Tables)
         → IsImage t (state S.Store conn.old).now
-        → IsLeastBy place_of (map record_at (filter (is_waiting_in batch) t.records)) found)) }
+        → IsLeastBy place_of (map record_at (filter (is_waiting_of batch) t.records)) found)) }
     ensures ranged { IfOk result (λ found. IfSome found IsRecordAt) }
     ensures kept { HasCleanDisk (state S.Store conn.new)
         → IsKept (state S.Store conn.old) (state S.Store conn.new) }

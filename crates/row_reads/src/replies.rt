@@ -4,9 +4,9 @@ ghost use Rattle.sqlite.specs.Held.{state};
 ghost use Rattle.sqlite.specs.State.{HasCleanDisk, Survives};
 ghost use Rattle.job_core.specs.Contents.{entry_of, reply_of_entry};
 ghost use Rattle.row_reads.specs.Decoding.{IsFirst, reply_in};
-ghost use Rattle.row_reads.specs.Keys.{is_kept_as};
 ghost use Rattle.sql_base.specs.Ends.{IsKept};
 ghost use Rattle.sql_rows.specs.Image.{IsImage};
+ghost use Rattle.table_rows.specs.Keys.{is_reply_to};
 ghost use Rattle.table_rows.specs.Tables.{PassesOnce, Tables};
 
 use crate::values::{bytes_at, short_at};
@@ -48,7 +48,7 @@ pub fn kept<S: Alter>(
     ensures found { HasCleanDisk (state S.Store conn.new) → IfOk result
         (λ found. IsTrue (state S.Store conn.old).is_open × ((t : Tables)
         → IsImage t (state S.Store conn.old).now
-        → PassesOnce (is_kept_as client.now number) t.replies
+        → PassesOnce (is_reply_to client.now number) t.replies
         → found ≡ option_map reply_of_entry (entry_of t.replies client.now number))) }
     ensures kept { HasCleanDisk (state S.Store conn.new)
         → IsKept (state S.Store conn.old) (state S.Store conn.new) }

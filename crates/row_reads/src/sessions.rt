@@ -5,12 +5,13 @@ ghost use Rattle.sqlite.specs.Held.{state};
 ghost use Rattle.sqlite.specs.State.{HasCleanDisk, Survives};
 ghost use Rattle.store_data.specs.Cursor.{IsCursor};
 ghost use Rattle.row_reads.specs.CardDecoding.{IsGoodCard, IsSessionAt, cursor_in, good_at};
-ghost use Rattle.row_reads.specs.CardDecoding.{good_in, session_at, session_in, session_state_of};
-ghost use Rattle.row_reads.specs.CardKeys.{has_id, is_good_in, is_running_on};
+ghost use Rattle.row_reads.specs.CardDecoding.{good_in, session_at, session_in};
 ghost use Rattle.row_reads.specs.Decoding.{IsFirst};
 ghost use Rattle.row_reads.specs.Extremes.{IsGreatest};
 ghost use Rattle.sql_base.specs.Ends.{IsKept};
+ghost use Rattle.sql_rows.specs.Decoding.{session_state_of_code};
 ghost use Rattle.sql_rows.specs.Image.{IsImage};
+ghost use Rattle.table_rows.specs.Keys.{is_good_of, is_running_on, is_session};
 ghost use Rattle.table_rows.specs.Tables.{PassesOnce, StoredSession, Tables};
 
 use crate::values::{first_id, first_number, name_at, number_at};
@@ -46,7 +47,7 @@ pub struct GoodCard {
 
 // The state that a number stands for.
 fn session_state(code: u64) -> Result<SessionState, Error>
-    ensures { IfOk result (λ stands. stands ≡ session_state_of code) }
+    ensures { IfOk result (λ stands. stands ≡ session_state_of_code code) }
 {
     match code {
         0 => Ok(SessionState::Running),
@@ -129,8 +130,8 @@ pub fn session<S: Alter>(conn: &mut Connection<S>, id: u64) -> Result<Option<Ses
     ensures found { HasCleanDisk (state S.Store conn.new) → IfOk result
         (λ found. IsTrue (state S.Store conn.old).is_open × ((t : Tables)
         → IsImage t (state S.Store conn.old).now
-        → PassesOnce (has_id id) t.sessions
-        → found ≡ option_map session_at (find (has_id id) t.sessions))) }
+        → PassesOnce (is_session id) t.sessions
+        → found ≡ option_map session_at (find (is_session id) t.sessions))) }
     ensures ranged { IfOk result (λ found. IfSome found IsSessionAt) }
     ensures kept { HasCleanDisk (state S.Store conn.new)
         → IsKept (state S.Store conn.old) (state S.Store conn.new) }
@@ -221,7 +222,7 @@ pub fn good_sessions<S: Alter>(conn: &mut Connection<S>, batch: u64) -> Result<V
     ensures found { HasCleanDisk (state S.Store conn.new) → IfOk result
         (λ all. IsTrue (state S.Store conn.old).is_open × ((t : Tables)
         → IsImage t (state S.Store conn.old).now
-        → IsPermutation (map good_at (filter (is_good_in batch) t.sessions)) all.items)) }
+        → IsPermutation (map good_at (filter (is_good_of batch) t.sessions)) all.items)) }
     ensures ranged { IfOk result (λ all. All IsGoodCard all.items) }
     ensures kept { HasCleanDisk (state S.Store conn.new)
         → IsKept (state S.Store conn.old) (state S.Store conn.new) }

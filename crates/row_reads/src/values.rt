@@ -1,8 +1,9 @@
 //! The values of an answered row.
 ghost use Rattle.std.specs.Prelude.{◌≡◌, ◌<◌, ◌^◌, length, map, IfOk, IfSome};
 ghost use Rattle.sqlite.specs.Order.{column};
+ghost use Rattle.sql_rows.specs.Decoding.{number_in};
 ghost use Rattle.row_reads.specs.Decoding.{IsFirst, blob_in, first_number, has_rows};
-ghost use Rattle.row_reads.specs.Decoding.{id_in, name_in, nat_in, text_in};
+ghost use Rattle.row_reads.specs.Decoding.{id_in, name_in, text_in};
 
 use sqlite::types::ValueRef;
 use sqlite::{Error, Row};
@@ -41,7 +42,7 @@ const END: u64 = 1 << 63;
 
 // The number in this column.
 pub(crate) fn number_at(row: &Row, at: usize) -> Result<u64, Error>
-    ensures value { IfOk result (λ n. n ≡ nat_in (column row.now at)) }
+    ensures value { IfOk result (λ n. n ≡ number_in (column row.now at)) }
     ensures ranged { IfOk result (λ n. n < 2 ^ 63) }
 {
     let n: u64 = row.get(at)?;
@@ -53,7 +54,7 @@ pub(crate) fn number_at(row: &Row, at: usize) -> Result<u64, Error>
 
 // The number below 2^16 in this column.
 pub(crate) fn short_at(row: &Row, at: usize) -> Result<u16, Error>
-    ensures { IfOk result (λ n. n ≡ nat_in (column row.now at)) }
+    ensures { IfOk result (λ n. n ≡ number_in (column row.now at)) }
 {
     let n: u32 = row.get(at)?;
     if n > 65535 {

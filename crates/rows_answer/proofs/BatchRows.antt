@@ -17,11 +17,12 @@ use Rattle.job_core.specs.Facts.{Batch, Facts, Session}
 use Rattle.job_core.specs.Sound.{IsSession, IsSound}
 use Rattle.job_core.specs.States.{batch_named, is_batch_finished, is_finished, record_state, records_named, records_under, same_record_state, session_state}
 use Rattle.step_laws.proofs.BlankSums.{named_once}
-use Rattle.table_rows.specs.Tables.{PassesOnce}
+use Rattle.table_rows.specs.Keys.{is_batch, is_batch_named}
+use Rattle.table_rows.specs.Tables.{PassesOnce, totals_of}
+use Rattle.table_rows.proofs.Found.{filter_none, find_passes}
 use Rattle.rows_of_facts.specs.Image.{batch_id, batches_by_id, stored_batch, stored_batches}
-use Rattle.rows_answer.specs.Keys.{is_batch, is_batch_named}
-use Rattle.rows_answer.specs.Telling.{is_over_in, no_totals, totals_in, totals_of}
-use Rattle.rows_answer.proofs.Finding.{AllPairs-map, AllPairs-numbered, filter_none, find-map, find_passes, found_numbered, number_found, number_once, option_map-map}
+use Rattle.rows_answer.specs.Telling.{is_over_in, no_totals, totals_in}
+use Rattle.rows_answer.proofs.Finding.{AllPairs-map, AllPairs-numbered, find-map, found_numbered, number_found, number_once, option_map-map}
 
 -- ---- counts of states
 

@@ -15,9 +15,9 @@ use Rattle.job_core.specs.Facts.{Batch, Facts}
 use Rattle.job_core.specs.Rows.{batch_has, batch_row, batch_row_of, batch_size, batch_size_of, has_bytes}
 use Rattle.job_core.specs.Sound.{IsSound}
 use Rattle.job_core.specs.States.{batch_named, is_closed, record_state, records_named, records_of, rows_of}
+use Rattle.table_rows.specs.Keys.{is_batch_named, is_batch_with}
 use Rattle.table_rows.specs.Tables.{StoredBatch}
 use Rattle.rows_of_facts.specs.Image.{batch_id, stored_batch, stored_batches, stored_groupings}
-use Rattle.rows_answer.specs.Keys.{is_batch_named, is_batch_with}
 use Rattle.rows_answer.specs.Telling.{batch_of_row, has_raw_in, size_of}
 use Rattle.rows_answer.proofs.BatchRows.{name_once, named_row, own_name, totals_are}
 use Rattle.rows_answer.proofs.Finding.{any_beside}

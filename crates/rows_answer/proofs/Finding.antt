@@ -14,6 +14,8 @@ use Rattle.std.proofs.lemmas.List.Sums.{sum_by-cons}
 use Rattle.store_data.proofs.FaultLemmas.{All-from_map}
 use Rattle.job_core.proofs.Lists.{find-All}
 use Rattle.table_rows.specs.Tables.{PassesOnce}
+use Rattle.table_rows.proofs.Found.{filter_none, find_none}
+use Rattle.rows_of_facts.proofs.Lists.{All-joined, All-numbered}
 
 pub option_map-map : {X Y Z : Type 0} (g : Y → Z) (h : X → Y) (o : Option X) → option_map g (option_map h o) ≡ option_map (λ x. g (h x)) o
 option_map-map g h None = refl
@@ -50,10 +52,6 @@ module _ {X : Type 0} (R : X → X → Type 0) where
       AllPairs-cons (λ v w. R (f v) (f w)) w ws (All-from_map f (R (f w)) ws (pairs_head (f w) (map f ws) pairs)) (AllPairs-from_map f ws (pairs_tail (f w) (map f ws) pairs))
 
   -- joined, where what is of an earlier one stands before what is of a later one
-  All-joined : {W : Type 0} (P : X → Type 0) (g : W → List X) (ws : List W) → All (λ w. All P (g w)) ws → All P (flat_map g ws)
-  All-joined P g [] each = All-nil P
-  All-joined P g (w ∷ ws) each = All-append P (g w) (flat_map g ws) (All-head (λ v. All P (g v)) w ws each) (All-joined P g ws (All-tail (λ v. All P (g v)) w ws each))
-
   pub AllPairs-joined : {W : Type 0} (Q : W → W → Type 0) (g : W → List X) → ((w : W) → AllPairs R (g w)) → ((v w : W) → Q v w → All (λ x. All (R x) (g w)) (g v))
       → (ws : List W) → AllPairs Q ws → AllPairs R (flat_map g ws)
   AllPairs-joined Q g own across [] pairs = pairs_nil
@@ -62,32 +60,15 @@ module _ {X : Type 0} (R : X → X → Type 0) where
       (λ k d within. All-joined (R (get_or (g w) k d)) g ws (λ i e inside. across w (get_or ws i e) (pairs 0 (suc i) e (omega arith) (omega arith)) k d within))
 
   -- with their numbers
-  numbered_beside : (x : X) (n : ℕ) (xs : List X) → All (R x) xs → All (λ (e : ℕ × X). R x e.1) (enumerate_from n xs)
-  numbered_beside x n [] each = All-nil (λ (e : ℕ × X). R x e.1)
-  numbered_beside x n (y ∷ xs) each =
-      All-cons (λ (e : ℕ × X). R x e.1) (n, y) (enumerate_from (n + 1) xs) (All-head (R x) y xs each) (numbered_beside x (n + 1) xs (All-tail (R x) y xs each))
-
   pub AllPairs-numbered : (n : ℕ) (xs : List X) → AllPairs R xs → AllPairs (λ (d e : ℕ × X). R d.1 e.1) (enumerate_from n xs)
   AllPairs-numbered n [] pairs = λ i j d before within. absurd (omega arith)
   AllPairs-numbered n (x ∷ xs) pairs =
-      AllPairs-cons (λ (d e : ℕ × X). R d.1 e.1) (n, x) (enumerate_from (n + 1) xs) (numbered_beside x (n + 1) xs (pairs_head x xs pairs))
+      AllPairs-cons (λ (d e : ℕ × X). R d.1 e.1) (n, x) (enumerate_from (n + 1) xs) (All-numbered (R x) (n + 1) xs (pairs_head x xs pairs))
       (AllPairs-numbered (n + 1) xs (pairs_tail x xs pairs))
 
 -- ---- what passes
 
 module _ {X : Type 0} (p : X → Bool) where
-  pub find_none : (xs : List X) → All (λ x. p x ≡ false) xs → find p xs ≡ None
-  find_none [] none = refl
-  find_none (x ∷ xs) none =
-      let miss : p x ≡ false = All-head (λ y. p y ≡ false) x xs none in
-      cond-false (p x) (Some x) (find p xs) miss ∙ find_none xs (All-tail (λ y. p y ≡ false) x xs none)
-
-  pub filter_none : (xs : List X) → All (λ x. p x ≡ false) xs → filter p xs ≡ []
-  filter_none [] none = refl
-  filter_none (x ∷ xs) none =
-      let miss : p x ≡ false = All-head (λ y. p y ≡ false) x xs none in
-      cond-false (p x) (x ∷ filter p xs) (filter p xs) miss ∙ filter_none xs (All-tail (λ y. p y ≡ false) x xs none)
-
   pub filter_all : (xs : List X) → All (λ x. p x ≡ true) xs → filter p xs ≡ xs
   filter_all [] all = refl
   filter_all (x ∷ xs) all =
@@ -95,12 +76,6 @@ module _ {X : Type 0} (p : X → Bool) where
       cond-true (p x) (x ∷ filter p xs) (filter p xs) hit ∙ ap (λ ys. x ∷ ys) (filter_all xs (All-tail (λ y. p y ≡ true) x xs all))
 
   -- tests that agree at each
-  pub filter_alike : (q : X → Bool) (xs : List X) → All (λ x. p x ≡ q x) xs → filter p xs ≡ filter q xs
-  filter_alike q [] alike = refl
-  filter_alike q (x ∷ xs) alike =
-      ap (λ b. cond b (x ∷ filter p xs) (filter p xs)) (All-head (λ y. p y ≡ q y) x xs alike)
-      ∙ ap (λ ys. cond (q x) (x ∷ ys) ys) (filter_alike q xs (All-tail (λ y. p y ≡ q y) x xs alike))
-
   pub find_alike : (q : X → Bool) (xs : List X) → All (λ x. p x ≡ q x) xs → find p xs ≡ find q xs
   find_alike q [] alike = refl
   find_alike q (x ∷ xs) alike =
@@ -121,14 +96,6 @@ module _ {X : Type 0} (p : X → Bool) where
         let none : list_any (λ y. p y && q y) xs ≡ false = list_any_none (λ y. p y && q y) xs (λ k d within. and_left _ _ (once 0 (suc k) d (omega arith) (omega arith) hit)) in
         rw hit (ap (λ b. q x || b) none ∙ or-false (q x))
     | inr miss ↦ rw miss (any_beside q xs (λ i j d before within. once (suc i) (suc j) d (omega arith) (omega arith)))
-  ]
-
-  -- what is found passes
-  pub find_passes : (xs : List X) (x : X) → find p xs ≡ Some x → p x ≡ true
-  find_passes [] x is = absurd (cc)
-  find_passes (y ∷ xs) x is = elim (cases_Bool (p y)) [
-    | inl hit ↦ let same : y ≡ x = cc (cond-true (p y) (Some y) (find p xs) hit) in ap p (sym same) ∙ hit
-    | inr miss ↦ find_passes xs x (sym (cond-false (p y) (Some y) (find p xs) miss) ∙ is)
   ]
 
   -- what another test finds is found, where it passes and no other does

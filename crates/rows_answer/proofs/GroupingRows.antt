@@ -20,13 +20,14 @@ use Rattle.job_core.specs.Facts.{Batch, Facts}
 use Rattle.job_core.specs.Sound.{IsRecord}
 use Rattle.job_core.specs.States.{batch_named, plan_for, product_named, records_named, records_of, rows_of, rows_of_record}
 use Rattle.job_core.proofs.Lists.{map_same}
+use Rattle.table_rows.specs.Keys.{is_grouping_at, is_grouping_of, is_record_named}
 use Rattle.table_rows.specs.Tables.{StoredBatch, StoredGrouping, StoredRecord}
+use Rattle.table_rows.proofs.Found.{filter_alike}
 use Rattle.rows_of_facts.specs.Image.{batch_id, batches_by_id, groupings_in, place_in, stored_batch, stored_batches, stored_grouping, stored_groupings, stored_record, stored_records}
 use Rattle.rows_of_facts.proofs.Lists.{All-numbered}
-use Rattle.rows_answer.specs.Keys.{is_grouping_at, is_grouping_of, is_record_named}
 use Rattle.rows_answer.specs.Telling.{groupings_for, plan_in, row_of}
 use Rattle.rows_answer.proofs.BatchRows.{batch_at, named_row}
-use Rattle.rows_answer.proofs.Finding.{AllPairs-joined, AllPairs-map, filter_all, filter_alike, kept_joined, kept_numbered, number_once, numbers_rise}
+use Rattle.rows_answer.proofs.Finding.{AllPairs-joined, AllPairs-map, filter_all, kept_joined, kept_numbered, number_once, numbers_rise}
 use Rattle.rows_answer.proofs.RecordRows.{equal_self, name_at, name_row, names_are}
 
 -- ---- names and their places

@@ -9,7 +9,8 @@ use Rattle.std.proofs.lemmas.Option.{same_Some}
 use Rattle.std.proofs.lemmas.List.Folds.{list_any_none}
 use Rattle.job_core.proofs.Lists.{count_by_none, find-All}
 use Rattle.step_laws.proofs.Permuted.{at_most_one, count_moved, find_moved}
-use Rattle.rows_answer.proofs.Finding.{find_none, none_counted}
+use Rattle.table_rows.proofs.Found.{find_none}
+use Rattle.rows_answer.proofs.Finding.{none_counted}
 use Rattle.rows_answer.proofs.RecordRows.{equal_self}
 
 module _ {X : Type 0} (key : X → ℕ) where

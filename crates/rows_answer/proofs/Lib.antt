@@ -8,6 +8,7 @@ pub mod RowNumbers
 pub mod BatchRecords
 pub mod GroupingRows
 pub mod BatchTold
+pub mod CardCounts
 pub mod LineRows
 pub mod TotalRows
 pub mod InOrder

@@ -23,67 +23,16 @@ use Rattle.job_core.specs.States.{batch_named, is_good, is_running, is_spoiled, 
 use Rattle.job_core.proofs.Lists.{count_by_any, count_by_none, map_same}
 use Rattle.job_core.proofs.SoundFacts.{is_for}
 use Rattle.step_laws.proofs.BlankSums.{bytes_eq_either}
+use Rattle.table_rows.specs.Keys.{is_good_of, is_record_of}
 use Rattle.table_rows.specs.Tables.{StoredRecord, StoredSession}
 use Rattle.rows_of_facts.specs.Image.{batch_id, place_in, sessions_by_id, stored_batch, stored_batches, stored_record, stored_records, stored_session, stored_sessions}
-use Rattle.rows_answer.specs.Keys.{is_good_of, is_record_of}
 use Rattle.rows_answer.specs.Telling.{cards, line_of, lines_at, lines_in}
 use Rattle.rows_answer.proofs.BatchRecords.{rows_of_batch}
 use Rattle.rows_answer.proofs.BatchRows.{named_row, own_name}
+use Rattle.rows_answer.proofs.CardCounts.{cards_counted, spoiled_or_card}
 use Rattle.rows_answer.proofs.Finding.{find-filter, find-map, find_alike, found_numbered, unnumbered}
 use Rattle.rows_answer.proofs.GroupingRows.{place_alike}
 use Rattle.rows_answer.proofs.RecordRows.{equal_self, names_are, names_once}
-
--- ---- the sessions of a record by their states
-
-card_or_not : (t : SessionState) → cond {A = ℕ} (is_spoiled t) 1 0 + cond {A = ℕ} (has_card t) 1 0 ≡ 1
-card_or_not session.Running = refl
-card_or_not session.Good = refl
-card_or_not session.Spoiled = refl
-
-pub spoiled_or_card : (states : List SessionState) → length states ≡ count_by is_spoiled states + count_by has_card states
-spoiled_or_card [] = refl
-spoiled_or_card (t ∷ states) =
-    omega (arith, spoiled_or_card states, card_or_not t, sum_by-cons (λ s. cond {A = ℕ} (is_spoiled s) 1 0) t states, sum_by-cons (λ s. cond {A = ℕ} (has_card s) 1 0) t states)
-
-good_or_running : (t : SessionState) → cond {A = ℕ} (has_card t) 1 0 ≡ cond {A = ℕ} (is_good t) 1 0 + cond {A = ℕ} (is_running t) 1 0
-good_or_running session.Running = refl
-good_or_running session.Good = refl
-good_or_running session.Spoiled = refl
-
-pub two_cards : (states : List SessionState) → count_by has_card states ≡ count_by is_good states + count_by is_running states
-two_cards [] = refl
-two_cards (t ∷ states) = omega (
-  arith,
-  two_cards states,
-  good_or_running t,
-  sum_by-cons (λ s. cond {A = ℕ} (has_card s) 1 0) t states,
-  sum_by-cons (λ s. cond {A = ℕ} (is_good s) 1 0) t states,
-  sum_by-cons (λ s. cond {A = ℕ} (is_running s) 1 0) t states,
-)
-
--- without a card
-no_card : (withdrawn failed : Bool) → cards (cond withdrawn rec.Withdrawn (cond failed rec.Failed rec.Waiting)) ≡ 0
-no_card true failed = refl
-no_card false true = refl
-no_card false false = refl
-
-pub cards_counted : (states : List SessionState) (withdrawn : Bool) (remakes : ℕ) → IsSoundRecord states withdrawn remakes → count_by has_card states ≡ cards (state_by states withdrawn remakes)
-cards_counted states withdrawn remakes is =
-    let both = two_cards states in
-    let most = is.one_card in
-    elim (cases_Bool (list_any is_good states)) [
-      | inl good ↦
-          let one : count_by has_card states ≡ 1 = omega (arith, both, most, count_by_any is_good states good) in
-          one ∙ sym (rw good refl)
-      | inr ungood ↦ elim (cases_Bool (list_any is_running states)) [
-        | inl runs ↦
-            let one : count_by has_card states ≡ 1 = omega (arith, both, most, count_by_any is_running states runs) in
-            one ∙ sym (rw (ungood, runs) refl)
-        | inr idle ↦
-            let none : count_by has_card states ≡ 0 = omega (arith, both, count_by_none is_good states ungood, count_by_none is_running states idle) in
-            none ∙ sym (rw (ungood, idle) (no_card withdrawn _))
-      ]
-    ]
 
 -- ---- names and their places, in file order
 

@@ -5,9 +5,9 @@ use Rattle.std.proofs.lemmas.Bool.{and_from, and_parts, both_ways, eq-eqb, eqb-t
 use Rattle.store_data.proofs.GroupLemmas.{bytes_eq-same, same-bytes_eq}
 use Rattle.job_core.specs.Contents.{AreSound, Contents, Entry, Mark, has_mark, is_of_number}
 use Rattle.job_core.specs.Sound.{AreNamedOnce}
+use Rattle.table_rows.specs.Keys.{is_reply_to}
 use Rattle.table_rows.specs.Tables.{PassesOnce}
 use Rattle.rows_of_facts.specs.Image.{image}
-use Rattle.rows_answer.specs.Keys.{is_reply_to}
 use Rattle.rows_answer.proofs.Finding.{AllPairs-map}
 use Rattle.rows_answer.proofs.RecordRows.{name_alone}
 

@@ -24,67 +24,16 @@ use Rattle.job_core.proofs.SoundFacts.{is_for}
 use Rattle.step_laws.specs.Sums.{AreBlankSums, batches_of}
 use Rattle.step_laws.proofs.BlankSums.{blank_sums, by_keys, count_beside, one, sum_by_nothing}
 use Rattle.step_laws.proofs.GoodCards.{count_among}
+use Rattle.table_rows.specs.Keys.{is_batch_for, is_lot_for}
 use Rattle.table_rows.specs.Tables.{StoredBatch, StoredLot}
 use Rattle.rows_of_facts.specs.Image.{batches_by_id, stored_batch, stored_batches, stored_lot, stored_lots}
-use Rattle.rows_answer.specs.Keys.{is_batch_for, is_lot_for}
 use Rattle.rows_answer.specs.Telling.{blanks_of}
+use Rattle.rows_answer.proofs.CardCounts.{IsCardOf, good_counted, running_counted}
 use Rattle.rows_answer.proofs.Finding.{kept_numbered}
-use Rattle.rows_answer.proofs.LineRows.{two_cards}
 use Rattle.rows_answer.proofs.RecordRows.{names_once}
 
 pub sum_by-map : {X Y : Type 0} (g : Y → ℕ) (h : X → Y) (xs : List X) → sum_by g (map h xs) ≡ sum_by (λ x. g (h x)) xs
 sum_by-map g h xs = fold-map (λ a y. a + g y) h 0 xs
-
--- ---- a record's good session, or its running one
-
--- the session of a record that stands so, where that is with a card
-abbrev pub IsCardOf : SessionState → RecordState → Type 0
-IsCardOf state stands = (states : List SessionState) (withdrawn : Bool) (remakes : ℕ) → IsSoundRecord states withdrawn remakes
-    → count_by (same_session_state state) states ≡ one (same_record_state stands (state_by states withdrawn remakes))
-
-not_good : (withdrawn failed : Bool) → one (same_record_state rec.Good (cond withdrawn rec.Withdrawn (cond failed rec.Failed rec.Waiting))) ≡ 0
-not_good true failed = refl
-not_good false true = refl
-not_good false false = refl
-
-not_running : (withdrawn failed : Bool) → one (same_record_state rec.Running (cond withdrawn rec.Withdrawn (cond failed rec.Failed rec.Waiting))) ≡ 0
-not_running true failed = refl
-not_running false true = refl
-not_running false false = refl
-
-good_counted : IsCardOf session.Good rec.Good
-good_counted states withdrawn remakes is =
-    let both = two_cards states in
-    let most = is.one_card in
-    elim (cases_Bool (list_any is_good states)) [
-      | inl good ↦
-          let single : count_by is_good states ≡ 1 = omega (arith, both, most, count_by_any is_good states good) in
-          single ∙ sym (rw good refl)
-      | inr ungood ↦
-          let none : count_by is_good states ≡ 0 = count_by_none is_good states ungood in
-          elim (cases_Bool (list_any is_running states)) [
-            | inl runs ↦ none ∙ sym (rw (ungood, runs) refl)
-            | inr idle ↦ none ∙ sym (rw (ungood, idle) (not_good withdrawn _))
-          ]
-    ]
-
-running_counted : IsCardOf session.Running rec.Running
-running_counted states withdrawn remakes is =
-    let both = two_cards states in
-    let most = is.one_card in
-    elim (cases_Bool (list_any is_good states)) [
-      | inl good ↦
-          let none : count_by is_running states ≡ 0 = omega (arith, both, most, count_by_any is_good states good) in
-          none ∙ sym (rw good refl)
-      | inr ungood ↦ elim (cases_Bool (list_any is_running states)) [
-        | inl runs ↦
-            let single : count_by is_running states ≡ 1 = omega (arith, both, most, count_by_any is_running states runs) in
-            single ∙ sym (rw (ungood, runs) refl)
-        | inr idle ↦
-            let none : count_by is_running states ≡ 0 = count_by_none is_running states idle in
-            none ∙ sym (rw (ungood, idle) (not_running withdrawn _))
-      ]
-    ]
 
 -- ---- one name among names
 

@@ -13,23 +13,10 @@ use Rattle.job_core.specs.declared.rows.RecordLine.{RecordLine}
 use Rattle.job_core.specs.declared.rows.SessionRow.{SessionRow}
 use Rattle.job_core.specs.States.{product_named}
 use Rattle.table_rows.specs.declared.before.RecordPlace.{RecordPlace}
-use Rattle.table_rows.specs.Tables.{StoredBatch, StoredGrouping, StoredLot, StoredRecord, StoredSession}
-use Rattle.rows_answer.specs.Keys.{is_batch, is_batch_named, is_grouping_at, is_good_of, is_grouping_of, is_record_at, is_record_named, is_record_of, is_session, is_waiting_of}
+use Rattle.table_rows.specs.Keys.{is_batch, is_batch_named, is_good_of, is_grouping_at, is_grouping_of, is_record_at, is_record_named, is_record_of, is_session, is_waiting_of}
+use Rattle.table_rows.specs.Tables.{StoredBatch, StoredGrouping, StoredLot, StoredRecord, StoredSession, totals_of}
 
 -- ---- how a batch stands
-
--- each record has one of the five states
-abbrev pub totals_of : StoredBatch → BatchTotals
-totals_of b = record {
-  records = b.waiting + b.running + b.failed + b.withdrawn + b.good;
-  waiting = b.waiting;
-  running = b.running;
-  failed = b.failed;
-  withdrawn = b.withdrawn;
-  good = b.good;
-  sessions = b.sessions;
-  spoiled = b.spoiled;
-}
 
 -- nothing in it
 abbrev pub no_totals : BatchTotals

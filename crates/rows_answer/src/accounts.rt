@@ -3,7 +3,7 @@ ghost use Rattle.std.specs.Prelude.{◌≡◌, ℕ, List, filter};
 ghost use Rattle.job_core.specs.Accounts.{blank_totals, record_lines};
 ghost use Rattle.job_core.specs.Facts.{Facts};
 ghost use Rattle.job_core.specs.Sound.{IsSound};
-ghost use Rattle.rows_answer.specs.Keys.{is_batch_for, is_lot_for};
+ghost use Rattle.table_rows.specs.Keys.{is_batch_for, is_lot_for};
 ghost use Rattle.rows_answer.specs.Telling.{blanks_of, lines_in};
 ghost use Rattle.rows_of_facts.specs.Image.{stored_batches, stored_lots, stored_records};
 ghost use Rattle.rows_of_facts.specs.Image.{stored_sessions};

@@ -6,11 +6,11 @@ ghost use Rattle.job_core.specs.Facts.{Batch, Facts};
 ghost use Rattle.job_core.specs.Rows.{batch_has, batch_row_of, batch_size_of};
 ghost use Rattle.job_core.specs.Sound.{IsSound};
 ghost use Rattle.job_core.specs.States.{batch_named, is_batch_finished};
-ghost use Rattle.rows_answer.specs.Keys.{is_batch, is_batch_named, is_batch_with};
 ghost use Rattle.rows_answer.specs.Telling.{batch_of_row, has_raw_in, is_over_in, size_of};
 ghost use Rattle.rows_answer.specs.Telling.{totals_in};
 ghost use Rattle.rows_of_facts.specs.Image.{batch_id, stored_batch, stored_batches};
 ghost use Rattle.rows_of_facts.specs.Image.{stored_groupings};
+ghost use Rattle.table_rows.specs.Keys.{is_batch, is_batch_named, is_batch_with};
 ghost use Rattle.table_rows.specs.Tables.{PassesOnce};
 
 /// A name finds the row of the batch that has it.

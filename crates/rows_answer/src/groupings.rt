@@ -7,10 +7,10 @@ ghost use Rattle.job_core.specs.Facts.{Batch, Facts};
 ghost use Rattle.job_core.specs.Sound.{IsRecord};
 ghost use Rattle.job_core.specs.States.{batch_named, plan_for, records_named, rows_of};
 ghost use Rattle.job_core.specs.States.{rows_of_record};
-ghost use Rattle.rows_answer.specs.Keys.{is_grouping_at, is_grouping_of};
 ghost use Rattle.rows_answer.specs.Telling.{plan_in, row_of};
 ghost use Rattle.rows_of_facts.specs.Image.{batch_id, place_in, stored_batches, stored_grouping};
 ghost use Rattle.rows_of_facts.specs.Image.{stored_groupings, stored_records};
+ghost use Rattle.table_rows.specs.Keys.{is_grouping_at, is_grouping_of};
 ghost use Rattle.table_rows.specs.Tables.{StoredGrouping};
 
 /// The rows for a record, by rising lines, tell its rows of its batch's file.

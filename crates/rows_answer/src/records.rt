@@ -7,12 +7,12 @@ ghost use Rattle.job_core.specs.Facts.{Batch, Facts};
 ghost use Rattle.job_core.specs.Sound.{IsRecord};
 ghost use Rattle.job_core.specs.States.{batch_named, first_waiting, record_state_of};
 ghost use Rattle.job_core.specs.States.{records_named};
-ghost use Rattle.rows_answer.specs.Keys.{is_batch_named, is_record_at, is_record_named};
-ghost use Rattle.rows_answer.specs.Keys.{is_record_of, is_waiting_of};
 ghost use Rattle.rows_answer.specs.Telling.{place_of, record_row, waiting_in};
 ghost use Rattle.rows_of_facts.specs.Before.{IsPlaceOf};
 ghost use Rattle.rows_of_facts.specs.Image.{batch_id, place_in, stored_batches, stored_record};
 ghost use Rattle.rows_of_facts.specs.Image.{stored_records};
+ghost use Rattle.table_rows.specs.Keys.{is_batch_named, is_record_at, is_record_named};
+ghost use Rattle.table_rows.specs.Keys.{is_record_of, is_waiting_of};
 ghost use Rattle.table_rows.specs.Tables.{PassesOnce, StoredBatch, StoredRecord};
 
 /// A record's name with the id of its batch finds its row, which tells its state, and with its

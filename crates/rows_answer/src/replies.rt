@@ -2,8 +2,8 @@
 ghost use Rattle.std.specs.Prelude.{ℕ, List, map};
 ghost use Rattle.job_core.specs.Contents.{AreSound, Contents, Mark, has_mark};
 ghost use Rattle.job_core.specs.Sound.{AreNamedOnce};
-ghost use Rattle.rows_answer.specs.Keys.{is_reply_to};
 ghost use Rattle.rows_of_facts.specs.Image.{image};
+ghost use Rattle.table_rows.specs.Keys.{is_reply_to};
 ghost use Rattle.table_rows.specs.Tables.{PassesOnce};
 
 /// A number of a client has one row of a reply at most, and a client one of a mark.

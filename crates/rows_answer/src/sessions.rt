@@ -4,11 +4,11 @@ ghost use Rattle.job_core.specs.Facts.{Facts, Session};
 ghost use Rattle.job_core.specs.Rows.{session_row_of};
 ghost use Rattle.job_core.specs.Sound.{IsSound};
 ghost use Rattle.job_core.specs.States.{running_session, session_numbered};
-ghost use Rattle.rows_answer.specs.Keys.{is_batch, is_record_at, is_running_on, is_session};
 ghost use Rattle.rows_answer.specs.Telling.{place_of, session_in};
 ghost use Rattle.rows_of_facts.specs.Before.{IsPlaceOfSession};
 ghost use Rattle.rows_of_facts.specs.Image.{stored_batches, stored_records, stored_session};
 ghost use Rattle.rows_of_facts.specs.Image.{stored_sessions};
+ghost use Rattle.table_rows.specs.Keys.{is_batch, is_record_at, is_running_on, is_session};
 ghost use Rattle.table_rows.specs.Tables.{PassesOnce, StoredBatch, StoredRecord, StoredSession};
 
 /// A session's number finds its row, and this the rows of its batch and its record, which tell

@@ -34,17 +34,6 @@ to_last R xs x pairs k d within =
     let there = pairs k (length xs) d within (omega (arith, length_push xs x)) in
     subst (λ y. R y x) (get_or_append_left xs (x ∷ []) d k within) (subst (R (get_or (xs ++ x ∷ []) k d)) (get_or_push xs x d (length xs) refl) there)
 
--- where none passes
-pub filter_none : {X : Type 0} (p : X → Bool) (xs : List X) → All (λ x. p x ≡ false) xs → filter p xs ≡ []
-filter_none p [] none = refl
-filter_none p (x ∷ xs) none =
-    ap (λ b. cond b (x ∷ filter p xs) (filter p xs)) (All-head (λ y. p y ≡ false) x xs none) ∙ filter_none p xs (All-tail (λ y. p y ≡ false) x xs none)
-
-pub find_none : {X : Type 0} (p : X → Bool) (xs : List X) → All (λ x. p x ≡ false) xs → find p xs ≡ None
-find_none p [] none = refl
-find_none p (x ∷ xs) none =
-    ap (λ b. cond b (Some x) (find p xs)) (All-head (λ y. p y ≡ false) x xs none) ∙ find_none p xs (All-tail (λ y. p y ≡ false) x xs none)
-
 -- what is found is at the place where it was, with more behind it
 pub place_kept : {X : Type 0} (p : X → Bool) (xs ys : List X) (x : X) → find p xs ≡ Some x → position_or_len p (xs ++ ys) ≡ position_or_len p xs
 place_kept p [] ys x is = absurd (none-some x is)

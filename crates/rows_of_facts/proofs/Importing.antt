@@ -37,9 +37,10 @@ use Rattle.table_rows.specs.After.{batch_rows_after, new_batch, new_grouping, ne
 use Rattle.table_rows.specs.Tables.{HaveSameRows, StoredBatch, StoredRemake}
 use Rattle.table_rows.specs.declared.before.Before.{Before}
 use Rattle.table_rows.specs.declared.before.Before.TheVariants as before
+use Rattle.table_rows.proofs.Found.{filter_none, find_none}
 use Rattle.rows_of_facts.specs.Before.{IsBefore}
 use Rattle.rows_of_facts.specs.Image.{batch_id, batches_by_id, groupings_in, image, place_in, placed_records, records_in, remakes_at, remakes_in, sessions_by_id, stored_batch, stored_batches, stored_blanks, stored_groupings, stored_lots, stored_record, stored_records, stored_remakes, stored_session, stored_sessions, stored_words}
-use Rattle.rows_of_facts.proofs.Found.{filter_none, find_none, found_alone, place_kept, some_there, to_last}
+use Rattle.rows_of_facts.proofs.Found.{found_alone, place_kept, some_there, to_last}
 use Rattle.rows_of_facts.proofs.Lists.{All-numbered, flat_map_same, pushed, unmoved}
 use Rattle.rows_of_facts.proofs.OneRecord.{turned}
 use Rattle.rows_of_facts.proofs.Staying.{batch_by, cursor_kept, record_kept, session_by, session_states_kept, totals_are, totals_by}

@@ -1,7 +1,7 @@
 -- Lists with numbers, and joined lists.
 use Rattle.std.proofs.Common.{◌≡◌, ℕ, ◌+◌, List, [], ◌∷◌, ◌++◌, All, refl, ap, ◌∙◌, IsPermutation}
 use Rattle.std.specs.List.{enumerate_from, flat_map}
-use Rattle.std.proofs.lemmas.List.Elements.{All-nil, All-cons, All-head, All-tail}
+use Rattle.std.proofs.lemmas.List.Elements.{All-append, All-cons, All-head, All-nil, All-tail}
 use Rattle.std.proofs.lemmas.List.Sorted.{IsPermutation-push_more, IsPermutation-refl}
 
 module _ {X : Type 0} where
@@ -9,6 +9,11 @@ module _ {X : Type 0} where
   pub All-numbered : (P : X → Type 0) (n : ℕ) (xs : List X) → All P xs → All (λ (e : ℕ × X). P e.1) (enumerate_from n xs)
   All-numbered P n [] each = All-nil (λ (e : ℕ × X). P e.1)
   All-numbered P n (x ∷ xs) each = All-cons (λ (e : ℕ × X). P e.1) (n, x) (enumerate_from (n + 1) xs) (All-head P x xs each) (All-numbered P (n + 1) xs (All-tail P x xs each))
+
+  -- what holds of each that is joined holds of the whole
+  pub All-joined : {Y : Type 0} (P : Y → Type 0) (g : X → List Y) (xs : List X) → All (λ x. All P (g x)) xs → All P (flat_map g xs)
+  All-joined P g [] each = All-nil P
+  All-joined P g (x ∷ xs) each = All-append P (g x) (flat_map g xs) (All-head (λ y. All P (g y)) x xs each) (All-joined P g xs (All-tail (λ y. All P (g y)) x xs each))
 
   -- one more at the end, as one more at the front
   pub pushed : (xs : List X) (x : X) → IsPermutation (xs ++ x ∷ []) (x ∷ xs)

@@ -11,6 +11,7 @@ use Rattle.step_laws.proofs.Kept.{product_knows}
 use Rattle.table_rows.specs.After.{rows_after}
 use Rattle.table_rows.specs.Tables.{HaveSameRows}
 use Rattle.table_rows.specs.Tables as tables
+use Rattle.table_rows.proofs.Same.{itself}
 use Rattle.table_rows.specs.declared.before.Before.{Before}
 use Rattle.table_rows.specs.declared.before.Before.TheVariants as before
 use Rattle.rows_of_facts.specs.Before.{IsBefore}
@@ -46,42 +47,9 @@ rows_with_reply c entry = record {
   marks = unmoved _ _ refl;
 }
 
-pub rows_with_product : (c : Contents) (p : Product) (entry : Entry) → IsSound c.facts
-    → HaveSameRows (image (committed c (change.AddsProduct p) entry)) (tables.with_reply entry (tables.with_product p (image c)))
-rows_with_product c p entry sound =
-    let f = c.facts in
-    let g = with_product f p in
-    let stands : (b r : List ℕ) → StandsSame f g b r = λ b r. others_same f (change.AddsProduct p) sound tt b r refl in
-    let more = product_knows f p in
-    record {
-      products = pushed f.products p;
-      lots = unmoved _ _ (lots_stay f p);
-      batches = unmoved _ _ (batches_stay f g sound more refl stands (session_states_same f g sound more refl stands refl) refl);
-      records = unmoved _ _ (records_stay f g sound more refl stands);
-      groupings = unmoved _ _ (groupings_stay f g sound more refl stands);
-      sessions = unmoved _ _ (sessions_stay f g sound more refl stands refl);
-      words = unmoved _ _ (words_stay f p);
-      blanks = unmoved _ _ (blanks_stay f p);
-      remakes = unmoved _ _ (remakes_stay f g sound more refl stands);
-      replies = pushed c.kept entry;
-      marks = unmoved _ _ refl;
-    }
-
 pub rows_after_nothing : (c : Contents) (told : Before) → IsSound c.facts → IsSoundChange c.facts change.Nothing → IsBefore c.facts change.Nothing told
     → HaveSameRows (image (record c { facts = changed c.facts change.Nothing })) (rows_after change.Nothing told (image c))
-rows_after_nothing c before.Nothing sound keeps is = record {
-  products = unmoved _ _ refl;
-  lots = unmoved _ _ refl;
-  batches = unmoved _ _ refl;
-  records = unmoved _ _ refl;
-  groupings = unmoved _ _ refl;
-  sessions = unmoved _ _ refl;
-  words = unmoved _ _ refl;
-  blanks = unmoved _ _ refl;
-  remakes = unmoved _ _ refl;
-  replies = unmoved _ _ refl;
-  marks = unmoved _ _ refl;
-}
+rows_after_nothing c before.Nothing sound keeps is = itself (image c)
 rows_after_nothing c _ sound keeps is = absurd is
 
 pub rows_after_product : (c : Contents) (p : Product) (told : Before) → IsSound c.facts → IsSoundChange c.facts (change.AddsProduct p) → IsBefore c.facts (change.AddsProduct p) told

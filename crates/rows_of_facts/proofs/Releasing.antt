@@ -8,17 +8,12 @@ use Rattle.store_data.proofs.GroupLemmas.{bytes_eq-same, same-bytes_eq}
 use Rattle.job_core.specs.Contents.{AreSound, Contents, Entry, IsOwedRelease, Mark, above, has_mark, is_above, mark_of, released, with_mark}
 use Rattle.table_rows.specs.After.{rows_after_release}
 use Rattle.table_rows.specs.Tables.{HaveSameRows, is_released}
+use Rattle.table_rows.proofs.Found.{filter_alike}
 use Rattle.rows_of_facts.specs.Image.{image}
 use Rattle.rows_of_facts.proofs.Lists.{pushed, unmoved}
 
 abbrev upto_of : Option Mark → ℕ
 upto_of o = unwrap_or (option_map (λ (m : Mark). m.upto) o) 0
-
-filter_same : {X : Type 0} (p q : X → Bool) (xs : List X) → All (λ x. p x ≡ q x) xs → filter p xs ≡ filter q xs
-filter_same p q [] same = refl
-filter_same p q (x ∷ xs) same =
-    ap (λ b. cond b (x ∷ filter p xs) (filter p xs)) (All-head (λ y. p y ≡ q y) x xs same)
-    ∙ ap (λ ys. cond (q x) (x ∷ ys) ys) (filter_same p q xs (All-tail (λ y. p y ≡ q y) x xs same))
 
 module _ (client : List ℕ) (upto : ℕ) where
   abbrev new : Mark
@@ -74,7 +69,7 @@ rows_after_release_are c upto entry sound owed =
     let marks : List Mark = with_mark c.marks client upto in
     let is_left : Entry → Bool = λ e. not (is_released client upto e) in
     let old : filter (is_above marks) c.kept ≡ filter is_left c.kept =
-    filter_same (is_above marks) is_left c.kept
+    filter_alike (is_above marks) is_left c.kept
     (All-weaker (λ e. is_above c.marks e ≡ true) (λ e. is_above marks e ≡ is_left e) (stays_above client upto c.marks) c.kept sound.above) in
     let own : is_above marks entry ≡ true =
     ap (λ n. nat_lt n entry.number) (mark_after client upto c.marks client) ∙ ap (λ b. nat_lt (cond b upto (mark_of c.marks client)) entry.number) (bytes_eq-same client)

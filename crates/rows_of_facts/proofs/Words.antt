@@ -186,28 +186,3 @@ rows_after_word c s index sw session.Spoiled cursor (before.OfRecord p) sound ke
       marks = unmoved _ _ refl;
     })
 rows_after_word c s index sw _ cursor _ sound keeps is = absurd is
-
--- ---- with its reply
-
-abbrev Moved : Facts → Facts → ℕ → ℕ → ℕ → Cursor → List Entry → List Mark → Entry → Type 0
-Moved f g s index sw cursor kept marks entry = HaveSameRows (image (record { facts = g; kept = kept ++ entry ∷ []; marks = marks }))
-    (with_reply entry (with_session_set s session.Running (index + 1) cursor (tables.with_word (record { session = s; place = index; sw = sw }) (image (record { facts = f; kept = kept; marks = marks })))))
-
-pub rows_with_going_word : (f : Facts) (s index sw : ℕ) (cursor : Cursor) → IsSoundChange f (change.AddsWord s index sw session.Running cursor) → IsSound f
-    → (kept : List Entry) (marks : List Mark) (entry : Entry) → Moved f (with_word f s sw) s index sw cursor kept marks entry
-rows_with_going_word f s index sw cursor keeps sound kept marks entry =
-    let c : Contents = record { facts = f; kept = kept; marks = marks } in
-    let rows = rows_after_word c s index sw session.Running cursor before.Nothing sound keeps tt in
-    record {
-      products = rows.products;
-      lots = rows.lots;
-      batches = rows.batches;
-      records = rows.records;
-      groupings = rows.groupings;
-      sessions = rows.sessions;
-      words = rows.words;
-      blanks = rows.blanks;
-      remakes = rows.remakes;
-      replies = pushed kept entry;
-      marks = rows.marks;
-    }

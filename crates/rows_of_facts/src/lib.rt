@@ -4,5 +4,5 @@
 mod laws;
 mod releases;
 
-pub use laws::{rows_after_change, rows_with_going_word, rows_with_product, rows_with_reply};
+pub use laws::{rows_after_change, rows_with_reply};
 pub use releases::rows_after_release;

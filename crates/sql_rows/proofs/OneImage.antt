@@ -12,27 +12,27 @@ use Rattle.job_core.specs.declared.facts.RecordState.TheVariants as rec
 use Rattle.job_core.specs.declared.facts.SessionState.{SessionState}
 use Rattle.job_core.specs.declared.facts.SessionState.TheVariants as session
 use Rattle.table_rows.specs.Tables.{HaveSameRows, StoredBatch, StoredBlank, StoredGrouping, StoredLot, StoredRecord, StoredSession, Tables}
-use Rattle.sql_rows.specs.Decoding.{batch_of, blank_of, enc_of_code, flag_of, grouping_of, lot_of, mark_of, product_of, record_of, record_state_of_code, remake_of, reply_of, session_of, session_state_of_code, word_of}
-use Rattle.sql_rows.specs.Encoding.{batch_row, blank_row, enc_code, flag, grouping_row, lot_row, mark_row, product_row, record_code, record_row, remake_row, reply_row, session_code, session_row, word_row}
+use Rattle.sql_rows.specs.Decoding.{batch_of, blank_of, enc_of_code, flag_in, grouping_of, lot_of, mark_of, product_of, record_of, record_state_of_code, remake_of, reply_of, session_of, session_state_of_code, word_of}
+use Rattle.sql_rows.specs.Encoding.{batch_row, blank_row, enc_code, flag, grouping_row, lot_row, mark_row, number, product_row, record_code, record_row, remake_row, reply_row, session_code, session_row, word_row}
 use Rattle.sql_rows.specs.Image.{IsImage}
 
-flag_back : (b : Bool) → flag_of (flag b) ≡ b
+pub flag_back : (b : Bool) → flag_in (number (flag b)) ≡ b
 flag_back true = refl
 flag_back false = refl
 
-record_state_back : (s : RecordState) → record_state_of_code (record_code s) ≡ s
+pub record_state_back : (s : RecordState) → record_state_of_code (record_code s) ≡ s
 record_state_back rec.Waiting = refl
 record_state_back rec.Running = refl
 record_state_back rec.Failed = refl
 record_state_back rec.Withdrawn = refl
 record_state_back rec.Good = refl
 
-session_state_back : (s : SessionState) → session_state_of_code (session_code s) ≡ s
+pub session_state_back : (s : SessionState) → session_state_of_code (session_code s) ≡ s
 session_state_back session.Running = refl
 session_state_back session.Good = refl
 session_state_back session.Spoiled = refl
 
-enc_back : (e : Enc) → enc_of_code (enc_code e) ≡ e
+pub enc_back : (e : Enc) → enc_of_code (enc_code e) ≡ e
 enc_back enc.Plain = refl
 enc_back enc.All = refl
 enc_back enc.Mixed = refl

@@ -1,5 +1,6 @@
 -- What the values of a row tell: the typed row that stands so.
-use Rattle.std.specs.Prelude.{ℕ, zero, suc, pos, Bool, true, false, List, []}
+use Rattle.std.specs.Prelude.{ℕ, zero, suc, pos, Bool, true, false, not, List, []}
+use Rattle.std.specs.Ordering.{int_eq}
 use Rattle.sqlite.specs.declared.types.Value.{Value}
 use Rattle.sqlite.specs.declared.types.Value.TheVariants.{Int, Text, Blob}
 use Rattle.sqlite.specs.Order.{Row, column}
@@ -19,14 +20,16 @@ abbrev pub number_in : Value → ℕ
 number_in (Int (pos n)) = n
 number_in _ = 0
 
+abbrev pub flag_in : Value → Bool
+flag_in (Int n) = not (int_eq n (pos 0))
+flag_in _ = false
+
 abbrev pub bytes_in : Value → List ℕ
 bytes_in (Text bytes) = bytes
 bytes_in (Blob bytes) = bytes
 bytes_in _ = []
 
-abbrev pub flag_of : ℕ → Bool
-flag_of zero = false
-flag_of (suc n) = true
+-- ---- codes
 
 abbrev pub record_state_of_code : ℕ → RecordState
 record_state_of_code zero = rec.Waiting
@@ -54,7 +57,7 @@ abbrev bytes_at : Row → ℕ → List ℕ
 bytes_at row k = bytes_in (column row k)
 
 abbrev flag_at : Row → ℕ → Bool
-flag_at row k = flag_of (number_at row k)
+flag_at row k = flag_in (column row k)
 
 abbrev pub product_of : Row → Product
 product_of row = record { code = bytes_at row 0; max = number_at row 1; low = number_at row 2; check = flag_at row 3 }

@@ -1,23 +1,18 @@
 -- What the rows are that were found, by what is told of them.
 use Rattle.std.proofs.Common.{◌≡◌, ℕ, List, Option, Some, None, refl, sym, ap, subst, ◌∙◌}
 use Rattle.std.specs.Prelude.{find, option_map}
-use Rattle.std.proofs.lemmas.Option.{none-some, same_Some}
 use Rattle.job_core.specs.declared.rows.SessionRow.{SessionRow}
+use Rattle.job_core.proofs.Lists.{mapped, unmapped}
 use Rattle.row_reads.specs.declared.records.RecordAt.{RecordAt}
 use Rattle.row_reads.specs.declared.sessions.SessionAt.{SessionAt}
 use Rattle.row_reads.specs.CardDecoding.{record_at, session_at}
+use Rattle.table_rows.specs.Keys.{is_batch, is_batch_named, is_record_at, is_record_named, is_session}
 use Rattle.table_rows.specs.Tables.{StoredBatch, StoredRecord, StoredSession}
-use Rattle.rows_answer.specs.Keys.{is_batch, is_batch_named, is_record_at, is_record_named, is_session}
 use Rattle.rows_answer.specs.Telling.{record_row, session_in, session_of}
 use Rattle.rows_answer.proofs.Finding.{option_map-map}
 
-pub found_none : {X Y : Type 0} (f : X → Y) (o : Option X) → None ≡ option_map f o → o ≡ None
-found_none f None is = refl
-found_none f (Some x) is = absurd (none-some (f x) is)
-
 pub found_some : {X Y : Type 0} (f : X → Y) (o : Option X) (y : Y) → Some y ≡ option_map f o → (x : X) × (o ≡ Some x) × (y ≡ f x)
-found_some f None y is = absurd (none-some y (sym is))
-found_some f (Some x) y is = (x, refl, same_Some y (f x) is)
+found_some f o y is = let it = mapped f o y (sym is) in (it.0, it.1, sym it.2)
 
 -- ---- sessions
 
@@ -33,13 +28,13 @@ module _ (sessions : List StoredSession) (batches : List StoredBatch) (records :
   session_is x b y one two three = rw (one, two, three) refl
 
   pub no_session : None ≡ option_map session_at (find (is_session id) sessions) → None ≡ session_in sessions batches records id
-  no_session none = rw (found_none session_at (find (is_session id) sessions) none) refl
+  no_session none = rw (unmapped session_at (find (is_session id) sessions) (sym none)) refl
 
   module _ (s : SessionAt) (s_is : Some s ≡ option_map session_at (find (is_session id) sessions)) where
     pub no_batch : None ≡ option_map (λ (b : StoredBatch). b.name) (find (is_batch s.batch) batches) → None ≡ session_in sessions batches records id
     no_batch none =
         let x = found_some session_at (find (is_session id) sessions) s s_is in
-        let none_at = subst (λ (k : ℕ). find (is_batch k) batches ≡ None) (ap (λ (t : SessionAt). t.batch) x.2) (found_none (λ (b : StoredBatch). b.name) (find (is_batch s.batch) batches) none) in
+        let none_at = subst (λ (k : ℕ). find (is_batch k) batches ≡ None) (ap (λ (t : SessionAt). t.batch) x.2) (unmapped (λ (b : StoredBatch). b.name) (find (is_batch s.batch) batches) (sym none)) in
         rw (x.1, none_at) refl
 
     module _ (n : List ℕ) (n_is : Some n ≡ option_map (λ (b : StoredBatch). b.name) (find (is_batch s.batch) batches)) where
@@ -48,7 +43,7 @@ module _ (sessions : List StoredSession) (batches : List StoredBatch) (records :
           let x = found_some session_at (find (is_session id) sessions) s s_is in
           let b = found_some (λ (b : StoredBatch). b.name) (find (is_batch s.batch) batches) n n_is in
           let b_at = subst (λ (t : SessionAt). find (is_batch t.batch) batches ≡ Some b.0) x.2 b.1 in
-          let none_at = subst (λ (t : SessionAt). find (is_record_at t.batch t.place) records ≡ None) x.2 (found_none record_at (find (is_record_at s.batch s.place) records) none) in
+          let none_at = subst (λ (t : SessionAt). find (is_record_at t.batch t.place) records ≡ None) x.2 (unmapped record_at (find (is_record_at s.batch s.place) records) (sym none)) in
           rw (x.1, b_at, none_at) refl
 
       pub session_told : (r : RecordAt) → Some r ≡ option_map record_at (find (is_record_at s.batch s.place) records)
@@ -65,7 +60,7 @@ module _ (sessions : List StoredSession) (batches : List StoredBatch) (records :
 
 module _ (batches : List StoredBatch) (records : List StoredRecord) (b r : List ℕ) where
   pub no_batch_of : None ≡ option_map (λ (row : StoredBatch). row.id) (find (is_batch_named b) batches) → None ≡ option_map (λ (x : StoredRecord). x.state) (record_row batches records b r)
-  no_batch_of none = rw (found_none (λ (row : StoredBatch). row.id) (find (is_batch_named b) batches) none) refl
+  no_batch_of none = rw (unmapped (λ (row : StoredBatch). row.id) (find (is_batch_named b) batches) (sym none)) refl
 
   pub state_told : (id : ℕ) → Some id ≡ option_map (λ (row : StoredBatch). row.id) (find (is_batch_named b) batches) → (found : Option RecordAt) → found ≡ option_map record_at (find (is_record_named id r) records)
       → option_map (λ (x : RecordAt). x.stands) found ≡ option_map (λ (x : StoredRecord). x.state) (record_row batches records b r)

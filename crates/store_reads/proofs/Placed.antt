@@ -7,13 +7,13 @@ use Rattle.job_core.specs.Facts.{Facts}
 use Rattle.job_core.specs.Rows.{session_row, session_row_of}
 use Rattle.job_core.specs.States.{lot_named, session_numbered}
 use Rattle.table_rows.specs.declared.before.RecordPlace.{RecordPlace}
+use Rattle.table_rows.specs.Keys.{is_batch_named, is_lot_named, is_record_named}
 use Rattle.table_rows.specs.Tables.{StoredBatch, StoredLot, StoredRecord}
 use Rattle.row_reads.specs.declared.batches.BatchHead.{BatchHead}
 use Rattle.row_reads.specs.declared.lots.LotRow.{LotRow}
 use Rattle.row_reads.specs.declared.records.RecordAt.{RecordAt}
 use Rattle.row_reads.specs.CardDecoding.{record_at}
 use Rattle.row_reads.specs.Telling.{head_of, lot_row_of}
-use Rattle.rows_answer.specs.Keys.{is_batch_named, is_lot_named, is_record_named}
 use Rattle.rows_answer.specs.Telling.{place_of}
 use Rattle.rows_of_facts.specs.Before.{IsPlaceOf, IsPlaceOfSession}
 use Rattle.rows_of_facts.specs.Image.{stored_batches, stored_lots, stored_records}

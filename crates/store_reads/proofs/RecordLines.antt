@@ -11,6 +11,7 @@ use Rattle.std.proofs.lemmas.List.Folds.{find-append}
 use Rattle.std.proofs.lemmas.List.Sums.{sum_by-cons, sum_by_push}
 use Rattle.std.proofs.lemmas.Option.{none-some}
 use Rattle.job_core.specs.Facts.{Batch, Facts}
+use Rattle.job_core.proofs.Lists.{unmapped}
 use Rattle.row_reads.specs.declared.records.RecordAt.{RecordAt}
 use Rattle.row_reads.specs.declared.sessions.GoodCard.{GoodCard}
 use Rattle.row_reads.specs.CardDecoding.{good_at, place_of, record_at}
@@ -18,12 +19,12 @@ use Rattle.row_reads.specs.Extremes.{AreSorted}
 use Rattle.rows_of_facts.specs.Image.{placed_records, records_in, stored_batches, stored_record, stored_records, stored_sessions}
 use Rattle.sql_base.proofs.Selecting.{map_map}
 use Rattle.step_laws.proofs.Permuted.{count_moved, find_moved}
+use Rattle.table_rows.specs.Keys.{is_batch_named, is_good_of, is_record_of}
 use Rattle.table_rows.specs.Tables.{StoredBatch, StoredRecord, StoredSession}
-use Rattle.rows_answer.specs.Keys.{is_batch_named, is_good_of, is_record_of}
 use Rattle.rows_answer.specs.Telling.{line_of, lines_at, lines_in}
 use Rattle.rows_answer.proofs.Finding.{find-map, option_map-map}
 use Rattle.store_reads.specs.Lines.{blank_of, is_card_at, line_told, lines_with}
-use Rattle.store_reads.proofs.Found.{found_none, found_some}
+use Rattle.store_reads.proofs.Found.{found_some}
 use Rattle.store_reads.proofs.Ordered.{told_in_order}
 
 -- ---- what is told of rows
@@ -68,7 +69,7 @@ module _ (f : Facts) where
       → lines_with f (unwrap_or found 0) ≡ lines_in (stored_batches f) (stored_records f) (stored_sessions f) b
   lines_by_id b None none =
       ap (map (line_of (filter (is_good_of 0) (stored_sessions f)))) none_at_0
-      ∙ sym (ap (lines_at (stored_records f) (stored_sessions f)) (found_none (λ (row : StoredBatch). row.id) (find (is_batch_named b) (stored_batches f)) none))
+      ∙ sym (ap (lines_at (stored_records f) (stored_sessions f)) (unmapped (λ (row : StoredBatch). row.id) (find (is_batch_named b) (stored_batches f)) (sym none)))
   lines_by_id b (Some id) is =
       let row = found_some (λ (row : StoredBatch). row.id) (find (is_batch_named b) (stored_batches f)) id is in
       ap (lines_with f) row.2 ∙ sym (ap (lines_at (stored_records f) (stored_sessions f)) row.1)
@@ -96,7 +97,7 @@ module _ (xs : List GoodCard) (g : GoodCard) (free : blank_of xs g.place ≡ Non
   none_there : (k : ℕ) → (g.place == k) ≡ true → find (is_card_at k) xs ≡ None
   none_there k hit =
       let same : g.place ≡ k = grind (arith, nat_tests, hit) in
-      found_none serial (find (is_card_at k) xs) (sym (ap (blank_of xs) (sym same) ∙ free))
+      unmapped serial (find (is_card_at k) xs) (ap (blank_of xs) (sym same) ∙ free)
 
   pub blank_more : (k : ℕ) → blank_of (xs ++ g ∷ []) k ≡ cond (g.place == k) (Some g.serial) (blank_of xs k)
   blank_more k =

@@ -11,26 +11,27 @@ use Rattle.job_core.specs.declared.rows.SegmentRow.{SegmentRow}
 use Rattle.job_core.specs.Facts.{Facts}
 use Rattle.job_core.specs.Rows.{segment_row, segment_row_of}
 use Rattle.job_core.specs.States.{plan_for, product_named}
+use Rattle.job_core.proofs.Lists.{unmapped}
 use Rattle.row_reads.specs.declared.batches.BatchHead.{BatchHead}
 use Rattle.row_reads.specs.declared.groupings.GroupingAt.{GroupingAt}
 use Rattle.row_reads.specs.declared.records.RecordAt.{RecordAt}
 use Rattle.row_reads.specs.CardDecoding.{grouping_at, line_of, record_at}
 use Rattle.row_reads.specs.Extremes.{AreSorted}
 use Rattle.row_reads.specs.Telling.{head_of}
-use Rattle.row_reads.proofs.Looking.{find_passes}
 use Rattle.rows_of_facts.specs.Image.{stored_batches, stored_groupings, stored_records}
 use Rattle.sql_base.proofs.Selecting.{map_map}
+use Rattle.table_rows.specs.Keys.{is_batch_named, is_grouping_at, is_record_named}
 use Rattle.table_rows.specs.Tables.{StoredBatch, StoredGrouping, StoredRecord}
-use Rattle.rows_answer.specs.Keys.{is_batch_named, is_grouping_at, is_record_named}
+use Rattle.table_rows.proofs.Found.{find_passes}
 use Rattle.rows_answer.specs.Telling.{groupings_for, plan_in, row_of}
 use Rattle.store_reads.specs.declared.segments.BatchProduct.{BatchProduct}
 use Rattle.store_reads.specs.Segments.{product_in, product_under, row_told, rows_in}
-use Rattle.store_reads.proofs.Found.{found_none, found_some}
+use Rattle.store_reads.proofs.Found.{found_some}
 use Rattle.store_reads.proofs.Ordered.{told_in_order}
 
 module _ (f : Facts) (b : List ℕ) where
   pub no_product : None ≡ option_map head_of (find (is_batch_named b) (stored_batches f)) → None ≡ product_in f b
-  no_product none = rw (found_none head_of (find (is_batch_named b) (stored_batches f)) none) refl
+  no_product none = rw (unmapped head_of (find (is_batch_named b) (stored_batches f)) (sym none)) refl
 
   pub product_told : (h : BatchHead) → Some h ≡ option_map head_of (find (is_batch_named b) (stored_batches f)) → (found : Option Product) → found ≡ product_named f.products h.product
       → option_map (λ (p : Product). let e : BatchProduct = record { id = h.id; product = p } in e) found ≡ product_in f b
@@ -46,7 +47,7 @@ both_left false y both = both
 
 module _ (f : Facts) (id : ℕ) (r : List ℕ) where
   pub no_rows : None ≡ option_map record_at (find (is_record_named id r) (stored_records f)) → None ≡ rows_in f id r
-  no_rows none = rw (found_none record_at (find (is_record_named id r) (stored_records f)) none) refl
+  no_rows none = rw (unmapped record_at (find (is_record_named id r) (stored_records f)) (sym none)) refl
 
   same_batch : (x : StoredRecord) → is_record_named id r x ≡ true → x.batch ≡ id
   same_batch x hit = let first : (x.batch == id) ≡ true = both_left (x.batch == id) (bytes_eq x.name r) hit in grind (arith, nat_tests, first)

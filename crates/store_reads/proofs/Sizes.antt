@@ -5,8 +5,8 @@ use Rattle.std.proofs.lemmas.Option.{none-some, same_Some}
 use Rattle.job_core.specs.declared.rows.BatchSize.{BatchSize}
 use Rattle.row_reads.specs.declared.batches.BatchHead.{BatchHead}
 use Rattle.row_reads.specs.Telling.{head_of}
+use Rattle.table_rows.specs.Keys.{is_grouping_of}
 use Rattle.table_rows.specs.Tables.{StoredBatch, StoredGrouping}
-use Rattle.rows_answer.specs.Keys.{is_grouping_of}
 use Rattle.rows_answer.specs.Telling.{size_of}
 
 pub no_size : (groupings : List StoredGrouping) (o : Option StoredBatch) → None ≡ option_map head_of o → None ≡ option_map (size_of groupings) o

@@ -20,12 +20,6 @@ Shows old P = IsTrue old.is_open × ((c : Contents) → AreSound c → IsImage (
 
 -- ---- what is left
 
-pub looks_same : (s : State) → Looks s s
-looks_same s = record {
-  kept = λ _. record { was_open = λ h. h; now_is = λ _. refl; committed_is = λ _. refl };
-  survives = record { clean = omega arith; shield = λ h. h; counts = omega arith; limit = refl; closes = λ _ h. inl h; crash = λ _ db h. inl h };
-}
-
 kept_then : (a b c : State) → IsKept a b → IsKept b c → IsKept a c
 kept_then a b c one two = record {
   was_open = λ live. one.was_open (two.was_open live);

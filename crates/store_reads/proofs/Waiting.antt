@@ -1,19 +1,20 @@
 -- The first record of a batch that waits, by what is read of it.
-use Rattle.std.proofs.Common.{◌≡◌, ℕ, List, map, Option, Some, None, refl, ap, subst, ◌∙◌}
+use Rattle.std.proofs.Common.{◌≡◌, ℕ, List, map, Option, Some, None, refl, sym, ap, subst, ◌∙◌}
 use Rattle.std.specs.Prelude.{filter, find, option_map}
+use Rattle.job_core.proofs.Lists.{unmapped}
 use Rattle.row_reads.specs.declared.records.RecordAt.{RecordAt}
 use Rattle.row_reads.specs.CardDecoding.{place_of, record_at}
 use Rattle.row_reads.specs.Extremes.{IsLeastBy}
+use Rattle.table_rows.specs.Keys.{is_batch_named, is_waiting_of}
 use Rattle.table_rows.specs.Tables.{StoredBatch, StoredRecord}
-use Rattle.rows_answer.specs.Keys.{is_batch_named, is_waiting_of}
 use Rattle.rows_answer.specs.Telling.{waiting_in}
 use Rattle.rows_answer.proofs.Finding.{option_map-map}
-use Rattle.store_reads.proofs.Found.{found_none, found_some}
+use Rattle.store_reads.proofs.Found.{found_some}
 use Rattle.store_reads.proofs.Ordered.{Rises, first_passing, told_of_first}
 
 module _ (batches : List StoredBatch) (records : List StoredRecord) (b : List ℕ) where
   pub none_waits : None ≡ option_map (λ (row : StoredBatch). row.id) (find (is_batch_named b) batches) → None ≡ waiting_in batches records b
-  none_waits none = rw (found_none (λ (row : StoredBatch). row.id) (find (is_batch_named b) batches) none) refl
+  none_waits none = rw (unmapped (λ (row : StoredBatch). row.id) (find (is_batch_named b) batches) (sym none)) refl
 
   pub waiting_told : (id : ℕ) → Some id ≡ option_map (λ (row : StoredBatch). row.id) (find (is_batch_named b) batches) → Rises record_at place_of (filter (is_waiting_of id) records)
       → (found : Option RecordAt) → IsLeastBy place_of (map record_at (filter (is_waiting_of id) records)) found

@@ -5,7 +5,7 @@ use Rattle.job_core.specs.Facts.{Facts}
 use Rattle.row_reads.specs.declared.records.RecordAt.{RecordAt}
 use Rattle.row_reads.specs.declared.sessions.GoodCard.{GoodCard}
 use Rattle.rows_of_facts.specs.Image.{stored_records, stored_sessions}
-use Rattle.rows_answer.specs.Keys.{is_good_of, is_record_of}
+use Rattle.table_rows.specs.Keys.{is_good_of, is_record_of}
 use Rattle.rows_answer.specs.Telling.{cards, line_of}
 
 -- it is of the record at this place

@@ -7,8 +7,8 @@ use Rattle.job_core.specs.Facts.{Facts}
 use Rattle.job_core.specs.States.{product_named}
 use Rattle.row_reads.specs.declared.groupings.GroupingAt.{GroupingAt}
 use Rattle.rows_of_facts.specs.Image.{stored_batches, stored_groupings, stored_records}
+use Rattle.table_rows.specs.Keys.{is_batch_named, is_grouping_at, is_record_named}
 use Rattle.table_rows.specs.Tables.{StoredBatch, StoredRecord}
-use Rattle.rows_answer.specs.Keys.{is_batch_named, is_grouping_at, is_record_named}
 use Rattle.rows_answer.specs.Telling.{row_of}
 use Rattle.store_reads.specs.declared.segments.BatchProduct.{BatchProduct}
 

@@ -1,5 +1,5 @@
 -- The rows of the store's tables as plain lists, one for each table. Rows of a table stand in any order.
-use Rattle.std.specs.Prelude.{◌≡◌, ◌==◌, ◌&&◌, ℕ, Bool, true, false, not, nat_le, if◌then◌else◌, List, [], ◌∷◌, map, filter, bytes_eq, AllPairs, IsPermutation}
+use Rattle.std.specs.Prelude.{◌≡◌, ◌+◌, ◌==◌, ◌&&◌, ℕ, Bool, true, false, not, nat_le, if◌then◌else◌, List, [], ◌∷◌, map, filter, bytes_eq, AllPairs, IsPermutation}
 use Rattle.store_data.specs.declared.cursor.Cursor.{Cursor}
 use Rattle.store_data.specs.declared.row.Enc.{Enc}
 use Rattle.store_data.specs.declared.row.Product.{Product}
@@ -29,6 +29,19 @@ pub record StoredBatch : Type 0 where
   pub good : ℕ
   pub sessions : ℕ
   pub spoiled : ℕ
+
+-- the counters of a batch; each of its records has one of the five states
+abbrev pub totals_of : StoredBatch → BatchTotals
+totals_of b = record {
+  records = b.waiting + b.running + b.failed + b.withdrawn + b.good;
+  waiting = b.waiting;
+  running = b.running;
+  failed = b.failed;
+  withdrawn = b.withdrawn;
+  good = b.good;
+  sessions = b.sessions;
+  spoiled = b.spoiled;
+}
 
 -- a row of `record`: with how it stands, how many of its sessions are spoiled, and how often it was remade
 pub record StoredRecord : Type 0 where

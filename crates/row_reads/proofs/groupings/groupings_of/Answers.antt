@@ -4,7 +4,7 @@ use Rattle.sql_base.proofs.Querying.{shown_open}
 use Rattle.sql_base.proofs.Selecting.{if_ok}
 use Rattle.std.specs.Prelude.{filter}
 use Rattle.row_reads.specs.CardDecoding.{grouping_at, grouping_in, line_of}
-use Rattle.row_reads.specs.CardKeys.{is_grouping_at}
+use Rattle.table_rows.specs.Keys.{is_grouping_at}
 use Rattle.row_reads.specs.Extremes.{AreSorted}
 use Rattle.row_reads.proofs.ManyAnswers.{groupings_found}
 use Rattle.row_reads.proofs.groupings.groupings_of.Goals as goal

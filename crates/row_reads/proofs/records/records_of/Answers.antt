@@ -4,7 +4,7 @@ use Rattle.sql_base.proofs.Querying.{shown_open}
 use Rattle.sql_base.proofs.Selecting.{if_ok}
 use Rattle.std.specs.Prelude.{filter}
 use Rattle.row_reads.specs.CardDecoding.{place_of, record_at, record_in}
-use Rattle.row_reads.specs.CardKeys.{is_record_of}
+use Rattle.table_rows.specs.Keys.{is_record_of}
 use Rattle.row_reads.specs.Extremes.{AreSorted}
 use Rattle.row_reads.proofs.ManyAnswers.{records_found}
 use Rattle.row_reads.proofs.records.records_of.Goals as goal

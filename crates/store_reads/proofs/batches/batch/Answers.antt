@@ -2,7 +2,7 @@ use Rattle.std.proofs.Common.{sym, ap, ◌∙◌}
 use Rattle.std.specs.Prelude.{find, option_map}
 use Rattle.sqlite.specs.Held.{state}
 use Rattle.row_reads.specs.Telling.{head_of}
-use Rattle.rows_answer.specs.Keys.{is_batch_named}
+use Rattle.table_rows.specs.Keys.{is_batch_named}
 use Rattle.rows_answer.proofs.Finding.{option_map-map}
 use Rattle.rows_of_facts.specs.Image.{stored_batches}
 use Rattle.store_reads.specs.Heads.{row_of}

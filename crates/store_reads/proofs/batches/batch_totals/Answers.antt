@@ -2,8 +2,8 @@ use Rattle.std.proofs.Common.{◌≡◌, Option, Some, None, refl, sym, ap, ◌�
 use Rattle.std.specs.Prelude.{find, option_map}
 use Rattle.sqlite.specs.Held.{state}
 use Rattle.row_reads.specs.Telling.{head_of}
+use Rattle.table_rows.specs.Keys.{is_batch_named}
 use Rattle.table_rows.specs.Tables.{StoredBatch}
-use Rattle.rows_answer.specs.Keys.{is_batch_named}
 use Rattle.rows_answer.specs.Telling as rows
 use Rattle.rows_of_facts.specs.Image.{stored_batches}
 use Rattle.store_reads.specs.Heads.{totals_in}

@@ -1,8 +1,8 @@
 use Rattle.std.proofs.Common.{◌≡◌, sym, ◌∙◌}
 use Rattle.std.specs.Prelude.{find, option_map, unwrap_or}
 use Rattle.sqlite.specs.Held.{state}
+use Rattle.table_rows.specs.Keys.{is_batch_named}
 use Rattle.table_rows.specs.Tables.{StoredBatch}
-use Rattle.rows_answer.specs.Keys.{is_batch_named}
 use Rattle.rows_of_facts.specs.Image.{stored_batches}
 use Rattle.store_reads.specs.Lines.{lines_with}
 use Rattle.store_reads.proofs.RecordLines.{lines_by_id}
