@@ -2,7 +2,7 @@
 use Rattle.std.proofs.Common.{◌≡◌, ℕ, suc, ◌+◌, Bool, true, false, cond, List, [], ◌∷◌, ◌++◌, length, map, replicate, filter, slice_get, All, bytes_eq, Some, IsSome, inl, inr, refl, sym, ap, subst, ◌∙◌, arith, IsPermutation}
 use Rattle.std.specs.List.{enumerate_from, flat_map, list_any, range_with_len}
 use Rattle.std.proofs.lemmas.Bool.{cases_Bool, or_parts}
-use Rattle.std.proofs.lemmas.List.Elements.{All-append, All-cons, All-head, All-map, All-nil, All-tail, All-weaker, filter-append}
+use Rattle.std.proofs.lemmas.List.Elements.{All-cons, All-head, All-map, All-nil, All-tail, All-weaker, filter-append}
 use Rattle.std.proofs.lemmas.List.Folds.{flat_map-map, list_any_none}
 use Rattle.std.proofs.lemmas.List.FromFn.{length-range_with_len}
 use Rattle.std.proofs.lemmas.List.Sorted.{IsPermutation-map, IsPermutation-trans}
@@ -64,7 +64,7 @@ same_each h g z same [] = refl
 same_each h g z same (x ∷ xs) = ap (λ y. y ∷ map h (map g xs)) (same x) ∙ ap (λ ys. z ∷ ys) (same_each h g z same xs)
 
 -- each stands at its number
-numbered_there : {X : Type 0} (n : ℕ) (xs : List X) → All (λ (e : ℕ × X). (k : ℕ) × (e.0 ≡ n + k) × (slice_get xs k ≡ Some e.1)) (enumerate_from n xs)
+pub numbered_there : {X : Type 0} (n : ℕ) (xs : List X) → All (λ (e : ℕ × X). (k : ℕ) × (e.0 ≡ n + k) × (slice_get xs k ≡ Some e.1)) (enumerate_from n xs)
 numbered_there {X} n [] = let none : List X = [] in All-nil (λ (e : ℕ × X). (k : ℕ) × (e.0 ≡ n + k) × (slice_get none k ≡ Some e.1))
 numbered_there {X} n (x ∷ xs) =
     All-cons (λ (e : ℕ × X). (k : ℕ) × (e.0 ≡ n + k) × (slice_get (x ∷ xs) k ≡ Some e.1)) (n, x) (enumerate_from (n + 1) xs) (0, omega arith, refl)
@@ -80,7 +80,7 @@ without_withdrawal false true more = refl
 without_withdrawal false false true = refl
 without_withdrawal false false false = refl
 
-withdrawn_stands : (states : List SessionState) (withdrawn : Bool) (remakes : ℕ) → IsSoundRecord states withdrawn remakes
+pub withdrawn_stands : (states : List SessionState) (withdrawn : Bool) (remakes : ℕ) → IsSoundRecord states withdrawn remakes
     → same_record_state rec.Withdrawn (state_by states withdrawn remakes) ≡ withdrawn
 withdrawn_stands states true remakes is =
     let none : All (λ s. has_card s ≡ false) states = All-from_list_any has_card states (is.withdrawn_none refl) in

@@ -1,0 +1,10 @@
+use Rattle.audit_laws.proofs.ForthImage.{audited_image}
+use Rattle.audit_laws.proofs.ForthRecords.{contents_sound}
+use Rattle.audit_laws.proofs.ForthTold.{tells}
+use Rattle.audit_laws.proofs.laws.audited_rows_are_sound.Goals as goal
+
+pub returns : goal.returns
+returns call = record {
+  sound = contents_sound;
+  image = λ t audited. audited_image t audited (tells t audited);
+}

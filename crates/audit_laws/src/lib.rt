@@ -1,0 +1,6 @@
+//! The audit's laws: when the rows of tables are those of sound contents, told row by row.
+#![tactic(auto)]
+
+mod laws;
+
+pub use laws::{audited_rows_are_sound, sound_rows_are_audited};
