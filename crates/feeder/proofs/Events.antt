@@ -68,13 +68,13 @@ insert_fine : (names : List (List ℕ)) (w : World) (name b : List ℕ) (serial 
 insert_fine names w name b serial None is name_b small fine = fine
 insert_fine names w name b serial (Some x) is name_b small fine = at x.feeder.stand refl
   where
-    at : (stand : Stand) → x.feeder.stand ≡ stand → Fine names (put_in w name serial x.card (inserted_by x.feeder stand b serial))
+    at : (stand : Stand) → x.feeder.stand ≡ stand → Fine names (put_in w name serial (inserted_by x.feeder stand b serial))
     at (Asks call) stand = fine
     at (HasCommand s k) stand = fine
     at Stale stand = fine
     at Idle stand =
         cond_both {A = FeederState × Result (Unit {0}) InsertFault} (nat_lt 8000000 x.feeder.place) (x.feeder, Err Exhausted) (moved x.feeder (Makes (Job (request.Open b serial))), Ok tt)
-        (λ r. Fine names (put_in w name serial x.card r)) (λ full. fine)
+        (λ r. Fine names (put_in w name serial r)) (λ full. fine)
         (λ room.
         let call : Call = Job (request.Open b serial) in
         let was = fine.machines name x is in

@@ -107,7 +107,7 @@ insert_recorded : (w : World) (name b : List ℕ) (serial : ℕ) (o : Option Mac
 insert_recorded w name b serial None is = is
 insert_recorded w name b serial (Some x) is = at (after_insert x.feeder b serial)
   where
-    at : (r : FeederState × Result (Unit {0}) InsertFault) → RecordedIn (put_in w name serial x.card r)
+    at : (r : FeederState × Result (Unit {0}) InsertFault) → RecordedIn (put_in w name serial r)
     at (f, Ok u) = is
     at (f, Err why) = is
 

@@ -77,10 +77,14 @@ pub record IsAccepted (w : World) (machine : List ℕ) (boot : ℕ) : Type 0 whe
   pub request : release.arrival.request ≡ release_of boot
   pub accepted : release.told.status ≡ 200
 
--- then no packet that it sent in a boot below changes the contents, however it arrives
+-- however the packet arrives, the contents stay
+abbrev pub ChangesNothing : World → Packet → Type 0
+ChangesNothing w p = (stop : Stop) → (arrives w (arrival_of p) stop).contents ≡ w.contents
+
+-- then no packet that it sent in a boot below changes the contents
 abbrev pub OldBootsAreOver : World → Type 0
 OldBootsAreOver w = (machine : List ℕ) (boot : ℕ) → IsAccepted w machine boot
-    → All (λ (p : Packet). p.machine ≡ machine → p.boot < boot → (stop : Stop) → (arrives w (arrival_of p) stop).contents ≡ w.contents) w.packets
+    → All (λ (p : Packet). p.machine ≡ machine → p.boot < boot → ChangesNothing w p) w.packets
 
 -- ---- a list with stops
 
@@ -115,4 +119,5 @@ IsEvent (event.Arrive packet stop) = ⊤
 IsEvent (event.Deliver reply) = ⊤
 IsEvent (event.Card machine sw) = IsName machine × (sw < 2 ^ 16)
 IsEvent (event.Power machine boot) = IsName machine × (1 ≤ boot) × (boot ≤ 9999999999)
-IsEvent (event.Office arrival stop) = IsName arrival.client × (1 ≤ arrival.number) × (arrival.number < 10 ^ 18) × IsRangedCall arrival.request
+IsEvent (event.Office arrival stop) =
+    IsName arrival.client × (1 ≤ arrival.number) × (arrival.number < 10 ^ 18) × IsRangedCall arrival.request

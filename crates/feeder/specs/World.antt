@@ -61,7 +61,15 @@ new_card = record { received = []; is_good = false }
 
 -- nothing was sent or decided yet, and no machine is there
 abbrev pub at_first : World
-at_first = record { contents = no_contents; packets = []; replies = []; decided = []; machines = λ n. None; boots = λ n. []; cards = λ serial. new_card }
+at_first = record {
+  contents = no_contents;
+  packets = [];
+  replies = [];
+  decided = [];
+  machines = λ n. None;
+  boots = λ n. [];
+  cards = λ serial. new_card;
+}
 
 -- ---- what an act does
 
@@ -101,34 +109,43 @@ abbrev pub with_machine : World → List ℕ → Machine → World
 with_machine w name x = record w { machines = at_name name (Some x) w.machines }
 
 abbrev pub acts : World → List ℕ → Option ℕ → Done → World
-acts w name card d = record (with_machine w name (record { feeder = d.0; card = card_left card d.1 })) { cards = cards_after w.cards card d.1 }
+acts w name card d =
+    let machine : Machine = record { feeder = d.0; card = card_left card d.1 } in
+    record (with_machine w name machine) { cards = cards_after w.cards card d.1 }
 
 -- ---- what each event does, where what it names is there
 
-abbrev pub put_in : World → List ℕ → ℕ → Option ℕ → FeederState × Result (Unit {0}) InsertFault → World
-put_in w name serial card (f, Ok done) = with_machine w name (record { feeder = f; card = Some serial })
-put_in w name serial card (f, Err why) = w
+abbrev pub put_in : World → List ℕ → ℕ → FeederState × Result (Unit {0}) InsertFault → World
+put_in w name serial (f, Ok done) = with_machine w name (record { feeder = f; card = Some serial })
+put_in w name serial (f, Err why) = w
 
 abbrev pub inserted : World → List ℕ → List ℕ → ℕ → Option Machine → World
 inserted w name batch serial None = w
-inserted w name batch serial (Some x) = put_in w name serial x.card (after_insert x.feeder batch serial)
+inserted w name batch serial (Some x) = put_in w name serial (after_insert x.feeder batch serial)
+
+abbrev pub packet_of : FeederState → Call → Packet
+packet_of f call = record { machine = f.machine; boot = f.boot; place = f.place; call = call }
 
 abbrev pub sent_by : World → FeederState → Option (ℕ × Call) → World
 sent_by w f None = w
-sent_by w f (Some ask) = record w { packets = w.packets ++ record { machine = f.machine; boot = f.boot; place = f.place; call = ask.1 } ∷ [] }
+sent_by w f (Some ask) = record w { packets = w.packets ++ packet_of f ask.1 ∷ [] }
 
 abbrev pub sent : World → Option Machine → World
 sent w None = w
 sent w (Some x) = sent_by w x.feeder (asked x.feeder)
 
+-- an arrival with what it is told now
+abbrev pub answered : World → Arrived → Answered
+answered w a = record { arrival = a; told = told_on w.contents a }
+
 -- an arrival is decided, unless the server stops before that; its reply is given, unless it stops then
 abbrev pub decides : World → Arrived → World
-decides w a = record w { contents = contents_after w.contents (a ∷ []); decided = w.decided ++ record { arrival = a; told = told_on w.contents a } ∷ [] }
+decides w a = record w { contents = contents_after w.contents (a ∷ []); decided = w.decided ++ answered w a ∷ [] }
 
 abbrev pub arrives : World → Arrived → Stop → World
 arrives w a Before = w
 arrives w a After = decides w a
-arrives w a No = record (decides w a) { replies = w.replies ++ record { arrival = a; told = told_on w.contents a } ∷ [] }
+arrives w a No = record (decides w a) { replies = w.replies ++ answered w a ∷ [] }
 
 abbrev pub arrived : World → Stop → Option Packet → World
 arrived w stop None = w

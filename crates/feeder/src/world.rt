@@ -66,8 +66,8 @@ pub enum Event {
     },
 }
 
-/// Whatever happens on a shop floor, in whatever order, and wherever the server stops: a law. It does
-/// nothing.
+/// Whatever happens on a shop floor, in whatever order, and wherever the server stops: a law. It
+/// does nothing.
 pub fn every_world(events: &[Event])
     requires { All IsEvent events.now }
     // A card counted good received exactly its record's sequence, each command once and in order.
