@@ -3,8 +3,8 @@
 synchronous FULL) on the same disk in the same run; on a file with few sessions and on one with many; and beside batch files of some
 sizes, since an opening and the end of a card move their batch's counters, which stand in one row with the file's bytes. Linux alone.
 
-bench/tables.sh builds the program of measure_tables.txt and calls this with its path; a second word names the folder for the files, which are
-removed. It has to be on a disk, since a commit waits for a sync of it.
+bench/tables.sh builds the program of measure_tables.txt and calls this with its path. A second word names the folder for the files,
+which are removed. It has to be on a disk, since a commit waits for a sync of it.
 
 `measure_tables` serves what it reads over the tables of a new file, a part at a time, and tells the time of each part. So its times hold
 the reading of a message and the writing of its reply, but no pipe. sqlite3 runs the texts of the statements, which are read from the

@@ -1,8 +1,9 @@
 #!/usr/bin/env python3
 """Reads a file of ours by Python's sqlite3, which is C's SQLite: is it whole, and do its tables hold the rows that the documents say.
 
-bench/tables_read.sh builds the program `measure_tables` and calls this. It serves docs/PROTOCOL.md's set-up, a spoiled card, its remake, a
-second card that is good, and a remake that is refused. What the rows must be is written here by hand, from PROTOCOL.md and TABLES.md.
+bench/tables_read.sh builds the program of measure_tables.txt and calls this with its path. The program serves docs/PROTOCOL.md's set-up,
+a spoiled card, its remake, a second card that is good, and a remake that is refused. What the rows must be is written here by hand, from
+PROTOCOL.md and TABLES.md.
 """
 import pathlib
 import sqlite3
@@ -12,7 +13,7 @@ import tempfile
 
 from load import post
 
-MEASURE = str(pathlib.Path(__file__).resolve().parent.parent / "crates" / "measure_tables" / "out" / "measure_tables")
+MEASURE = sys.argv[1]
 FILE = "record,aid,rank,enc,tol,dgi\nR1,F00000000101,1,0,0,0101027000\n"
 
 # A client, its number, what stands behind that in the target, the body, and the status and the body of the reply.
