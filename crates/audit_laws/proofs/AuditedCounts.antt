@@ -19,7 +19,7 @@ use Rattle.rows_of_facts.specs.Image.{batches_by_id, image, place_in, placed_rec
 use Rattle.facts_of_rows.proofs.Sets.{withdrawn_stands}
 use Rattle.rows_answer.proofs.RecordRows.{name_at}
 use Rattle.audit_laws.specs.Audited.{IsAuditedBatch, IsAuditedRecord, is_withdrawn, record_states_of, states_at}
-use Rattle.audit_laws.proofs.BackPlaces.{IsOwn, IsOwnRecord, batch_record_states, batch_session_states, own_batches, own_records, record_session_states}
+use Rattle.audit_laws.proofs.AuditedPlaces.{IsOwn, IsOwnRecord, batch_record_states, batch_session_states, own_batches, own_records, record_session_states}
 
 -- ---- what holds of each name holds of one that is there
 

@@ -25,7 +25,7 @@ use Rattle.facts_of_rows.proofs.Sets.{numbered_there}
 use Rattle.table_rows.specs.Keys.{is_batch, is_record_at}
 use Rattle.rows_answer.proofs.Finding.{AllPairs-from_map, AllPairs-map, number_once, once_joined}
 use Rattle.audit_laws.specs.Audited.{IsAudited, file_keys, file_records, key_of}
-use Rattle.audit_laws.proofs.ForthLists.{equal, found_at, found_each, ids_once, numbered_at, numbered_by, same_number}
+use Rattle.audit_laws.proofs.SoundLists.{equal, found_at, found_each, ids_once, numbered_at, numbered_by, same_number}
 
 -- where the record of a key stands
 pub record IsPlaced (t : Tables) (key : ℕ × (ℕ × List ℕ)) : Type 0 where

@@ -20,10 +20,10 @@ use Rattle.facts_of_rows.specs.Decided.{batch_name, batch_of_row, discarded_rows
 use Rattle.table_rows.specs.Keys.{is_running_on}
 use Rattle.rows_answer.proofs.Finding.{once_from_count}
 use Rattle.audit_laws.specs.Audited.{IsAudited, IsAuditedBlank, IsAuditedSession, file_records, key_of, named_session, opened_rows, words_of}
-use Rattle.audit_laws.proofs.ForthBasics.{IsToldSession}
-use Rattle.audit_laws.proofs.ForthLists.{differs, equal, same_number}
-use Rattle.audit_laws.proofs.ForthNames.{IsPlaced, are_batches, key_found, name_found, named_found, of_batch}
-use Rattle.audit_laws.proofs.ForthSessions.{batch_is, batch_there, commands_are, rec_is, rec_placed, sessions_are, told_sessions}
+use Rattle.audit_laws.proofs.Tells.{IsToldSession}
+use Rattle.audit_laws.proofs.SoundLists.{differs, equal, same_number}
+use Rattle.audit_laws.proofs.SoundNames.{IsPlaced, are_batches, key_found, name_found, named_found, of_batch}
+use Rattle.audit_laws.proofs.SoundSessions.{batch_is, batch_there, commands_are, rec_is, rec_placed, sessions_are, told_sessions}
 
 -- a name is among those where it stands
 named_among : (names : List (List ℕ)) (k : ℕ) (n : List ℕ) → slice_get names k ≡ Some n → list_any (bytes_eq n) names ≡ true

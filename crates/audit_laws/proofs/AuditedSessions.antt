@@ -23,8 +23,8 @@ use Rattle.rows_answer.proofs.BlankRows.{lots_are}
 use Rattle.rows_answer.proofs.RecordRows.{place_row}
 use Rattle.rows_answer.proofs.SessionRows.{running_once}
 use Rattle.audit_laws.specs.Audited.{IsAuditedSession, words_of}
-use Rattle.audit_laws.proofs.BackFiles.{own_words}
-use Rattle.audit_laws.proofs.BackPlaces.{All-placed}
+use Rattle.audit_laws.proofs.AuditedFiles.{own_words}
+use Rattle.audit_laws.proofs.AuditedPlaces.{All-placed}
 
 few_going : (commands : List Command) (words : List ℕ) → going commands words ≤ length words
 few_going commands words = elim (cases_Bool (last_stops commands words)) [

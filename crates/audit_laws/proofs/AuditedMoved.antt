@@ -22,7 +22,7 @@ use Rattle.rows_of_facts.proofs.OneRecord.{turned}
 use Rattle.facts_of_rows.specs.Decided.{batch_of_row, discarded_rows}
 use Rattle.rows_answer.proofs.RecordRows.{name_alone}
 use Rattle.audit_laws.specs.Audited.{IsAudited, IsAuditedBatch, IsAuditedBlank, IsAuditedLot, IsAuditedRecord, IsAuditedSession, file_groupings, file_keys, file_records, file_rows, opened_rows}
-use Rattle.audit_laws.proofs.BackOrder.{pairs_moved}
+use Rattle.audit_laws.proofs.InOrder.{pairs_moved}
 
 -- ---- what has a name
 

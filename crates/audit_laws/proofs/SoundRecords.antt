@@ -24,12 +24,12 @@ use Rattle.facts_of_rows.specs.Decided.{batch_name, batch_of_row, closed_rows, c
 use Rattle.table_rows.specs.Keys.{is_record_at}
 use Rattle.rows_answer.proofs.Finding.{AllPairs-from_map, AllPairs-map}
 use Rattle.audit_laws.specs.Audited.{IsAudited, IsAuditedBatch, IsAuditedRecord, IsAuditedSession, is_withdrawn, record_states_of, states_at, turns_of}
-use Rattle.audit_laws.proofs.ForthBasics.{IsToldBatch, IsToldRecord}
-use Rattle.audit_laws.proofs.ForthLists.{count_alike, equal, sum_none}
-use Rattle.audit_laws.proofs.ForthNames.{key_found, named_found, of_record, record_found, record_name_found, record_once, records_placed, same_names}
-use Rattle.audit_laws.proofs.ForthSessions.{kept_states, rec_is}
-use Rattle.audit_laws.proofs.ForthSound.{are_named, are_sessions, record_there}
-use Rattle.audit_laws.proofs.ForthTold.{told_batches, told_records}
+use Rattle.audit_laws.proofs.Tells.{IsToldBatch, IsToldRecord}
+use Rattle.audit_laws.proofs.SoundLists.{count_alike, equal, sum_none}
+use Rattle.audit_laws.proofs.SoundNames.{key_found, named_found, of_record, record_found, record_name_found, record_once, records_placed, same_names}
+use Rattle.audit_laws.proofs.SoundSessions.{kept_states, rec_is}
+use Rattle.audit_laws.proofs.SoundFacts.{are_named, are_sessions, record_there}
+use Rattle.audit_laws.proofs.SoundTold.{told_batches, told_records}
 
 -- where there is no session, no remake and no withdrawal
 without_any : IsSoundRecord [] false 0

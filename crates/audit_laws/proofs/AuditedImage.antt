@@ -6,13 +6,13 @@ use Rattle.job_core.specs.Sound.{AreBatches}
 use Rattle.table_rows.specs.Tables.{HaveSameRows, StoredBatch, StoredGrouping, StoredRecord, StoredRemake, StoredSession, StoredWord, Tables}
 use Rattle.rows_of_facts.specs.Image.{image, stored_batches, stored_groupings, stored_records, stored_remakes, stored_sessions, stored_words}
 use Rattle.audit_laws.specs.Audited.{AreInOrder, IsAudited}
-use Rattle.audit_laws.proofs.BackBlanks as blanks
-use Rattle.audit_laws.proofs.BackCounted as counted
-use Rattle.audit_laws.proofs.BackFiles as files
-use Rattle.audit_laws.proofs.BackKeys as keys
-use Rattle.audit_laws.proofs.BackMoved.{audited_moved}
-use Rattle.audit_laws.proofs.BackOrder.{in_order}
-use Rattle.audit_laws.proofs.BackSessions as sessions
+use Rattle.audit_laws.proofs.AuditedBlanks as blanks
+use Rattle.audit_laws.proofs.AuditedCounts as counted
+use Rattle.audit_laws.proofs.AuditedFiles as files
+use Rattle.audit_laws.proofs.ImageKeys as keys
+use Rattle.audit_laws.proofs.AuditedMoved.{audited_moved}
+use Rattle.audit_laws.proofs.InOrder.{in_order}
+use Rattle.audit_laws.proofs.AuditedSessions as sessions
 
 pub image_is_audited : (c : Contents) → AreSound c → IsAudited (image c)
 image_is_audited c sound =

@@ -21,9 +21,9 @@ use Rattle.facts_of_rows.proofs.Back.{found_from_is}
 use Rattle.table_rows.specs.Keys.{is_batch, is_session}
 use Rattle.rows_answer.proofs.Finding.{filter_all, find-filter, find-map, kept_joined, number_found}
 use Rattle.audit_laws.specs.Audited.{IsAudited, IsAuditedSession, file_records, file_rows, key_of, named_session, placed_words, words_of}
-use Rattle.audit_laws.proofs.ForthBasics.{IsToldSession}
-use Rattle.audit_laws.proofs.ForthLists.{equal, found_at, found_each, ids_once, numbered_by}
-use Rattle.audit_laws.proofs.ForthNames.{IsPlaced, id_found, key_found, name_found, named_found, of_batch, of_record, own_ids, own_place, record_name_found, records_placed}
+use Rattle.audit_laws.proofs.Tells.{IsToldSession}
+use Rattle.audit_laws.proofs.SoundLists.{equal, found_at, found_each, ids_once, numbered_by}
+use Rattle.audit_laws.proofs.SoundNames.{IsPlaced, id_found, key_found, name_found, named_found, of_batch, of_record, own_ids, own_place, record_name_found, records_placed}
 
 module _ (t : Tables) (audited : IsAudited t) where
   abbrev f : Facts

@@ -17,7 +17,7 @@ use Rattle.facts_of_rows.specs.Decided.{batch_of_row}
 use Rattle.rows_answer.proofs.Finding.{filter_all, unnumbered}
 use Rattle.rows_answer.proofs.RecordRows.{equal_self}
 use Rattle.audit_laws.specs.Audited.{file_groupings, file_keys, key_of, placed_words, turns_of, words_of}
-use Rattle.audit_laws.proofs.BackPlaces.{All-placed}
+use Rattle.audit_laws.proofs.AuditedPlaces.{All-placed}
 
 -- the numbers of one row each count up
 numbers_are : {X Y : Type 0} (number : Y → ℕ) (g : ℕ × X → Y) → ((e : ℕ × X) → number (g e) ≡ e.0) → (n : ℕ) (xs : List X)

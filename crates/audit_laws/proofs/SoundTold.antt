@@ -19,10 +19,10 @@ use Rattle.facts_of_rows.specs.Decided.{batch_name, batch_of_row, closed_rows, f
 use Rattle.table_rows.specs.Keys.{is_batch, is_record_at, is_record_of}
 use Rattle.rows_answer.proofs.Finding.{filter_all, kept_joined, unnumbered}
 use Rattle.audit_laws.specs.Audited.{IsAudited, IsAuditedRecord, IsAuditedSession, file_keys, file_records, is_session_at, is_session_of, is_withdrawn, key_of, record_states_of, session_states_of, states_at, turns_of}
-use Rattle.audit_laws.proofs.ForthBasics.{IsToldBatch, IsToldRecord, Tells}
-use Rattle.audit_laws.proofs.ForthLists.{any_kept, count_alike, equal, same_number, sum_alone}
-use Rattle.audit_laws.proofs.ForthNames.{IsPlaced, batch_found, batch_once, batches_numbered, id_found, key_found, name_found, named_found, of_batch, of_record, own_ids, record_found, record_name_found, record_once, records_placed, same_batches, same_names}
-use Rattle.audit_laws.proofs.ForthSessions.{batch_is, kept_states, rec_is, sessions_numbered, told_sessions}
+use Rattle.audit_laws.proofs.Tells.{IsToldBatch, IsToldRecord, Tells}
+use Rattle.audit_laws.proofs.SoundLists.{any_kept, count_alike, equal, same_number, sum_alone}
+use Rattle.audit_laws.proofs.SoundNames.{IsPlaced, batch_found, batch_once, batches_numbered, id_found, key_found, name_found, named_found, of_batch, of_record, own_ids, record_found, record_name_found, record_once, records_placed, same_batches, same_names}
+use Rattle.audit_laws.proofs.SoundSessions.{batch_is, kept_states, rec_is, sessions_numbered, told_sessions}
 
 module _ (t : Tables) (audited : IsAudited t) where
   abbrev f : Facts

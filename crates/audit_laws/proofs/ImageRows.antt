@@ -16,9 +16,9 @@ use Rattle.rows_of_facts.proofs.Places.{map_joined}
 use Rattle.rows_of_facts.proofs.Staying.{batch_by, totals_are, totals_by}
 use Rattle.facts_of_rows.specs.Decided.{batch_name, batch_of_row, contents_of, discarded_rows, facts_of}
 use Rattle.audit_laws.specs.Audited.{IsAudited, IsAuditedBatch, IsAuditedBlank, IsAuditedLot, IsAuditedSession, file_keys, file_records, key_of, named_session, opened_rows, record_states_of, session_states_of, turns_of}
-use Rattle.audit_laws.proofs.ForthBasics.{IsToldBatch, IsToldRecord, IsToldSession, Tells}
-use Rattle.audit_laws.proofs.ForthImageLists.{flat_joined, made_again}
-use Rattle.audit_laws.proofs.ForthSessions.{sessions_are}
+use Rattle.audit_laws.proofs.Tells.{IsToldBatch, IsToldRecord, IsToldSession, Tells}
+use Rattle.audit_laws.proofs.ImageLists.{flat_joined, made_again}
+use Rattle.audit_laws.proofs.SoundSessions.{sessions_are}
 
 -- a batch with its id, and a session with its own
 abbrev numbered_batch : StoredBatch → ℕ × Batch
