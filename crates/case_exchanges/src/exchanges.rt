@@ -1,8 +1,8 @@
 //! Asks and their replies.
 use crate::typed::{check_handled, check_parsed, check_run, written_anew};
 use crate::ways::{
-    Exchange, Fresh, ONE_BY_ONE, WHOLE, check_same, check_wanted, check_way, connected, over,
-    served,
+    Exchange, Fresh, ONE_BY_ONE, WHOLE, check_few, check_same, check_wanted, check_way, connected,
+    over, served,
 };
 use case_files::{Case, CaseFault, Line, Repeats, cases, get, post, wanted_of};
 use server::Replied;
@@ -29,9 +29,9 @@ pub struct Scripted {
     pub printed: Vec<u8>,
 }
 
-/// Runs a case on every way over a store of each kind, each way over one of its own. The same comes on all. Gives what a drill is to
-/// print, if all asks are the office's.
-pub fn check_exchanges<S: Fresh + Drop, T: Fresh + Drop>(
+/// Runs a case on every way over a store of each of two kinds, and where it has few asks, whole over one of a third kind; each way has a
+/// store of its own. The same comes on all. Gives what a drill is to print, if all asks are the office's.
+pub fn check_exchanges<S: Fresh + Drop, T: Fresh + Drop, U: Fresh + Drop>(
     alloc: Global,
     case: Case,
 ) -> Result<Option<Scripted>, CaseFault> {
@@ -44,6 +44,7 @@ pub fn check_exchanges<S: Fresh + Drop, T: Fresh + Drop>(
     check_parsed(alloc, exchanges, first.replies())?;
     over::<S>(check_ways::<S>(alloc, &asks, first.replies()))?;
     over::<T>(check_ways::<T>(alloc, &asks, first.replies()))?;
+    check_few::<U>(alloc, exchanges, first.replies())?;
     match script_of(alloc, lines.as_slice())? {
         Some(script) => Ok(Some(Scripted {
             line: number,

@@ -1,8 +1,8 @@
 //! Messages as bytes, and the bytes that answer them.
 use crate::exchanges::exchange;
 use crate::ways::{
-    Exchange, Fresh, ONE_BY_ONE, WHOLE, Way, check_wanted, check_way, connected, inputs, over,
-    served,
+    Exchange, Fresh, ONE_BY_ONE, WHOLE, Way, check_few, check_wanted, check_way, connected, inputs,
+    over, served,
 };
 use case_files::{Case, CaseFault, Line, Wanted, check_bytes, put_bytes};
 use job_core::JobStore;
@@ -21,8 +21,9 @@ const BEHIND: Way = Way {
     behind: b"GET / HTTP/1.1\r\n\r\n",
 };
 
-/// Runs a case on every way over a store of each kind, each way over one of its own. The same comes on all.
-pub fn check_messages<S: Fresh + Drop, T: Fresh + Drop>(
+/// Runs a case on every way over a store of each of two kinds, and where it has few messages, whole over one of a third kind; each way has
+/// a store of its own. The same comes on all.
+pub fn check_messages<S: Fresh + Drop, T: Fresh + Drop, U: Fresh + Drop>(
     alloc: Global,
     case: &Case,
 ) -> Result<(), CaseFault> {
@@ -35,7 +36,8 @@ pub fn check_messages<S: Fresh + Drop, T: Fresh + Drop>(
     let first = served::<S>(alloc, exchanges, WHOLE)?;
     over::<S>(check_wanted(alloc, exchanges, WHOLE.name, first.replies(), true))?;
     over::<S>(check_ways::<S>(alloc, exchanges, first.replies(), is_cut))?;
-    over::<T>(check_ways::<T>(alloc, exchanges, first.replies(), is_cut))
+    over::<T>(check_ways::<T>(alloc, exchanges, first.replies(), is_cut))?;
+    check_few::<U>(alloc, exchanges, first.replies())
 }
 
 fn check_ways<S: Fresh + Drop>(

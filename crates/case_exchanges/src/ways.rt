@@ -3,20 +3,22 @@ use case_files::{CaseFault, NO_STORE, Wanted, check_bytes};
 use faulty_store::FaultyStore;
 use job_core::JobStore;
 use list_store::ListStore;
+use schema::SqlStore;
 use server::{End, MemoryConnections, Replied, serve_all};
+use sqlite::{Connection, MemStore};
 use std::alloc::{AllocError, Global};
 
 /// A store that a case may have for itself, empty.
 pub trait Fresh: JobStore {
     /// An empty store.
-    fn fresh(alloc: Global) -> Result<Self, AllocError>;
+    fn fresh(alloc: Global) -> Result<Self, CaseFault>;
 
     /// What it is called where an answer differs.
     fn called() -> &'static str;
 }
 
 impl Fresh for ListStore {
-    fn fresh(alloc: Global) -> Result<ListStore, AllocError> {
+    fn fresh(alloc: Global) -> Result<ListStore, CaseFault> {
         Ok(ListStore::new(alloc))
     }
 
@@ -27,12 +29,26 @@ impl Fresh for ListStore {
 
 impl Fresh for FaultyStore {
     // Nothing is planned for its device.
-    fn fresh(alloc: Global) -> Result<FaultyStore, AllocError> {
+    fn fresh(alloc: Global) -> Result<FaultyStore, CaseFault> {
         Ok(FaultyStore::new(alloc, None))
     }
 
     fn called() -> &'static str {
         "lists behind a device"
+    }
+}
+
+impl Fresh for SqlStore<MemStore> {
+    fn fresh(alloc: Global) -> Result<SqlStore<MemStore>, CaseFault> {
+        let conn = Connection::open_in_memory(alloc)?;
+        match SqlStore::create(alloc, conn) {
+            Ok(store) => Ok(store),
+            Err(_) => Err(CaseFault::Memory),
+        }
+    }
+
+    fn called() -> &'static str {
+        "tables in memory"
     }
 }
 
@@ -74,6 +90,9 @@ pub struct Way {
     pub most: usize,
     pub behind: &'static [u8],
 }
+
+// More asks than this would take the tables much of the gate's time.
+const FEW: usize = 100;
 
 /// All at once.
 pub const WHOLE: Way = Way {
@@ -124,6 +143,18 @@ pub fn check_way<S: Fresh + Drop>(
 ) -> Result<(), CaseFault> {
     let again = served::<S>(alloc, exchanges, way)?;
     check_same(alloc, exchanges, way.name, first, again.replies())
+}
+
+/// The same comes out of the connections of a case with few asks, whole, over a store of a third kind.
+pub fn check_few<S: Fresh + Drop>(
+    alloc: Global,
+    exchanges: &[Exchange],
+    first: &[Replied],
+) -> Result<(), CaseFault> {
+    if exchanges.len() > FEW {
+        return Ok(());
+    }
+    over::<S>(check_way::<S>(alloc, exchanges, WHOLE, first))
 }
 
 /// These inputs, served in turn over this store.

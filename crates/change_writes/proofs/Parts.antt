@@ -1,13 +1,12 @@
 -- Parts of a transaction, one after the other.
-use Rattle.std.proofs.Common.{Result, Ok, Err, ◌∙◌}
+use Rattle.std.proofs.Common.{Result, Ok, Err}
 use Rattle.sqlite.specs.Effect.{Database}
 use Rattle.sqlite.specs.State.{KeepsCommit, State}
 use Rattle.sqlite.specs.declared.error.Error.{Error}
-use Rattle.sqlite.proofs.InsideLemmas.{keeps_then}
-use Rattle.sql_base.specs.Ends.{Inside, Wrote}
+use Rattle.sql_base.specs.Ends.{Inside}
 use Rattle.sql_rows.specs.Image.{Moves}
 use Rattle.table_rows.specs.Tables.{Tables}
-use Rattle.change_writes.specs.Many.{GoesOn, WroteMany}
+use Rattle.change_writes.specs.Many.{WroteMany}
 
 -- what went well inside a transaction goes on in it
 pub wrote_many : {X : Type 0} (R : Database → Database → Type 0) (a b : State) (r : Result X Error) → Inside R a b → KeepsCommit a b → WroteMany R a b r

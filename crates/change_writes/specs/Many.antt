@@ -1,9 +1,10 @@
 -- Many rows of one table, put in by a part of a transaction.
 use Rattle.std.specs.Prelude.{◌≡◌, ◌++◌, IsTrue, List, OnOk, Result}
 use Rattle.sqlite.specs.Effect.{Database}
-use Rattle.sqlite.specs.State.{KeepsCommit, State}
+use Rattle.sqlite.specs.State.{HasCleanDisk, KeepsCommit, State}
 use Rattle.sqlite.specs.declared.error.Error.{Error}
 use Rattle.table_rows.specs.Tables.{StoredGrouping, StoredRecord, Tables}
+use Rattle.sql_rows.specs.Image.{Moves}
 
 abbrev pub with_records : List StoredRecord → Tables → Tables
 with_records records t = record t { records = records ++ t.records }
@@ -22,3 +23,7 @@ module _ (R : Database → Database → Type 0) where
   pub record WroteMany {X : Type 0} (old new : State) (result : Result X Error) : Type 0 where
     pub well : OnOk result (GoesOn old new)
     pub kept : KeepsCommit old new
+
+-- rows change so
+abbrev pub WritesMany : {T : Type 0} → (Tables → Tables) → State → State → Result T Error → Type 0
+WritesMany change old new result = HasCleanDisk new → WroteMany (Moves change) old new result

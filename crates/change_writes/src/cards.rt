@@ -2,11 +2,10 @@
 //! nothing of it.
 ghost use Rattle.std.specs.Prelude.{◌≡◌, ◌+◌, false, true};
 ghost use Rattle.sqlite.specs.Held.{state};
-ghost use Rattle.sqlite.specs.State.{HasCleanDisk, Survives};
+ghost use Rattle.sqlite.specs.State.{Survives};
 ghost use Rattle.job_core.specs.declared.facts.RecordState.TheVariants as rec;
 ghost use Rattle.job_core.specs.declared.facts.SessionState.TheVariants as stands;
-ghost use Rattle.sql_base.specs.Ends.{Wrote};
-ghost use Rattle.sql_rows.specs.Image.{Moves};
+ghost use Rattle.sql_rows.specs.Writes.{WritesRows};
 ghost use Rattle.table_rows.specs.After.{less, more, new_session, one_opened};
 ghost use Rattle.table_rows.specs.After.{record_after, stopped};
 ghost use Rattle.table_rows.specs.Tables.{StoredBlank, StoredWord, with_blank, with_end_set};
@@ -37,9 +36,8 @@ pub(crate) fn write_opened<S: Alter>(
           discarded = false;
         } in
         let totals = one_opened (more rec.Running (less rec.Waiting p.totals)) in
-        HasCleanDisk (state S.Store tx.new.conn.now)
-        → Wrote (Moves (λ t. record_after p rec.Running p.spoiled p.remakes totals
-        (with_blank charged (with_session (new_session id p machine.now blank) t))))
+        WritesRows (λ t. record_after p rec.Running p.spoiled p.remakes totals
+        (with_blank charged (with_session (new_session id p machine.now blank) t)))
         (state S.Store tx.old.conn.now) (state S.Store tx.new.conn.now) result }
     ensures survives { Survives (state S.Store tx.old.conn.now) (state S.Store tx.new.conn.now)
         (λ _. ⊥) }
@@ -70,10 +68,9 @@ pub(crate) fn write_word<S: Alter>(
       place = index;
       sw = sw;
     } in
-        HasCleanDisk (state S.Store tx.new.conn.now)
-        → Wrote (Moves (λ t. with_session_set session stands (index + 1) cursor.now
-        (with_word word t)))
-        (state S.Store tx.old.conn.now) (state S.Store tx.new.conn.now) result }
+        WritesRows (λ t. with_session_set session stands (index + 1) cursor.now
+        (with_word word t)) (state S.Store tx.old.conn.now)
+        (state S.Store tx.new.conn.now) result }
     ensures survives { Survives (state S.Store tx.old.conn.now) (state S.Store tx.new.conn.now)
         (λ _. ⊥) }
 {
@@ -101,9 +98,8 @@ pub(crate) fn write_record_word<S: Alter>(
       place = index;
       sw = sw;
     } in
-        HasCleanDisk (state S.Store tx.new.conn.now)
-        → Wrote (Moves (λ t. stopped place.now stands
-        (with_session_set session stands (index + 1) cursor.now (with_word word t))))
+        WritesRows (λ t. stopped place.now stands
+        (with_session_set session stands (index + 1) cursor.now (with_word word t)))
         (state S.Store tx.old.conn.now) (state S.Store tx.new.conn.now) result }
     ensures survives { Survives (state S.Store tx.old.conn.now) (state S.Store tx.new.conn.now)
         (λ _. ⊥) }
@@ -119,8 +115,7 @@ pub(crate) fn write_end<S: Alter>(
     session: u64,
 ) -> Result<usize, Error>
     ensures same_reference { tx.new.conn.ghost_name ≡ tx.old.conn.ghost_name }
-    ensures wrote { HasCleanDisk (state S.Store tx.new.conn.now)
-        → Wrote (Moves (λ t. stopped place.now stands.Spoiled (with_end_set session t)))
+    ensures wrote { WritesRows (λ t. stopped place.now stands.Spoiled (with_end_set session t))
         (state S.Store tx.old.conn.now) (state S.Store tx.new.conn.now) result }
     ensures survives { Survives (state S.Store tx.old.conn.now) (state S.Store tx.new.conn.now)
         (λ _. ⊥) }
@@ -145,8 +140,7 @@ pub(crate) fn write_discard<S: Alter>(
       lot = lot.now;
       discarded = true;
     } in
-        HasCleanDisk (state S.Store tx.new.conn.now)
-        → Wrote (Moves (λ t. with_lot_set lot.now (discarded + 1) (with_blank charged t)))
+        WritesRows (λ t. with_lot_set lot.now (discarded + 1) (with_blank charged t))
         (state S.Store tx.old.conn.now) (state S.Store tx.new.conn.now) result }
     ensures survives { Survives (state S.Store tx.old.conn.now) (state S.Store tx.new.conn.now)
         (λ _. ⊥) }

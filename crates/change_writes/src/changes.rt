@@ -2,11 +2,10 @@
 //! it.
 ghost use Rattle.std.specs.Prelude.{◌≡◌};
 ghost use Rattle.sqlite.specs.Held.{state};
-ghost use Rattle.sqlite.specs.State.{HasCleanDisk, Survives};
-ghost use Rattle.sql_rows.specs.Image.{Moves};
+ghost use Rattle.sqlite.specs.State.{Survives};
 ghost use Rattle.table_rows.specs.After.{rows_after};
 ghost use Rattle.table_rows.specs.declared.before.Before.TheVariants as before;
-ghost use Rattle.change_writes.specs.Many.{WroteMany};
+ghost use Rattle.change_writes.specs.Many.{WritesMany};
 
 use crate::cards::{write_discard, write_end, write_opened, write_record_word, write_word};
 use crate::counters::{fit, is_readable};
@@ -28,9 +27,8 @@ pub fn write_change<S: Alter>(
     before: &Before,
 ) -> Result<(), Error>
     ensures same_reference { tx.new.conn.ghost_name ≡ tx.old.conn.ghost_name }
-    ensures wrote { HasCleanDisk (state S.Store tx.new.conn.now)
-        → WroteMany (Moves (rows_after change.now before.now))
-        (state S.Store tx.old.conn.now) (state S.Store tx.new.conn.now) result }
+    ensures wrote { WritesMany (rows_after change.now before.now) (state S.Store tx.old.conn.now)
+        (state S.Store tx.new.conn.now) result }
     ensures survives { Survives (state S.Store tx.old.conn.now) (state S.Store tx.new.conn.now)
         (λ _. ⊥) }
 {
@@ -46,8 +44,7 @@ pub fn write_change<S: Alter>(
 // A change of which nothing more is to be told.
 fn write_alone<S: Alter>(tx: &mut Transaction<'_, S>, change: &Change<'_>) -> Result<(), Error>
     ensures same_reference { tx.new.conn.ghost_name ≡ tx.old.conn.ghost_name }
-    ensures wrote { HasCleanDisk (state S.Store tx.new.conn.now)
-        → WroteMany (Moves (rows_after change.now before.Nothing))
+    ensures wrote { WritesMany (rows_after change.now before.Nothing)
         (state S.Store tx.old.conn.now) (state S.Store tx.new.conn.now) result }
     ensures survives { Survives (state S.Store tx.old.conn.now) (state S.Store tx.new.conn.now)
         (λ _. ⊥) }
@@ -88,8 +85,7 @@ fn write_import<S: Alter>(
     product: &Product,
 ) -> Result<(), Error>
     ensures same_reference { tx.new.conn.ghost_name ≡ tx.old.conn.ghost_name }
-    ensures wrote { HasCleanDisk (state S.Store tx.new.conn.now)
-        → WroteMany (Moves (rows_after change.now (before.Import id product.now)))
+    ensures wrote { WritesMany (rows_after change.now (before.Import id product.now))
         (state S.Store tx.old.conn.now) (state S.Store tx.new.conn.now) result }
     ensures survives { Survives (state S.Store tx.old.conn.now) (state S.Store tx.new.conn.now)
         (λ _. ⊥) }
@@ -116,8 +112,7 @@ fn write_opening<S: Alter>(
     place: &RecordPlace,
 ) -> Result<(), Error>
     ensures same_reference { tx.new.conn.ghost_name ≡ tx.old.conn.ghost_name }
-    ensures wrote { HasCleanDisk (state S.Store tx.new.conn.now)
-        → WroteMany (Moves (rows_after change.now (before.Opening id place.now)))
+    ensures wrote { WritesMany (rows_after change.now (before.Opening id place.now))
         (state S.Store tx.old.conn.now) (state S.Store tx.new.conn.now) result }
     ensures survives { Survives (state S.Store tx.old.conn.now) (state S.Store tx.new.conn.now)
         (λ _. ⊥) }
@@ -141,8 +136,7 @@ fn write_on_record<S: Alter>(
     place: &RecordPlace,
 ) -> Result<(), Error>
     ensures same_reference { tx.new.conn.ghost_name ≡ tx.old.conn.ghost_name }
-    ensures wrote { HasCleanDisk (state S.Store tx.new.conn.now)
-        → WroteMany (Moves (rows_after change.now (before.OfRecord place.now)))
+    ensures wrote { WritesMany (rows_after change.now (before.OfRecord place.now))
         (state S.Store tx.old.conn.now) (state S.Store tx.new.conn.now) result }
     ensures survives { Survives (state S.Store tx.old.conn.now) (state S.Store tx.new.conn.now)
         (λ _. ⊥) }
@@ -176,8 +170,7 @@ fn write_on_lot<S: Alter>(
     discarded: u64,
 ) -> Result<(), Error>
     ensures same_reference { tx.new.conn.ghost_name ≡ tx.old.conn.ghost_name }
-    ensures wrote { HasCleanDisk (state S.Store tx.new.conn.now)
-        → WroteMany (Moves (rows_after change.now (before.OfLot discarded)))
+    ensures wrote { WritesMany (rows_after change.now (before.OfLot discarded))
         (state S.Store tx.old.conn.now) (state S.Store tx.new.conn.now) result }
     ensures survives { Survives (state S.Store tx.old.conn.now) (state S.Store tx.new.conn.now)
         (λ _. ⊥) }

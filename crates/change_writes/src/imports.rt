@@ -2,16 +2,15 @@
 ghost use Rattle.std.specs.Prelude.{◌≡◌, ◌<◌, ◌≤◌, ◌^◌, IfOk, bytes_eq, length, map};
 ghost use Rattle.std.specs.List.{enumerate_from, position_or_len};
 ghost use Rattle.sqlite.specs.Held.{state};
-ghost use Rattle.sqlite.specs.State.{HasCleanDisk, Survives};
+ghost use Rattle.sqlite.specs.State.{Survives};
 ghost use Rattle.store_data.specs.Groups.{first_appearances};
 ghost use Rattle.store_data.specs.Sequence.{IsProduct};
 ghost use Rattle.store_data.specs.declared.row.Row.{Row as RowValue};
 ghost use Rattle.batch_import.specs.Batch.{batch_of};
 ghost use Rattle.job_core.specs.States.{rows_or_none};
-ghost use Rattle.sql_base.specs.Ends.{Wrote};
-ghost use Rattle.sql_rows.specs.Image.{Moves};
+ghost use Rattle.sql_rows.specs.Writes.{WritesRows};
 ghost use Rattle.table_rows.specs.After.{batch_rows_after, new_grouping, new_record};
-ghost use Rattle.change_writes.specs.Many.{WroteMany, with_groupings, with_records};
+ghost use Rattle.change_writes.specs.Many.{WritesMany, with_groupings, with_records};
 ghost use Rattle.change_writes.specs.Refused.{refused};
 
 use batch_import::{ImportFault, read_batch};
@@ -39,8 +38,7 @@ pub fn write_batch<'x, S: Alter>(
     requires product { IsProduct product.now }
     ensures same_reference { tx.new.conn.ghost_name ≡ tx.old.conn.ghost_name }
     ensures wrote { let rows = rows_or_none (batch_of product.now raw.now) in
-        HasCleanDisk (state S.Store tx.new.conn.now)
-        → Wrote (Moves (batch_rows_after id name.now code.now raw.now rows))
+        WritesRows (batch_rows_after id name.now code.now raw.now rows)
         (state S.Store tx.old.conn.now) (state S.Store tx.new.conn.now) result }
     ensures survives { Survives (state S.Store tx.old.conn.now) (state S.Store tx.new.conn.now)
         (λ _. ⊥) }
@@ -85,8 +83,7 @@ fn add_records<S: Alter>(
     requires few { length names.now ≤ 4096 }
     ensures same_reference { tx.new.conn.ghost_name ≡ tx.old.conn.ghost_name }
     ensures wrote { let records = map (new_record batch) (enumerate_from 0 names.now) in
-        HasCleanDisk (state S.Store tx.new.conn.now)
-        → WroteMany (Moves (with_records records)) (state S.Store tx.old.conn.now)
+        WritesMany (with_records records) (state S.Store tx.old.conn.now)
         (state S.Store tx.new.conn.now) result }
     ensures survives { Survives (state S.Store tx.old.conn.now) (state S.Store tx.new.conn.now)
         (λ _. ⊥) }
@@ -110,8 +107,7 @@ fn add_groupings<S: Alter>(
     ensures same_reference { tx.new.conn.ghost_name ≡ tx.old.conn.ghost_name }
     ensures wrote { let groupings =
         map (new_grouping batch names.now.keys) (enumerate_from 2 rows.now) in
-        HasCleanDisk (state S.Store tx.new.conn.now)
-        → WroteMany (Moves (with_groupings groupings)) (state S.Store tx.old.conn.now)
+        WritesMany (with_groupings groupings) (state S.Store tx.old.conn.now)
         (state S.Store tx.new.conn.now) result }
     ensures survives { Survives (state S.Store tx.old.conn.now) (state S.Store tx.new.conn.now)
         (λ _. ⊥) }

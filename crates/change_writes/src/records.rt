@@ -2,14 +2,13 @@
 //! of it.
 ghost use Rattle.std.specs.Prelude.{◌≡◌, ◌+◌};
 ghost use Rattle.sqlite.specs.Held.{state};
-ghost use Rattle.sqlite.specs.State.{HasCleanDisk, Survives};
+ghost use Rattle.sqlite.specs.State.{Survives};
 ghost use Rattle.job_core.specs.declared.facts.RecordState.TheVariants as rec;
 ghost use Rattle.job_core.specs.declared.facts.SessionState.TheVariants as session;
-ghost use Rattle.sql_base.specs.Ends.{Wrote};
-ghost use Rattle.sql_rows.specs.Image.{Moves};
+ghost use Rattle.sql_rows.specs.Writes.{WritesRows};
 ghost use Rattle.table_rows.specs.After.{less, more, passed, record_after, stopped};
 ghost use Rattle.table_rows.specs.Tables.{StoredRemake, with_remake};
-ghost use Rattle.change_writes.specs.Many.{WroteMany};
+ghost use Rattle.change_writes.specs.Many.{WritesMany};
 
 use crate::counters::{fit, less, more, one_more, one_spoiled, totals_fit};
 use job_core::{BatchTotals, RecordState, SessionState};
@@ -27,8 +26,7 @@ pub(crate) fn write_record<S: Alter>(
     totals: &BatchTotals,
 ) -> Result<usize, Error>
     ensures same_reference { tx.new.conn.ghost_name ≡ tx.old.conn.ghost_name }
-    ensures wrote { HasCleanDisk (state S.Store tx.new.conn.now)
-        → Wrote (Moves (record_after place.now stands spoiled remakes totals.now))
+    ensures wrote { WritesRows (record_after place.now stands spoiled remakes totals.now)
         (state S.Store tx.old.conn.now) (state S.Store tx.new.conn.now) result }
     ensures survives { Survives (state S.Store tx.old.conn.now) (state S.Store tx.new.conn.now)
         (λ _. ⊥) }
@@ -48,9 +46,8 @@ pub(crate) fn write_passed<S: Alter>(
     stands: RecordState,
 ) -> Result<usize, Error>
     ensures same_reference { tx.new.conn.ghost_name ≡ tx.old.conn.ghost_name }
-    ensures wrote { HasCleanDisk (state S.Store tx.new.conn.now)
-        → Wrote (Moves (passed place.now was stands))
-        (state S.Store tx.old.conn.now) (state S.Store tx.new.conn.now) result }
+    ensures wrote { WritesRows (passed place.now was stands) (state S.Store tx.old.conn.now)
+        (state S.Store tx.new.conn.now) result }
     ensures survives { Survives (state S.Store tx.old.conn.now) (state S.Store tx.new.conn.now)
         (λ _. ⊥) }
 {
@@ -64,9 +61,8 @@ pub(crate) fn write_spoiled<S: Alter>(
     place: &RecordPlace,
 ) -> Result<usize, Error>
     ensures same_reference { tx.new.conn.ghost_name ≡ tx.old.conn.ghost_name }
-    ensures wrote { HasCleanDisk (state S.Store tx.new.conn.now)
-        → Wrote (Moves (stopped place.now session.Spoiled))
-        (state S.Store tx.old.conn.now) (state S.Store tx.new.conn.now) result }
+    ensures wrote { WritesRows (stopped place.now session.Spoiled) (state S.Store tx.old.conn.now)
+        (state S.Store tx.new.conn.now) result }
     ensures survives { Survives (state S.Store tx.old.conn.now) (state S.Store tx.new.conn.now)
         (λ _. ⊥) }
 {
@@ -93,9 +89,8 @@ pub(crate) fn write_stop<S: Alter>(
     stands: SessionState,
 ) -> Result<(), Error>
     ensures same_reference { tx.new.conn.ghost_name ≡ tx.old.conn.ghost_name }
-    ensures wrote { HasCleanDisk (state S.Store tx.new.conn.now)
-        → WroteMany (Moves (stopped place.now stands))
-        (state S.Store tx.old.conn.now) (state S.Store tx.new.conn.now) result }
+    ensures wrote { WritesMany (stopped place.now stands) (state S.Store tx.old.conn.now)
+        (state S.Store tx.new.conn.now) result }
     ensures survives { Survives (state S.Store tx.old.conn.now) (state S.Store tx.new.conn.now)
         (λ _. ⊥) }
 {
@@ -124,10 +119,9 @@ pub(crate) fn write_remake<S: Alter>(
           turn = p.remakes + 1;
         } in
         let totals = more rec.Waiting (less rec.Failed p.totals) in
-        HasCleanDisk (state S.Store tx.new.conn.now)
-        → Wrote (Moves (λ t. record_after p rec.Waiting p.spoiled (p.remakes + 1) totals
-        (with_remake turn t)))
-        (state S.Store tx.old.conn.now) (state S.Store tx.new.conn.now) result }
+        WritesRows (λ t. record_after p rec.Waiting p.spoiled (p.remakes + 1) totals
+        (with_remake turn t)) (state S.Store tx.old.conn.now)
+        (state S.Store tx.new.conn.now) result }
     ensures survives { Survives (state S.Store tx.old.conn.now) (state S.Store tx.new.conn.now)
         (λ _. ⊥) }
 {

@@ -2,11 +2,10 @@
 //! of it.
 ghost use Rattle.std.specs.Prelude.{◌≡◌};
 ghost use Rattle.sqlite.specs.Held.{state};
-ghost use Rattle.sqlite.specs.State.{HasCleanDisk, Survives};
-ghost use Rattle.job_core.specs.Contents.{Entry};
-ghost use Rattle.sql_base.specs.Ends.{Wrote};
-ghost use Rattle.sql_rows.specs.Image.{Moves};
+ghost use Rattle.sqlite.specs.State.{Survives};
+ghost use Rattle.sql_rows.specs.Writes.{WritesRows};
 ghost use Rattle.table_rows.specs.After.{rows_after_release};
+ghost use Rattle.table_rows.specs.Kept.{kept_reply};
 
 use crate::counters::fit;
 use row_writes::{add_mark, add_reply, drop_mark, drop_replies};
@@ -25,15 +24,8 @@ pub fn write_release<'x, S: Alter>(
     upto: u64,
 ) -> Result<usize, Error>
     ensures same_reference { tx.new.conn.ghost_name ≡ tx.old.conn.ghost_name }
-    ensures wrote { let entry : Entry = record {
-      client = client.now;
-      number = number;
-      ask = ask.now;
-      status = status;
-      body = body.now;
-    } in
-        HasCleanDisk (state S.Store tx.new.conn.now)
-        → Wrote (Moves (rows_after_release upto entry)) (state S.Store tx.old.conn.now)
+    ensures wrote { let entry = kept_reply client.now number ask.now status body.now in
+        WritesRows (rows_after_release upto entry) (state S.Store tx.old.conn.now)
         (state S.Store tx.new.conn.now) result }
     ensures survives { Survives (state S.Store tx.old.conn.now) (state S.Store tx.new.conn.now)
         (λ _. ⊥) }

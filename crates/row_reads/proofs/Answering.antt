@@ -17,7 +17,7 @@ use Rattle.job_core.specs.States.{product_named}
 use Rattle.step_laws.proofs.BlankSums.{named_once}
 use Rattle.sql_base.proofs.Tests.{alone, same_int, same_text}
 use Rattle.table_rows.specs.Tables.{Tables}
-use Rattle.sql_rows.specs.Encoding.{flag, mark_row, number, product_row}
+use Rattle.sql_rows.specs.Encoding.{mark_row, product_row}
 use Rattle.sql_rows.specs.Image.{IsImage}
 use Rattle.sql_rows.proofs.OneImage.{flag_back}
 use Rattle.row_reads.specs.Decoding.{IsFirst, first_number, product_in}

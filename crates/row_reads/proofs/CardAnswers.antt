@@ -8,15 +8,13 @@ use Rattle.sqlite.specs.Order.{Row}
 use Rattle.sqlite.specs.State.{Shown, State}
 use Rattle.sqlite_sql.specs.declared.ops.BinaryOp.TheVariants.{Compare}
 use Rattle.sqlite_sql.specs.declared.ops.CompareOp.TheVariants.{Eq}
-use Rattle.job_core.specs.declared.facts.RecordState.{RecordState}
-use Rattle.job_core.specs.declared.facts.RecordState.TheVariants as rec
 use Rattle.job_core.specs.declared.facts.SessionState.{SessionState}
 use Rattle.job_core.specs.declared.facts.SessionState.TheVariants as session
 use Rattle.job_core.specs.States.{is_running}
 use Rattle.sql_base.proofs.Tests.{alone, same_int, same_text}
 use Rattle.table_rows.specs.Keys.{is_record_at, is_record_named, is_running_on, is_session}
 use Rattle.table_rows.specs.Tables.{PassesOnce, StoredRecord, StoredSession, Tables}
-use Rattle.sql_rows.specs.Encoding.{number, record_code, record_row, session_code, session_row}
+use Rattle.sql_rows.specs.Encoding.{number, record_row, session_code, session_row}
 use Rattle.sql_rows.specs.Image.{IsImage}
 use Rattle.sql_rows.proofs.OneImage.{record_state_back, session_state_back}
 use Rattle.row_reads.specs.declared.records.RecordAt.{RecordAt}

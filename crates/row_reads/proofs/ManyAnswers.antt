@@ -9,8 +9,6 @@ use Rattle.sqlite.specs.State.{Shown, State}
 use Rattle.sqlite.specs.Term.{col}
 use Rattle.sqlite_sql.specs.declared.ops.BinaryOp.TheVariants.{Compare}
 use Rattle.sqlite_sql.specs.declared.ops.CompareOp.TheVariants.{Eq}
-use Rattle.store_data.specs.declared.row.Enc.{Enc}
-use Rattle.store_data.specs.declared.row.Enc.TheVariants as enc
 use Rattle.job_core.specs.declared.facts.RecordState.{RecordState}
 use Rattle.job_core.specs.declared.facts.RecordState.TheVariants as rec
 use Rattle.job_core.specs.declared.facts.SessionState.{SessionState}
@@ -19,7 +17,7 @@ use Rattle.job_core.specs.States.{is_good, is_waiting}
 use Rattle.sql_base.proofs.Selecting.{all_pass}
 use Rattle.table_rows.specs.Keys.{is_good_of, is_grouping_at, is_grouping_of, is_record_of, is_waiting_of}
 use Rattle.table_rows.specs.Tables.{StoredGrouping, StoredRecord, StoredSession, Tables}
-use Rattle.sql_rows.specs.Encoding.{enc_code, grouping_row, number, record_code, record_row, session_code, session_row}
+use Rattle.sql_rows.specs.Encoding.{grouping_row, number, record_code, record_row, session_code, session_row}
 use Rattle.sql_rows.specs.Image.{IsImage}
 use Rattle.sql_rows.proofs.OneImage.{enc_back, flag_back}
 use Rattle.row_reads.specs.declared.records.RecordAt.{RecordAt}

@@ -1,5 +1,5 @@
 -- What the resolver reads in the texts that read what has a name.
-use Rattle.std.proofs.Common.{[], ◌∷◌, codes, true, refl}
+use Rattle.std.proofs.Common.{ℕ, List, [], ◌∷◌, codes, true, refl}
 use Rattle.sqlite.specs.Listing.{understood}
 use Rattle.sqlite.specs.Term.{col}
 use Rattle.sqlite_tied.specs.Compute.{everything}
@@ -21,14 +21,13 @@ pub batch_name_asks : Asks batch_name_text 5 by_id batch_name_columns
 unfolding understood everything
 batch_name_asks = record { names = codes "name" ∷ []; is = refl; plain = (refl, refl); unlisted = refl }
 
+abbrev head_names : List (List ℕ)
+head_names =
+    codes "id" ∷ codes "product" ∷ codes "closed" ∷ codes "waiting" ∷ codes "running" ∷ codes "failed" ∷ codes "withdrawn" ∷ codes "good" ∷ codes "sessions" ∷ codes "spoiled" ∷ []
+
 pub batch_head_asks : Asks batch_head_text 5 by_batch_name head_columns
 unfolding understood everything
-batch_head_asks = record {
-  names = codes "id" ∷ codes "product" ∷ codes "closed" ∷ codes "waiting" ∷ codes "running" ∷ codes "failed" ∷ codes "withdrawn" ∷ codes "good" ∷ codes "sessions" ∷ codes "spoiled" ∷ [];
-  is = refl;
-  plain = (refl, refl);
-  unlisted = refl;
-}
+batch_head_asks = record { names = head_names; is = refl; plain = (refl, refl); unlisted = refl }
 
 pub batch_has_asks : Asks batch_has_text 5 by_bytes id_columns
 unfolding understood everything
@@ -48,12 +47,7 @@ lots_of_asks = record { names = codes "name" ∷ codes "product" ∷ codes "low_
 
 pub batches_of_asks : Asks batches_of_text 5 by_batch_product head_columns
 unfolding understood everything
-batches_of_asks = record {
-  names = codes "id" ∷ codes "product" ∷ codes "closed" ∷ codes "waiting" ∷ codes "running" ∷ codes "failed" ∷ codes "withdrawn" ∷ codes "good" ∷ codes "sessions" ∷ codes "spoiled" ∷ [];
-  is = refl;
-  plain = (refl, refl);
-  unlisted = refl;
-}
+batches_of_asks = record { names = head_names; is = refl; plain = (refl, refl); unlisted = refl }
 
 pub charged_asks : Asks charged_text 16 by_id id_columns
 unfolding understood everything

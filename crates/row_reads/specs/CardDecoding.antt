@@ -1,14 +1,8 @@
 -- What the values of an answered row tell of records, groupings and sessions.
-use Rattle.std.specs.Prelude.{◌<◌, ◌≤◌, ◌^◌, ℕ, zero, suc}
+use Rattle.std.specs.Prelude.{◌<◌, ◌≤◌, ◌^◌, ℕ}
 use Rattle.sqlite.specs.Order.{Row, column}
 use Rattle.store_data.specs.declared.cursor.Cursor.{Cursor}
-use Rattle.store_data.specs.declared.row.Enc.{Enc}
-use Rattle.store_data.specs.declared.row.Enc.TheVariants as enc
 use Rattle.store_data.specs.Cursor.{IsCursor}
-use Rattle.job_core.specs.declared.facts.RecordState.{RecordState}
-use Rattle.job_core.specs.declared.facts.RecordState.TheVariants as rec
-use Rattle.job_core.specs.declared.facts.SessionState.{SessionState}
-use Rattle.job_core.specs.declared.facts.SessionState.TheVariants as session
 use Rattle.sql_rows.specs.Decoding.{enc_of_code, flag_in, number_in, record_state_of_code, session_state_of_code}
 use Rattle.row_reads.specs.declared.groupings.GroupingAt.{GroupingAt}
 use Rattle.row_reads.specs.declared.records.RecordAt.{RecordAt}

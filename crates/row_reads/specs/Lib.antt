@@ -4,4 +4,5 @@ pub mod CardTexts
 pub mod Decoding
 pub mod CardDecoding
 pub mod Telling
+pub mod Reads
 pub mod Extremes

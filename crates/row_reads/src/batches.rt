@@ -1,16 +1,14 @@
 //! Batches are read.
 ghost use Rattle.std.specs.Prelude.{◌≡◌, ◌<◌, ◌^◌, false, filter, find, map, option_map};
-ghost use Rattle.std.specs.Prelude.{IfOk, IfSome, IsPermutation, IsTrue};
+ghost use Rattle.std.specs.Prelude.{IfOk, IfSome, IsPermutation};
 ghost use Rattle.std.specs.List.{list_any};
 ghost use Rattle.sqlite.specs.Held.{state};
-ghost use Rattle.sqlite.specs.State.{HasCleanDisk, Survives};
 ghost use Rattle.row_reads.specs.Decoding.{IsFirst, head_in, totals_in};
 ghost use Rattle.row_reads.specs.Extremes.{IsGreatest};
+ghost use Rattle.row_reads.specs.Reads.{Looks, TellsRows};
 ghost use Rattle.row_reads.specs.Telling.{AreCounts, IsHead, head_of};
-ghost use Rattle.sql_base.specs.Ends.{IsKept};
-ghost use Rattle.sql_rows.specs.Image.{IsImage};
 ghost use Rattle.table_rows.specs.Keys.{is_batch, is_batch_for, is_batch_named, is_batch_with};
-ghost use Rattle.table_rows.specs.Tables.{PassesOnce, StoredBatch, Tables};
+ghost use Rattle.table_rows.specs.Tables.{PassesOnce, StoredBatch};
 
 use crate::values::{first_id, first_name, first_number, has_rows, name_at, number_at};
 use job_core::BatchTotals;
@@ -98,19 +96,16 @@ fn heads_in(alloc: Global, rows: &[Row]) -> Result<Vec<BatchHead>, Error>
 
 // ---- queries
 
-/// The id of the batch of this name. Nothing is changed, and a crash leaves what it could leave
-/// before.
+/// The id of the batch of this name.
 pub fn batch_id<S: Alter>(conn: &mut Connection<S>, name: &Name) -> Result<Option<u64>, Error>
     requires { conn.old.in_transaction ≡ false }
-    ensures found { HasCleanDisk (state S.Store conn.new) → IfOk result
-        (λ found. IsTrue (state S.Store conn.old).is_open × ((t : Tables)
-        → IsImage t (state S.Store conn.old).now → PassesOnce (is_batch_named name.now) t.batches
-        → found ≡ option_map (λ (b : StoredBatch). b.id) (find (is_batch_named name.now) t.batches))) }
+    ensures found { TellsRows (state S.Store conn.old) (state S.Store conn.new) result
+        (λ t found. PassesOnce (is_batch_named name.now) t.batches
+        → found
+        ≡ option_map (λ (b : StoredBatch). b.id) (find (is_batch_named name.now) t.batches)) }
     ensures ranged { IfOk result (λ found. IfSome found (λ id. id < 2 ^ 63)) }
-    ensures kept { HasCleanDisk (state S.Store conn.new)
-        → IsKept (state S.Store conn.old) (state S.Store conn.new) }
+    ensures looks { Looks (state S.Store conn.old) (state S.Store conn.new) }
     ensures idle { conn.new.in_transaction ≡ false }
-    ensures survives { Survives (state S.Store conn.old) (state S.Store conn.new) (λ _. ⊥) }
 {
     let rows = rows_of(
         conn,
@@ -120,40 +115,32 @@ pub fn batch_id<S: Alter>(conn: &mut Connection<S>, name: &Name) -> Result<Optio
     first_id(rows.as_slice())
 }
 
-/// The name of the batch with this id. Nothing is changed, and a crash leaves what it could leave
-/// before.
+/// The name of the batch with this id.
 pub fn batch_name<S: Alter>(conn: &mut Connection<S>, id: u64) -> Result<Option<Name>, Error>
     requires idle { conn.old.in_transaction ≡ false }
     requires id { id < 2 ^ 63 }
-    ensures found { HasCleanDisk (state S.Store conn.new) → IfOk result
-        (λ found. IsTrue (state S.Store conn.old).is_open × ((t : Tables)
-        → IsImage t (state S.Store conn.old).now → PassesOnce (is_batch id) t.batches
-        → found ≡ option_map (λ (b : StoredBatch). b.name) (find (is_batch id) t.batches))) }
-    ensures kept { HasCleanDisk (state S.Store conn.new)
-        → IsKept (state S.Store conn.old) (state S.Store conn.new) }
+    ensures found { TellsRows (state S.Store conn.old) (state S.Store conn.new) result
+        (λ t found. PassesOnce (is_batch id) t.batches
+        → found ≡ option_map (λ (b : StoredBatch). b.name) (find (is_batch id) t.batches)) }
+    ensures looks { Looks (state S.Store conn.old) (state S.Store conn.new) }
     ensures idle { conn.new.in_transaction ≡ false }
-    ensures survives { Survives (state S.Store conn.old) (state S.Store conn.new) (λ _. ⊥) }
 {
     let rows = rows_of(conn, "SELECT name FROM batch WHERE id = ?1", &[int(id)])?;
     first_name(rows.as_slice())
 }
 
-/// The batch of this name, without its bytes. Nothing is changed, and a crash leaves what it could
-/// leave before.
+/// The batch of this name, without its bytes.
 pub fn batch_head<S: Alter>(
     conn: &mut Connection<S>,
     name: &Name,
 ) -> Result<Option<BatchHead>, Error>
     requires { conn.old.in_transaction ≡ false }
-    ensures found { HasCleanDisk (state S.Store conn.new) → IfOk result
-        (λ found. IsTrue (state S.Store conn.old).is_open × ((t : Tables)
-        → IsImage t (state S.Store conn.old).now → PassesOnce (is_batch_named name.now) t.batches
-        → found ≡ option_map head_of (find (is_batch_named name.now) t.batches))) }
+    ensures found { TellsRows (state S.Store conn.old) (state S.Store conn.new) result
+        (λ t found. PassesOnce (is_batch_named name.now) t.batches
+        → found ≡ option_map head_of (find (is_batch_named name.now) t.batches)) }
     ensures ranged { IfOk result (λ found. IfSome found IsHead) }
-    ensures kept { HasCleanDisk (state S.Store conn.new)
-        → IsKept (state S.Store conn.old) (state S.Store conn.new) }
+    ensures looks { Looks (state S.Store conn.old) (state S.Store conn.new) }
     ensures idle { conn.new.in_transaction ≡ false }
-    ensures survives { Survives (state S.Store conn.old) (state S.Store conn.new) (λ _. ⊥) }
 {
     let rows = rows_of(
         conn,
@@ -164,18 +151,13 @@ pub fn batch_head<S: Alter>(
     first_head(rows.as_slice())
 }
 
-/// Whether the batch of this name has these bytes. Nothing is changed, and a crash leaves what it
-/// could leave before.
+/// Whether the batch of this name has these bytes.
 pub fn batch_has<S: Alter>(conn: &mut Connection<S>, name: &Name, raw: &[u8]) -> Result<bool, Error>
     requires { conn.old.in_transaction ≡ false }
-    ensures found { HasCleanDisk (state S.Store conn.new) → IfOk result
-        (λ has. IsTrue (state S.Store conn.old).is_open × ((t : Tables)
-        → IsImage t (state S.Store conn.old).now
-        → has ≡ list_any (is_batch_with name.now raw.now) t.batches)) }
-    ensures kept { HasCleanDisk (state S.Store conn.new)
-        → IsKept (state S.Store conn.old) (state S.Store conn.new) }
+    ensures found { TellsRows (state S.Store conn.old) (state S.Store conn.new) result
+        (λ t has. has ≡ list_any (is_batch_with name.now raw.now) t.batches) }
+    ensures looks { Looks (state S.Store conn.old) (state S.Store conn.new) }
     ensures idle { conn.new.in_transaction ≡ false }
-    ensures survives { Survives (state S.Store conn.old) (state S.Store conn.new) (λ _. ⊥) }
 {
     let rows = rows_of(
         conn,
@@ -185,21 +167,17 @@ pub fn batch_has<S: Alter>(conn: &mut Connection<S>, name: &Name, raw: &[u8]) ->
     Ok(has_rows(rows.as_slice()))
 }
 
-/// The batches of a product, in any order and without their bytes. Nothing is changed, and a crash
-/// leaves what it could leave before.
+/// The batches of a product, in any order and without their bytes.
 pub fn batches_of<S: Alter>(
     conn: &mut Connection<S>,
     product: &Name,
 ) -> Result<Vec<BatchHead>, Error>
     requires { conn.old.in_transaction ≡ false }
-    ensures found { HasCleanDisk (state S.Store conn.new) → IfOk result
-        (λ heads. IsTrue (state S.Store conn.old).is_open × ((t : Tables)
-        → IsImage t (state S.Store conn.old).now
-        → IsPermutation (map head_of (filter (is_batch_for product.now) t.batches)) heads.items)) }
-    ensures kept { HasCleanDisk (state S.Store conn.new)
-        → IsKept (state S.Store conn.old) (state S.Store conn.new) }
+    ensures found { TellsRows (state S.Store conn.old) (state S.Store conn.new) result
+        (λ t heads.
+        IsPermutation (map head_of (filter (is_batch_for product.now) t.batches)) heads.items) }
+    ensures looks { Looks (state S.Store conn.old) (state S.Store conn.new) }
     ensures idle { conn.new.in_transaction ≡ false }
-    ensures survives { Survives (state S.Store conn.old) (state S.Store conn.new) (λ _. ⊥) }
 {
     let rows = rows_of(
         conn,
@@ -211,19 +189,14 @@ pub fn batches_of<S: Alter>(
     heads_in(alloc, rows.as_slice())
 }
 
-/// The greatest id of a batch; 0 where there is no batch. Nothing is changed, and a crash leaves
-/// what it could leave before.
+/// The greatest id of a batch; 0 where there is no batch.
 pub fn last_batch<S: Alter>(conn: &mut Connection<S>) -> Result<u64, Error>
     requires { conn.old.in_transaction ≡ false }
-    ensures found { HasCleanDisk (state S.Store conn.new) → IfOk result
-        (λ id. IsTrue (state S.Store conn.old).is_open × ((t : Tables)
-        → IsImage t (state S.Store conn.old).now
-        → IsGreatest (map (λ (b : StoredBatch). b.id) t.batches) id)) }
+    ensures found { TellsRows (state S.Store conn.old) (state S.Store conn.new) result
+        (λ t id. IsGreatest (map (λ (b : StoredBatch). b.id) t.batches) id) }
     ensures ranged { IfOk result (λ id. id < 2 ^ 63) }
-    ensures kept { HasCleanDisk (state S.Store conn.new)
-        → IsKept (state S.Store conn.old) (state S.Store conn.new) }
+    ensures looks { Looks (state S.Store conn.old) (state S.Store conn.new) }
     ensures idle { conn.new.in_transaction ≡ false }
-    ensures survives { Survives (state S.Store conn.old) (state S.Store conn.new) (λ _. ⊥) }
 {
     let rows = rows_of(conn, "SELECT id FROM batch ORDER BY id DESC LIMIT 1", &[])?;
     first_number(rows.as_slice())

@@ -1,18 +1,15 @@
 //! Rows of batches are read.
-ghost use Rattle.std.specs.Prelude.{◌≡◌, ◌≤◌, ◌<◌, ◌^◌, false, filter, length, All, IfOk, IsTrue};
+ghost use Rattle.std.specs.Prelude.{◌≡◌, ◌≤◌, ◌<◌, ◌^◌, false, filter, length, All, IfOk};
 ghost use Rattle.std.specs.Prelude.{map};
 ghost use Rattle.sqlite.specs.Held.{state};
 ghost use Rattle.sqlite.specs.Order.{column};
-ghost use Rattle.sqlite.specs.State.{HasCleanDisk, Survives};
 ghost use Rattle.row_reads.specs.CardDecoding.{IsGroupingAt, grouping_at, grouping_in};
 ghost use Rattle.row_reads.specs.CardDecoding.{line_of};
 ghost use Rattle.row_reads.specs.Decoding.{blob_in};
 ghost use Rattle.row_reads.specs.Extremes.{AreSorted};
-ghost use Rattle.sql_base.specs.Ends.{IsKept};
+ghost use Rattle.row_reads.specs.Reads.{Looks, TellsRows};
 ghost use Rattle.sql_rows.specs.Decoding.{enc_of_code, number_in};
-ghost use Rattle.sql_rows.specs.Image.{IsImage};
 ghost use Rattle.table_rows.specs.Keys.{is_grouping_at, is_grouping_of};
-ghost use Rattle.table_rows.specs.Tables.{Tables};
 
 use crate::values::{bytes_at, count, number_at};
 use sql_base::{int, rows_of};
@@ -115,8 +112,7 @@ fn all_groupings(alloc: Global, rows: &[Row]) -> Result<Vec<GroupingAt>, Error>
     Ok(all)
 }
 
-/// The rows of the record at this place of the batch with this id, by their numbers. Nothing is
-/// changed, and a crash leaves what it could leave before.
+/// The rows of the record at this place of the batch with this id, by their numbers.
 pub fn groupings_of<S: Alter>(
     conn: &mut Connection<S>,
     batch: u64,
@@ -125,16 +121,12 @@ pub fn groupings_of<S: Alter>(
     requires idle { conn.old.in_transaction ≡ false }
     requires batch { batch < 2 ^ 63 }
     requires place { place < 2 ^ 63 }
-    ensures found { HasCleanDisk (state S.Store conn.new) → IfOk result
-        (λ all. IsTrue (state S.Store conn.old).is_open × ((t : Tables)
-        → IsImage t (state S.Store conn.old).now
-        → AreSorted line_of (map grouping_at (filter (is_grouping_at batch place) t.groupings))
-        all.items)) }
+    ensures found { TellsRows (state S.Store conn.old) (state S.Store conn.new) result
+        (λ t all. AreSorted line_of
+        (map grouping_at (filter (is_grouping_at batch place) t.groupings)) all.items) }
     ensures ranged { IfOk result (λ all. All IsGroupingAt all.items) }
-    ensures kept { HasCleanDisk (state S.Store conn.new)
-        → IsKept (state S.Store conn.old) (state S.Store conn.new) }
+    ensures looks { Looks (state S.Store conn.old) (state S.Store conn.new) }
     ensures idle { conn.new.in_transaction ≡ false }
-    ensures survives { Survives (state S.Store conn.old) (state S.Store conn.new) (λ _. ⊥) }
 {
     let rows = rows_of(
         conn,
@@ -146,19 +138,14 @@ pub fn groupings_of<S: Alter>(
     all_groupings(alloc, rows.as_slice())
 }
 
-/// How many rows the batch with this id has. Nothing is changed, and a crash leaves what it could
-/// leave before.
+/// How many rows the batch with this id has.
 pub fn grouping_count<S: Alter>(conn: &mut Connection<S>, batch: u64) -> Result<u64, Error>
     requires idle { conn.old.in_transaction ≡ false }
     requires batch { batch < 2 ^ 63 }
-    ensures found { HasCleanDisk (state S.Store conn.new) → IfOk result
-        (λ counted. IsTrue (state S.Store conn.old).is_open × ((t : Tables)
-        → IsImage t (state S.Store conn.old).now
-        → counted ≡ length (filter (is_grouping_of batch) t.groupings))) }
-    ensures kept { HasCleanDisk (state S.Store conn.new)
-        → IsKept (state S.Store conn.old) (state S.Store conn.new) }
+    ensures found { TellsRows (state S.Store conn.old) (state S.Store conn.new) result
+        (λ t counted. counted ≡ length (filter (is_grouping_of batch) t.groupings)) }
+    ensures looks { Looks (state S.Store conn.old) (state S.Store conn.new) }
     ensures idle { conn.new.in_transaction ≡ false }
-    ensures survives { Survives (state S.Store conn.old) (state S.Store conn.new) (λ _. ⊥) }
 {
     let rows = rows_of(
         conn,

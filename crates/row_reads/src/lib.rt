@@ -1,4 +1,5 @@
-//! What each statement that reads answers of the rows of our tables.
+//! What each statement that reads answers of the rows of our tables. A read changes nothing, and a
+//! crash leaves what it could leave before.
 #![tactic(auto)]
 
 mod batches;

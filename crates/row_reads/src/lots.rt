@@ -1,15 +1,13 @@
 //! Lots are read.
 ghost use Rattle.std.specs.Prelude.{◌≡◌, ◌<◌, ◌^◌, ◌+◌, false, filter, find, length, map};
-ghost use Rattle.std.specs.Prelude.{nat_lt, option_copied, option_map, IfOk, IfSome, IsPermutation, IsTrue};
+ghost use Rattle.std.specs.Prelude.{nat_lt, option_copied, option_map, IfOk, IfSome, IsPermutation};
 ghost use Rattle.sqlite.specs.Held.{state};
-ghost use Rattle.sqlite.specs.State.{HasCleanDisk, Survives};
 ghost use Rattle.job_core.specs.States.{any_overlaps, is_in, lot_of};
 ghost use Rattle.row_reads.specs.Decoding.{IsFirst, lot_in, lot_row_in};
+ghost use Rattle.row_reads.specs.Reads.{Looks, TellsRows};
 ghost use Rattle.row_reads.specs.Telling.{IsLotRow, lot_row_of};
-ghost use Rattle.sql_base.specs.Ends.{IsKept};
-ghost use Rattle.sql_rows.specs.Image.{IsImage};
 ghost use Rattle.table_rows.specs.Keys.{is_lot_for, is_lot_named};
-ghost use Rattle.table_rows.specs.Tables.{PassesOnce, StoredLot, Tables};
+ghost use Rattle.table_rows.specs.Tables.{PassesOnce, StoredLot};
 
 use crate::values::{count, name_at, number_at};
 use job_core::Lot;
@@ -106,18 +104,15 @@ fn any_overlaps(lots: &[Lot], first: u64, count: u32) -> bool
 
 // ---- queries
 
-/// The lot of this name. Nothing is changed, and a crash leaves what it could leave before.
+/// The lot of this name.
 pub fn lot<S: Alter>(conn: &mut Connection<S>, name: &Name) -> Result<Option<LotRow>, Error>
     requires { conn.old.in_transaction ≡ false }
-    ensures found { HasCleanDisk (state S.Store conn.new) → IfOk result
-        (λ found. IsTrue (state S.Store conn.old).is_open × ((t : Tables)
-        → IsImage t (state S.Store conn.old).now → PassesOnce (is_lot_named name.now) t.lots
-        → found ≡ option_map lot_row_of (find (is_lot_named name.now) t.lots))) }
+    ensures found { TellsRows (state S.Store conn.old) (state S.Store conn.new) result
+        (λ t found. PassesOnce (is_lot_named name.now) t.lots
+        → found ≡ option_map lot_row_of (find (is_lot_named name.now) t.lots)) }
     ensures ranged { IfOk result (λ found. IfSome found IsLotRow) }
-    ensures kept { HasCleanDisk (state S.Store conn.new)
-        → IsKept (state S.Store conn.old) (state S.Store conn.new) }
+    ensures looks { Looks (state S.Store conn.old) (state S.Store conn.new) }
     ensures idle { conn.new.in_transaction ≡ false }
-    ensures survives { Survives (state S.Store conn.old) (state S.Store conn.new) (λ _. ⊥) }
 {
     let rows = rows_of(
         conn,
@@ -127,17 +122,13 @@ pub fn lot<S: Alter>(conn: &mut Connection<S>, name: &Name) -> Result<Option<Lot
     first_lot_row(rows.as_slice())
 }
 
-/// All lots, in any order. Nothing is changed, and a crash leaves what it could leave before.
+/// All lots, in any order.
 pub fn all_lots<S: Alter>(conn: &mut Connection<S>) -> Result<Vec<Lot>, Error>
     requires { conn.old.in_transaction ≡ false }
-    ensures found { HasCleanDisk (state S.Store conn.new) → IfOk result
-        (λ lots. IsTrue (state S.Store conn.old).is_open × ((t : Tables)
-        → IsImage t (state S.Store conn.old).now
-        → IsPermutation (map (λ (l : StoredLot). l.lot) t.lots) lots.items)) }
-    ensures kept { HasCleanDisk (state S.Store conn.new)
-        → IsKept (state S.Store conn.old) (state S.Store conn.new) }
+    ensures found { TellsRows (state S.Store conn.old) (state S.Store conn.new) result
+        (λ t lots. IsPermutation (map (λ (l : StoredLot). l.lot) t.lots) lots.items) }
+    ensures looks { Looks (state S.Store conn.old) (state S.Store conn.new) }
     ensures idle { conn.new.in_transaction ≡ false }
-    ensures survives { Survives (state S.Store conn.old) (state S.Store conn.new) (λ _. ⊥) }
 {
     let rows = rows_of(
         conn,
@@ -148,18 +139,14 @@ pub fn all_lots<S: Alter>(conn: &mut Connection<S>) -> Result<Vec<Lot>, Error>
     lots_in(alloc, rows.as_slice())
 }
 
-/// The lots of a product, in any order. Nothing is changed, and a crash leaves what it could leave
-/// before.
+/// The lots of a product, in any order.
 pub fn lots_of<S: Alter>(conn: &mut Connection<S>, product: &Name) -> Result<Vec<LotRow>, Error>
     requires { conn.old.in_transaction ≡ false }
-    ensures found { HasCleanDisk (state S.Store conn.new) → IfOk result
-        (λ lots. IsTrue (state S.Store conn.old).is_open × ((t : Tables)
-        → IsImage t (state S.Store conn.old).now
-        → IsPermutation (map lot_row_of (filter (is_lot_for product.now) t.lots)) lots.items)) }
-    ensures kept { HasCleanDisk (state S.Store conn.new)
-        → IsKept (state S.Store conn.old) (state S.Store conn.new) }
+    ensures found { TellsRows (state S.Store conn.old) (state S.Store conn.new) result
+        (λ t lots.
+        IsPermutation (map lot_row_of (filter (is_lot_for product.now) t.lots)) lots.items) }
+    ensures looks { Looks (state S.Store conn.old) (state S.Store conn.new) }
     ensures idle { conn.new.in_transaction ≡ false }
-    ensures survives { Survives (state S.Store conn.old) (state S.Store conn.new) (λ _. ⊥) }
 {
     let rows = rows_of(
         conn,
@@ -170,51 +157,38 @@ pub fn lots_of<S: Alter>(conn: &mut Connection<S>, product: &Name) -> Result<Vec
     lot_rows_in(alloc, rows.as_slice())
 }
 
-/// The lot in which a blank lies. Nothing is changed, and a crash leaves what it could leave
-/// before.
+/// The lot in which a blank lies.
 pub fn lot_of<S: Alter>(conn: &mut Connection<S>, blank: u64) -> Result<Option<Lot>, Error>
     requires { conn.old.in_transaction ≡ false }
-    ensures found { HasCleanDisk (state S.Store conn.new) → IfOk result
-        (λ found. IsTrue (state S.Store conn.old).is_open × ((t : Tables)
-        → IsImage t (state S.Store conn.old).now
-        → PassesOnce (is_in blank) (map (λ (l : StoredLot). l.lot) t.lots)
-        → found ≡ lot_of (map (λ (l : StoredLot). l.lot) t.lots) blank)) }
-    ensures kept { HasCleanDisk (state S.Store conn.new)
-        → IsKept (state S.Store conn.old) (state S.Store conn.new) }
+    ensures found { TellsRows (state S.Store conn.old) (state S.Store conn.new) result
+        (λ t found. PassesOnce (is_in blank) (map (λ (l : StoredLot). l.lot) t.lots)
+        → found ≡ lot_of (map (λ (l : StoredLot). l.lot) t.lots) blank) }
+    ensures looks { Looks (state S.Store conn.old) (state S.Store conn.new) }
     ensures idle { conn.new.in_transaction ≡ false }
-    ensures survives { Survives (state S.Store conn.old) (state S.Store conn.new) (λ _. ⊥) }
 {
     let lots = all_lots(conn)?;
     Ok(lot_among(lots.as_slice(), blank).copied())
 }
 
-/// Whether a serial of the range lies in a lot. Nothing is changed, and a crash leaves what it
-/// could leave before.
+/// Whether a serial of the range lies in a lot.
 pub fn overlaps<S: Alter>(conn: &mut Connection<S>, first: u64, count: u32) -> Result<bool, Error>
     requires { conn.old.in_transaction ≡ false }
-    ensures found { HasCleanDisk (state S.Store conn.new) → IfOk result
-        (λ found. IsTrue (state S.Store conn.old).is_open × ((t : Tables)
-        → IsImage t (state S.Store conn.old).now
-        → found ≡ any_overlaps (map (λ (l : StoredLot). l.lot) t.lots) first count)) }
-    ensures kept { HasCleanDisk (state S.Store conn.new)
-        → IsKept (state S.Store conn.old) (state S.Store conn.new) }
+    ensures found { TellsRows (state S.Store conn.old) (state S.Store conn.new) result
+        (λ t found. found ≡ any_overlaps (map (λ (l : StoredLot). l.lot) t.lots) first count) }
+    ensures looks { Looks (state S.Store conn.old) (state S.Store conn.new) }
     ensures idle { conn.new.in_transaction ≡ false }
-    ensures survives { Survives (state S.Store conn.old) (state S.Store conn.new) (λ _. ⊥) }
 {
     let lots = all_lots(conn)?;
     Ok(any_overlaps(lots.as_slice(), first, count))
 }
 
-/// How many lots there are. Nothing is changed, and a crash leaves what it could leave before.
+/// How many lots there are.
 pub fn lot_count<S: Alter>(conn: &mut Connection<S>) -> Result<u64, Error>
     requires { conn.old.in_transaction ≡ false }
-    ensures found { HasCleanDisk (state S.Store conn.new) → IfOk result
-        (λ count. IsTrue (state S.Store conn.old).is_open × ((t : Tables)
-        → IsImage t (state S.Store conn.old).now → count ≡ length t.lots)) }
-    ensures kept { HasCleanDisk (state S.Store conn.new)
-        → IsKept (state S.Store conn.old) (state S.Store conn.new) }
+    ensures found { TellsRows (state S.Store conn.old) (state S.Store conn.new) result
+        (λ t count. count ≡ length t.lots) }
+    ensures looks { Looks (state S.Store conn.old) (state S.Store conn.new) }
     ensures idle { conn.new.in_transaction ≡ false }
-    ensures survives { Survives (state S.Store conn.old) (state S.Store conn.new) (λ _. ⊥) }
 {
     let rows = rows_of(conn, "SELECT name FROM lot", &[])?;
     Ok(count(rows.as_slice()))

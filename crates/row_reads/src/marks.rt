@@ -1,12 +1,9 @@
 //! Marks are read.
-ghost use Rattle.std.specs.Prelude.{◌≡◌, ◌<◌, ◌^◌, false, map, IfOk, IsTrue};
+ghost use Rattle.std.specs.Prelude.{◌≡◌, ◌<◌, ◌^◌, false, map, IfOk};
 ghost use Rattle.sqlite.specs.Held.{state};
-ghost use Rattle.sqlite.specs.State.{HasCleanDisk, Survives};
 ghost use Rattle.job_core.specs.Contents.{Mark, mark_of};
 ghost use Rattle.job_core.specs.Sound.{AreNamedOnce};
-ghost use Rattle.sql_base.specs.Ends.{IsKept};
-ghost use Rattle.sql_rows.specs.Image.{IsImage};
-ghost use Rattle.table_rows.specs.Tables.{Tables};
+ghost use Rattle.row_reads.specs.Reads.{Looks, TellsRows};
 
 use crate::values::first_number;
 use sql_base::rows_of;
@@ -14,20 +11,15 @@ use sqlite::types::ValueRef;
 use sqlite::{Alter, Connection, Error};
 use store_data::Name;
 
-/// The number up to which a client has released its numbers; 0 where it never did. Nothing is
-/// changed, and a crash leaves what it could leave before.
+/// The number up to which a client has released its numbers; 0 where it never did.
 pub fn mark<S: Alter>(conn: &mut Connection<S>, client: &Name) -> Result<u64, Error>
     requires { conn.old.in_transaction ≡ false }
-    ensures found { HasCleanDisk (state S.Store conn.new) → IfOk result
-        (λ upto. IsTrue (state S.Store conn.old).is_open × ((t : Tables)
-        → IsImage t (state S.Store conn.old).now
-        → AreNamedOnce (map (λ (m : Mark). m.client) t.marks)
-        → upto ≡ mark_of t.marks client.now)) }
+    ensures found { TellsRows (state S.Store conn.old) (state S.Store conn.new) result
+        (λ t upto. AreNamedOnce (map (λ (m : Mark). m.client) t.marks)
+        → upto ≡ mark_of t.marks client.now) }
     ensures ranged { IfOk result (λ upto. upto < 2 ^ 63) }
-    ensures kept { HasCleanDisk (state S.Store conn.new)
-        → IsKept (state S.Store conn.old) (state S.Store conn.new) }
+    ensures looks { Looks (state S.Store conn.old) (state S.Store conn.new) }
     ensures idle { conn.new.in_transaction ≡ false }
-    ensures survives { Survives (state S.Store conn.old) (state S.Store conn.new) (λ _. ⊥) }
 {
     let rows = rows_of(
         conn,

@@ -1,15 +1,12 @@
 //! Products are read.
-ghost use Rattle.std.specs.Prelude.{◌≡◌, false, length, map, IfOk, IfSome, IsTrue};
+ghost use Rattle.std.specs.Prelude.{◌≡◌, false, length, map, IfOk, IfSome};
 ghost use Rattle.sqlite.specs.Held.{state};
-ghost use Rattle.sqlite.specs.State.{HasCleanDisk, Survives};
 ghost use Rattle.store_data.specs.Sequence.{IsProduct};
 ghost use Rattle.store_data.specs.declared.row.Product.{Product as ProductValue};
 ghost use Rattle.job_core.specs.Sound.{AreNamedOnce};
 ghost use Rattle.job_core.specs.States.{product_named};
 ghost use Rattle.row_reads.specs.Decoding.{IsFirst, product_in};
-ghost use Rattle.sql_base.specs.Ends.{IsKept};
-ghost use Rattle.sql_rows.specs.Image.{IsImage};
-ghost use Rattle.table_rows.specs.Tables.{Tables};
+ghost use Rattle.row_reads.specs.Reads.{Looks, TellsRows};
 
 use crate::values::count;
 use sql_base::rows_of;
@@ -47,19 +44,15 @@ fn first_product(code: &Name, rows: &[Row]) -> Result<Option<Product>, Error>
     }
 }
 
-/// The product of this code. Nothing is changed, and a crash leaves what it could leave before.
+/// The product of this code.
 pub fn product<S: Alter>(conn: &mut Connection<S>, code: &Name) -> Result<Option<Product>, Error>
     requires { conn.old.in_transaction ≡ false }
-    ensures found { HasCleanDisk (state S.Store conn.new) → IfOk result
-        (λ found. IsTrue (state S.Store conn.old).is_open × ((t : Tables)
-        → IsImage t (state S.Store conn.old).now
-        → AreNamedOnce (map (λ (p : ProductValue). p.code) t.products)
-        → found ≡ product_named t.products code.now)) }
+    ensures found { TellsRows (state S.Store conn.old) (state S.Store conn.new) result
+        (λ t found. AreNamedOnce (map (λ (p : ProductValue). p.code) t.products)
+        → found ≡ product_named t.products code.now) }
     ensures ranged { IfOk result (λ found. IfSome found IsProduct) }
-    ensures kept { HasCleanDisk (state S.Store conn.new)
-        → IsKept (state S.Store conn.old) (state S.Store conn.new) }
+    ensures looks { Looks (state S.Store conn.old) (state S.Store conn.new) }
     ensures idle { conn.new.in_transaction ≡ false }
-    ensures survives { Survives (state S.Store conn.old) (state S.Store conn.new) (λ _. ⊥) }
 {
     let rows = rows_of(
         conn,
@@ -69,16 +62,13 @@ pub fn product<S: Alter>(conn: &mut Connection<S>, code: &Name) -> Result<Option
     first_product(code, rows.as_slice())
 }
 
-/// How many products there are. Nothing is changed, and a crash leaves what it could leave before.
+/// How many products there are.
 pub fn product_count<S: Alter>(conn: &mut Connection<S>) -> Result<u64, Error>
     requires { conn.old.in_transaction ≡ false }
-    ensures found { HasCleanDisk (state S.Store conn.new) → IfOk result
-        (λ count. IsTrue (state S.Store conn.old).is_open × ((t : Tables)
-        → IsImage t (state S.Store conn.old).now → count ≡ length t.products)) }
-    ensures kept { HasCleanDisk (state S.Store conn.new)
-        → IsKept (state S.Store conn.old) (state S.Store conn.new) }
+    ensures found { TellsRows (state S.Store conn.old) (state S.Store conn.new) result
+        (λ t count. count ≡ length t.products) }
+    ensures looks { Looks (state S.Store conn.old) (state S.Store conn.new) }
     ensures idle { conn.new.in_transaction ≡ false }
-    ensures survives { Survives (state S.Store conn.old) (state S.Store conn.new) (λ _. ⊥) }
 {
     let rows = rows_of(conn, "SELECT name FROM product", &[])?;
     Ok(count(rows.as_slice()))

@@ -1,16 +1,14 @@
 //! Records are read.
 ghost use Rattle.std.specs.Prelude.{◌≡◌, ◌<◌, ◌^◌, false, filter, find, option_map, All, IfOk};
-ghost use Rattle.std.specs.Prelude.{IfSome, IsTrue, map};
+ghost use Rattle.std.specs.Prelude.{IfSome, map};
 ghost use Rattle.sqlite.specs.Held.{state};
-ghost use Rattle.sqlite.specs.State.{HasCleanDisk, Survives};
 ghost use Rattle.row_reads.specs.CardDecoding.{IsRecordAt, place_of, record_at, record_in};
 ghost use Rattle.row_reads.specs.Decoding.{IsFirst};
 ghost use Rattle.row_reads.specs.Extremes.{AreSorted, IsLeastBy};
-ghost use Rattle.sql_base.specs.Ends.{IsKept};
+ghost use Rattle.row_reads.specs.Reads.{Looks, TellsRows};
 ghost use Rattle.sql_rows.specs.Decoding.{record_state_of_code};
-ghost use Rattle.sql_rows.specs.Image.{IsImage};
 ghost use Rattle.table_rows.specs.Keys.{is_record_at, is_record_named, is_record_of, is_waiting_of};
-ghost use Rattle.table_rows.specs.Tables.{PassesOnce, Tables};
+ghost use Rattle.table_rows.specs.Tables.{PassesOnce};
 
 use crate::values::{name_at, number_at};
 use job_core::RecordState;
@@ -78,8 +76,7 @@ fn first_record(rows: &[Row]) -> Result<Option<RecordAt>, Error>
     }
 }
 
-/// The record of this name in the batch with this id. Nothing is changed, and a crash leaves what
-/// it could leave before.
+/// The record of this name in the batch with this id.
 pub fn record_named<S: Alter>(
     conn: &mut Connection<S>,
     batch: u64,
@@ -87,16 +84,12 @@ pub fn record_named<S: Alter>(
 ) -> Result<Option<RecordAt>, Error>
     requires idle { conn.old.in_transaction ≡ false }
     requires batch { batch < 2 ^ 63 }
-    ensures found { HasCleanDisk (state S.Store conn.new) → IfOk result
-        (λ found. IsTrue (state S.Store conn.old).is_open × ((t : Tables)
-        → IsImage t (state S.Store conn.old).now
-        → PassesOnce (is_record_named batch name.now) t.records
-        → found ≡ option_map record_at (find (is_record_named batch name.now) t.records))) }
+    ensures found { TellsRows (state S.Store conn.old) (state S.Store conn.new) result
+        (λ t found. PassesOnce (is_record_named batch name.now) t.records
+        → found ≡ option_map record_at (find (is_record_named batch name.now) t.records)) }
     ensures ranged { IfOk result (λ found. IfSome found IsRecordAt) }
-    ensures kept { HasCleanDisk (state S.Store conn.new)
-        → IsKept (state S.Store conn.old) (state S.Store conn.new) }
+    ensures looks { Looks (state S.Store conn.old) (state S.Store conn.new) }
     ensures idle { conn.new.in_transaction ≡ false }
-    ensures survives { Survives (state S.Store conn.old) (state S.Store conn.new) (λ _. ⊥) }
 {
     let rows = rows_of(
         conn,
@@ -106,8 +99,7 @@ pub fn record_named<S: Alter>(
     first_record(rows.as_slice())
 }
 
-/// The record at this place of the batch with this id. Nothing is changed, and a crash leaves what
-/// it could leave before.
+/// The record at this place of the batch with this id.
 pub fn record_at<S: Alter>(
     conn: &mut Connection<S>,
     batch: u64,
@@ -116,16 +108,12 @@ pub fn record_at<S: Alter>(
     requires idle { conn.old.in_transaction ≡ false }
     requires batch { batch < 2 ^ 63 }
     requires place { place < 2 ^ 63 }
-    ensures found { HasCleanDisk (state S.Store conn.new) → IfOk result
-        (λ found. IsTrue (state S.Store conn.old).is_open × ((t : Tables)
-        → IsImage t (state S.Store conn.old).now
-        → PassesOnce (is_record_at batch place) t.records
-        → found ≡ option_map record_at (find (is_record_at batch place) t.records))) }
+    ensures found { TellsRows (state S.Store conn.old) (state S.Store conn.new) result
+        (λ t found. PassesOnce (is_record_at batch place) t.records
+        → found ≡ option_map record_at (find (is_record_at batch place) t.records)) }
     ensures ranged { IfOk result (λ found. IfSome found IsRecordAt) }
-    ensures kept { HasCleanDisk (state S.Store conn.new)
-        → IsKept (state S.Store conn.old) (state S.Store conn.new) }
+    ensures looks { Looks (state S.Store conn.old) (state S.Store conn.new) }
     ensures idle { conn.new.in_transaction ≡ false }
-    ensures survives { Survives (state S.Store conn.old) (state S.Store conn.new) (λ _. ⊥) }
 {
     let rows = rows_of(
         conn,
@@ -147,20 +135,16 @@ fn all_records(alloc: Global, rows: &[Row]) -> Result<Vec<RecordAt>, Error>
     Ok(all)
 }
 
-/// The records of the batch with this id, by their places. Nothing is changed, and a crash leaves
-/// what it could leave before.
+/// The records of the batch with this id, by their places.
 pub fn records_of<S: Alter>(conn: &mut Connection<S>, batch: u64) -> Result<Vec<RecordAt>, Error>
     requires idle { conn.old.in_transaction ≡ false }
     requires batch { batch < 2 ^ 63 }
-    ensures found { HasCleanDisk (state S.Store conn.new) → IfOk result
-        (λ all. IsTrue (state S.Store conn.old).is_open × ((t : Tables)
-        → IsImage t (state S.Store conn.old).now
-        → AreSorted place_of (map record_at (filter (is_record_of batch) t.records)) all.items)) }
+    ensures found { TellsRows (state S.Store conn.old) (state S.Store conn.new) result
+        (λ t all.
+        AreSorted place_of (map record_at (filter (is_record_of batch) t.records)) all.items) }
     ensures ranged { IfOk result (λ all. All IsRecordAt all.items) }
-    ensures kept { HasCleanDisk (state S.Store conn.new)
-        → IsKept (state S.Store conn.old) (state S.Store conn.new) }
+    ensures looks { Looks (state S.Store conn.old) (state S.Store conn.new) }
     ensures idle { conn.new.in_transaction ≡ false }
-    ensures survives { Survives (state S.Store conn.old) (state S.Store conn.new) (λ _. ⊥) }
 {
     let rows = rows_of(
         conn,
@@ -171,23 +155,19 @@ pub fn records_of<S: Alter>(conn: &mut Connection<S>, batch: u64) -> Result<Vec<
     all_records(alloc, rows.as_slice())
 }
 
-/// Of the waiting records of the batch with this id the one with the least place. Nothing is
-/// changed, and a crash leaves what it could leave before.
+/// Of the waiting records of the batch with this id the one with the least place.
 pub fn first_waiting<S: Alter>(
     conn: &mut Connection<S>,
     batch: u64,
 ) -> Result<Option<RecordAt>, Error>
     requires idle { conn.old.in_transaction ≡ false }
     requires batch { batch < 2 ^ 63 }
-    ensures found { HasCleanDisk (state S.Store conn.new) → IfOk result
-        (λ found. IsTrue (state S.Store conn.old).is_open × ((t : Tables)
-        → IsImage t (state S.Store conn.old).now
-        → IsLeastBy place_of (map record_at (filter (is_waiting_of batch) t.records)) found)) }
+    ensures found { TellsRows (state S.Store conn.old) (state S.Store conn.new) result
+        (λ t found.
+        IsLeastBy place_of (map record_at (filter (is_waiting_of batch) t.records)) found) }
     ensures ranged { IfOk result (λ found. IfSome found IsRecordAt) }
-    ensures kept { HasCleanDisk (state S.Store conn.new)
-        → IsKept (state S.Store conn.old) (state S.Store conn.new) }
+    ensures looks { Looks (state S.Store conn.old) (state S.Store conn.new) }
     ensures idle { conn.new.in_transaction ≡ false }
-    ensures survives { Survives (state S.Store conn.old) (state S.Store conn.new) (λ _. ⊥) }
 {
     let rows = rows_of(
         conn,

@@ -1,13 +1,11 @@
 //! Kept replies are read.
-ghost use Rattle.std.specs.Prelude.{◌≡◌, ◌<◌, ◌^◌, false, map, option_map, IfOk, IsTrue};
+ghost use Rattle.std.specs.Prelude.{◌≡◌, ◌<◌, ◌^◌, false, map, option_map, IfOk};
 ghost use Rattle.sqlite.specs.Held.{state};
-ghost use Rattle.sqlite.specs.State.{HasCleanDisk, Survives};
 ghost use Rattle.job_core.specs.Contents.{entry_of, reply_of_entry};
 ghost use Rattle.row_reads.specs.Decoding.{IsFirst, reply_in};
-ghost use Rattle.sql_base.specs.Ends.{IsKept};
-ghost use Rattle.sql_rows.specs.Image.{IsImage};
+ghost use Rattle.row_reads.specs.Reads.{Looks, TellsRows};
 ghost use Rattle.table_rows.specs.Keys.{is_reply_to};
-ghost use Rattle.table_rows.specs.Tables.{PassesOnce, Tables};
+ghost use Rattle.table_rows.specs.Tables.{PassesOnce};
 
 use crate::values::{bytes_at, short_at};
 use job_core::KeptReply;
@@ -36,8 +34,7 @@ fn first_reply(rows: &[Row]) -> Result<Option<KeptReply>, Error>
     }
 }
 
-/// The reply that is kept under a client's number. Nothing is changed, and a crash leaves what it
-/// could leave before.
+/// The reply that is kept under a client's number.
 pub fn kept<S: Alter>(
     conn: &mut Connection<S>,
     client: &Name,
@@ -45,15 +42,11 @@ pub fn kept<S: Alter>(
 ) -> Result<Option<KeptReply>, Error>
     requires idle { conn.old.in_transaction ≡ false }
     requires number { number < 2 ^ 63 }
-    ensures found { HasCleanDisk (state S.Store conn.new) → IfOk result
-        (λ found. IsTrue (state S.Store conn.old).is_open × ((t : Tables)
-        → IsImage t (state S.Store conn.old).now
-        → PassesOnce (is_reply_to client.now number) t.replies
-        → found ≡ option_map reply_of_entry (entry_of t.replies client.now number))) }
-    ensures kept { HasCleanDisk (state S.Store conn.new)
-        → IsKept (state S.Store conn.old) (state S.Store conn.new) }
+    ensures found { TellsRows (state S.Store conn.old) (state S.Store conn.new) result
+        (λ t found. PassesOnce (is_reply_to client.now number) t.replies
+        → found ≡ option_map reply_of_entry (entry_of t.replies client.now number)) }
+    ensures looks { Looks (state S.Store conn.old) (state S.Store conn.new) }
     ensures idle { conn.new.in_transaction ≡ false }
-    ensures survives { Survives (state S.Store conn.old) (state S.Store conn.new) (λ _. ⊥) }
 {
     let rows = rows_of(
         conn,

@@ -1,18 +1,16 @@
 //! Sessions are read.
 ghost use Rattle.std.specs.Prelude.{◌≡◌, ◌<◌, ◌^◌, false, filter, find, option_map, All, IfOk};
-ghost use Rattle.std.specs.Prelude.{IfSome, IsPermutation, IsTrue, map};
+ghost use Rattle.std.specs.Prelude.{IfSome, IsPermutation, map};
 ghost use Rattle.sqlite.specs.Held.{state};
-ghost use Rattle.sqlite.specs.State.{HasCleanDisk, Survives};
 ghost use Rattle.store_data.specs.Cursor.{IsCursor};
 ghost use Rattle.row_reads.specs.CardDecoding.{IsGoodCard, IsSessionAt, cursor_in, good_at};
 ghost use Rattle.row_reads.specs.CardDecoding.{good_in, session_at, session_in};
 ghost use Rattle.row_reads.specs.Decoding.{IsFirst};
 ghost use Rattle.row_reads.specs.Extremes.{IsGreatest};
-ghost use Rattle.sql_base.specs.Ends.{IsKept};
+ghost use Rattle.row_reads.specs.Reads.{Looks, TellsRows};
 ghost use Rattle.sql_rows.specs.Decoding.{session_state_of_code};
-ghost use Rattle.sql_rows.specs.Image.{IsImage};
 ghost use Rattle.table_rows.specs.Keys.{is_good_of, is_running_on, is_session};
-ghost use Rattle.table_rows.specs.Tables.{PassesOnce, StoredSession, Tables};
+ghost use Rattle.table_rows.specs.Tables.{PassesOnce, StoredSession};
 
 use crate::values::{first_id, first_number, name_at, number_at};
 use job_core::SessionState;
@@ -123,20 +121,16 @@ fn first_session(rows: &[Row]) -> Result<Option<SessionAt>, Error>
     }
 }
 
-/// The session with this id. Nothing is changed, and a crash leaves what it could leave before.
+/// The session with this id.
 pub fn session<S: Alter>(conn: &mut Connection<S>, id: u64) -> Result<Option<SessionAt>, Error>
     requires idle { conn.old.in_transaction ≡ false }
     requires id { id < 2 ^ 63 }
-    ensures found { HasCleanDisk (state S.Store conn.new) → IfOk result
-        (λ found. IsTrue (state S.Store conn.old).is_open × ((t : Tables)
-        → IsImage t (state S.Store conn.old).now
-        → PassesOnce (is_session id) t.sessions
-        → found ≡ option_map session_at (find (is_session id) t.sessions))) }
+    ensures found { TellsRows (state S.Store conn.old) (state S.Store conn.new) result
+        (λ t found. PassesOnce (is_session id) t.sessions
+        → found ≡ option_map session_at (find (is_session id) t.sessions)) }
     ensures ranged { IfOk result (λ found. IfSome found IsSessionAt) }
-    ensures kept { HasCleanDisk (state S.Store conn.new)
-        → IsKept (state S.Store conn.old) (state S.Store conn.new) }
+    ensures looks { Looks (state S.Store conn.old) (state S.Store conn.new) }
     ensures idle { conn.new.in_transaction ≡ false }
-    ensures survives { Survives (state S.Store conn.old) (state S.Store conn.new) (λ _. ⊥) }
 {
     let rows = rows_of(
         conn,
@@ -147,24 +141,19 @@ pub fn session<S: Alter>(conn: &mut Connection<S>, id: u64) -> Result<Option<Ses
     first_session(rows.as_slice())
 }
 
-/// The id of the session that runs at a machine. Nothing is changed, and a crash leaves what it
-/// could leave before.
+/// The id of the session that runs at a machine.
 pub fn running_session<S: Alter>(
     conn: &mut Connection<S>,
     machine: &Name,
 ) -> Result<Option<u64>, Error>
     requires { conn.old.in_transaction ≡ false }
-    ensures found { HasCleanDisk (state S.Store conn.new) → IfOk result
-        (λ found. IsTrue (state S.Store conn.old).is_open × ((t : Tables)
-        → IsImage t (state S.Store conn.old).now
-        → PassesOnce (is_running_on machine.now) t.sessions
+    ensures found { TellsRows (state S.Store conn.old) (state S.Store conn.new) result
+        (λ t found. PassesOnce (is_running_on machine.now) t.sessions
         → found ≡ option_map (λ (s : StoredSession). s.id)
-        (find (is_running_on machine.now) t.sessions))) }
+        (find (is_running_on machine.now) t.sessions)) }
     ensures ranged { IfOk result (λ found. IfSome found (λ id. id < 2 ^ 63)) }
-    ensures kept { HasCleanDisk (state S.Store conn.new)
-        → IsKept (state S.Store conn.old) (state S.Store conn.new) }
+    ensures looks { Looks (state S.Store conn.old) (state S.Store conn.new) }
     ensures idle { conn.new.in_transaction ≡ false }
-    ensures survives { Survives (state S.Store conn.old) (state S.Store conn.new) (λ _. ⊥) }
 {
     let rows = rows_of(
         conn,
@@ -174,19 +163,14 @@ pub fn running_session<S: Alter>(
     first_id(rows.as_slice())
 }
 
-/// The greatest id of a session; 0 where there is no session. Nothing is changed, and a crash
-/// leaves what it could leave before.
+/// The greatest id of a session; 0 where there is no session.
 pub fn last_session<S: Alter>(conn: &mut Connection<S>) -> Result<u64, Error>
     requires { conn.old.in_transaction ≡ false }
-    ensures found { HasCleanDisk (state S.Store conn.new) → IfOk result
-        (λ id. IsTrue (state S.Store conn.old).is_open × ((t : Tables)
-        → IsImage t (state S.Store conn.old).now
-        → IsGreatest (map (λ (s : StoredSession). s.id) t.sessions) id)) }
+    ensures found { TellsRows (state S.Store conn.old) (state S.Store conn.new) result
+        (λ t id. IsGreatest (map (λ (s : StoredSession). s.id) t.sessions) id) }
     ensures ranged { IfOk result (λ id. id < 2 ^ 63) }
-    ensures kept { HasCleanDisk (state S.Store conn.new)
-        → IsKept (state S.Store conn.old) (state S.Store conn.new) }
+    ensures looks { Looks (state S.Store conn.old) (state S.Store conn.new) }
     ensures idle { conn.new.in_transaction ≡ false }
-    ensures survives { Survives (state S.Store conn.old) (state S.Store conn.new) (λ _. ⊥) }
 {
     let rows = rows_of(conn, "SELECT id FROM session ORDER BY id DESC LIMIT 1", &[])?;
     first_number(rows.as_slice())
@@ -214,20 +198,15 @@ fn all_good(alloc: Global, rows: &[Row]) -> Result<Vec<GoodCard>, Error>
     Ok(all)
 }
 
-/// The good cards of the batch with this id, in any order. Nothing is changed, and a crash leaves
-/// what it could leave before.
+/// The good cards of the batch with this id, in any order.
 pub fn good_sessions<S: Alter>(conn: &mut Connection<S>, batch: u64) -> Result<Vec<GoodCard>, Error>
     requires idle { conn.old.in_transaction ≡ false }
     requires batch { batch < 2 ^ 63 }
-    ensures found { HasCleanDisk (state S.Store conn.new) → IfOk result
-        (λ all. IsTrue (state S.Store conn.old).is_open × ((t : Tables)
-        → IsImage t (state S.Store conn.old).now
-        → IsPermutation (map good_at (filter (is_good_of batch) t.sessions)) all.items)) }
+    ensures found { TellsRows (state S.Store conn.old) (state S.Store conn.new) result
+        (λ t all. IsPermutation (map good_at (filter (is_good_of batch) t.sessions)) all.items) }
     ensures ranged { IfOk result (λ all. All IsGoodCard all.items) }
-    ensures kept { HasCleanDisk (state S.Store conn.new)
-        → IsKept (state S.Store conn.old) (state S.Store conn.new) }
+    ensures looks { Looks (state S.Store conn.old) (state S.Store conn.new) }
     ensures idle { conn.new.in_transaction ≡ false }
-    ensures survives { Survives (state S.Store conn.old) (state S.Store conn.new) (λ _. ⊥) }
 {
     let rows = rows_of(
         conn,

@@ -1,7 +1,8 @@
 pub mod Meanings
+pub mod ChangeMeanings
+pub mod Adding
 pub mod Putting
 pub mod PuttingBatches
 pub mod PuttingCards
 pub mod Setting
 pub mod Removing
-pub mod ChangeMeanings

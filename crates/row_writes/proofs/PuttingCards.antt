@@ -1,22 +1,20 @@
 -- What each INSERT of a session or a blank does to the rows.
-use Rattle.std.proofs.Common.{◌≡◌, ℕ, List, [], ◌∷◌, drop, map, pos, take, Ok, refl}
+use Rattle.std.proofs.Common.{◌≡◌, ℕ, List, [], ◌∷◌, drop, map, pos, Ok, refl}
 use Rattle.sqlite.specs.declared.types.Value.TheVariants.{Text}
 use Rattle.sqlite.specs.Cast.{cast_row}
 use Rattle.sqlite.specs.Order.{Row}
 use Rattle.sqlite.specs.State.{Executes, State}
-use Rattle.sql_base.specs.Effects.{Inserted}
-use Rattle.sql_base.proofs.Inserting.{inserted}
 use Rattle.sql_base.proofs.Values.{cast_int, cast_null}
-use Rattle.sql_tables.specs.Tables.{blank_table, our_schema, session_table}
+use Rattle.sql_tables.specs.Tables.{blank_table, session_table}
 use Rattle.table_rows.specs.declared.before.RecordPlace.{RecordPlace}
 use Rattle.table_rows.specs.After.{new_session}
 use Rattle.table_rows.specs.Tables.{StoredBlank, with_blank, with_session}
 use Rattle.sql_rows.specs.Encoding.{blank_row, flag, number, session_row}
-use Rattle.sql_rows.specs.Image.{Moves, by_rowid, filled}
-use Rattle.sql_rows.proofs.Filling.{refilled, row_put_under}
-use Rattle.sql_tables.proofs.Version.{none_acts}
+use Rattle.sql_rows.specs.Image.{Moves, by_rowid}
+use Rattle.sql_rows.proofs.Filling.{row_put_under}
 use Rattle.row_writes.specs.Texts.{add_blank_terms, add_blank_text, add_session_terms, add_session_text}
-use Rattle.row_writes.proofs.Meanings.{add_blank_is, add_blank_plain, add_session_is, add_session_plain}
+use Rattle.row_writes.proofs.Adding.{added}
+use Rattle.row_writes.proofs.Meanings.{add_blank_means, add_session_means}
 
 module _ (id : ℕ) (p : RecordPlace) (machine : List ℕ) (blank : ℕ) where
   abbrev pub session_values : Row
@@ -28,18 +26,11 @@ module _ (id : ℕ) (p : RecordPlace) (machine : List ℕ) (blank : ℕ) where
   session_cast : cast_row session_table put ≡ put
   session_cast = rw (cast_null, cast_int (pos id), cast_int (pos p.batch), cast_int (pos p.place), cast_int (pos blank), cast_int (pos 0)) refl
 
-  session_inserted : (old new : State) (count : ℕ) → old.now.schema ≡ our_schema → Executes add_session_text session_values old new (Ok count)
-      → Inserted our_schema session_table put old new
-  session_inserted old new count ours =
-      inserted add_session_text session_values old new our_schema ours 6 session_table add_session_terms 13 add_session_is add_session_plain refl refl refl
-      put put refl session_cast (none_acts 12) count
-
   pub session_added : (old new : State) (count : ℕ) → Executes add_session_text session_values old new (Ok count) → Moves (with_session (new_session id p machine blank)) old.now new.now
   session_added old new count ran t image =
-      let it = session_inserted old new count image.ours ran in
       let rows = map session_row t.sessions in
-      refilled (take 6 (filled t)) (drop 7 (filled t)) session_table refl refl t (with_session (new_session id p machine blank) t) old new
-      (by_rowid session_table rows) (by_rowid session_table (put ∷ rows)) refl refl refl refl it.kept it.others (row_put_under session_table id (drop 1 put) rows old new it) image
+      added add_session_text session_values 6 session_table add_session_terms 13 add_session_means refl refl refl put refl session_cast old new count ran t (with_session (new_session id p machine blank) t)
+      (by_rowid session_table rows) (by_rowid session_table (put ∷ rows)) refl refl refl refl refl refl (row_put_under session_table id (drop 1 put) rows old new) image
 
 abbrev pub blank_values : StoredBlank → Row
 blank_values b = number b.serial ∷ Text b.lot ∷ number (flag b.discarded) ∷ []
@@ -47,15 +38,8 @@ blank_values b = number b.serial ∷ Text b.lot ∷ number (flag b.discarded) �
 blank_cast : (b : StoredBlank) → cast_row blank_table (blank_row b) ≡ blank_row b
 blank_cast b = rw (cast_null, cast_int (pos b.serial), cast_int (pos (flag b.discarded))) refl
 
-blank_inserted : (old new : State) (b : StoredBlank) (count : ℕ) → old.now.schema ≡ our_schema → Executes add_blank_text (blank_values b) old new (Ok count)
-    → Inserted our_schema blank_table (blank_row b) old new
-blank_inserted old new b count ours =
-    inserted add_blank_text (blank_values b) old new our_schema ours 8 blank_table add_blank_terms 4 add_blank_is add_blank_plain refl refl refl
-    (blank_row b) (blank_row b) refl (blank_cast b) (none_acts 16) count
-
 pub blank_added : (old new : State) (b : StoredBlank) (count : ℕ) → Executes add_blank_text (blank_values b) old new (Ok count) → Moves (with_blank b) old.now new.now
 blank_added old new b count ran t image =
-    let it = blank_inserted old new b count image.ours ran in
     let rows = map blank_row t.blanks in
-    refilled (take 8 (filled t)) (drop 9 (filled t)) blank_table refl refl t (with_blank b t) old new
-    (by_rowid blank_table rows) (by_rowid blank_table (blank_row b ∷ rows)) refl refl refl refl it.kept it.others (row_put_under blank_table b.serial (drop 1 (blank_row b)) rows old new it) image
+    added add_blank_text (blank_values b) 8 blank_table add_blank_terms 4 add_blank_means refl refl refl (blank_row b) refl (blank_cast b) old new count ran t (with_blank b t)
+    (by_rowid blank_table rows) (by_rowid blank_table (blank_row b ∷ rows)) refl refl refl refl refl refl (row_put_under blank_table b.serial (drop 1 (blank_row b)) rows old new) image

@@ -24,8 +24,8 @@ use Rattle.sql_rows.proofs.Changing.{rows_set, unnumbered_set}
 use Rattle.sql_rows.proofs.Filling.{refilled}
 use Rattle.row_writes.specs.Texts.{by_id, set_session_columns, set_session_text}
 use Rattle.row_writes.specs.Changes.{by_first_column, by_place, by_second_column, set_closed_columns, set_closed_text, set_end_columns, set_end_text, set_lot_columns, set_lot_text, set_record_columns, set_record_text, set_totals_columns, set_totals_text}
-use Rattle.row_writes.proofs.ChangeMeanings.{set_closed_is, set_closed_plain, set_end_is, set_end_plain, set_lot_is, set_lot_plain, set_record_is, set_record_plain, set_totals_is, set_totals_plain}
-use Rattle.row_writes.proofs.Meanings.{set_session_is, set_session_plain}
+use Rattle.row_writes.proofs.ChangeMeanings.{set_closed_means, set_end_means, set_lot_means, set_record_means, set_totals_means}
+use Rattle.row_writes.proofs.Meanings.{set_session_means}
 
 -- an integer under which a row is put back is the rowid that it had
 kept_id : (v : Value) (n : ℤ) → v ≡ Int n → cast Integer v ≡ Int n
@@ -55,7 +55,7 @@ module _ (id : ℕ) (state : SessionState) (words : ℕ) (cursor : Cursor) where
 
   pub session_changed : (old new : State) (count : ℕ) → Executes set_session_text set_session_values old new (Ok count) → Moves (with_session_set id state words cursor) old.now new.now
   session_changed old new count ran t image =
-      let it = updated set_session_text set_session_values old new our_schema image.ours 6 session_table by_id set_session_columns set_session_is set_session_plain refl (none_acts 12) count ran in
+      let it = updated set_session_text set_session_values old new our_schema image.ours 6 session_table by_id set_session_columns set_session_means.0 set_session_means.1 refl (none_acts 12) count ran in
       let change = λ (s : StoredSession). let s2 : StoredSession = record s { state = state; words = words; cursor = cursor } in s2 in
       let moves = rows_set session_table session_row (passes by_id set_session_values) (shown set_session_columns set_session_values) (λ s. s.id == id) (λ r n is. is)
       change (λ r. kept_id _) t.sessions old new it (λ s. one_test (same_int s.id id)) session_put in
@@ -71,7 +71,7 @@ module _ (name : List ℕ) (discarded : ℕ) where
 
   pub lot_changed : (old new : State) (count : ℕ) → Executes set_lot_text set_lot_values old new (Ok count) → Moves (with_lot_set name discarded) old.now new.now
   lot_changed old new count ran t image =
-      let it = updated set_lot_text set_lot_values old new our_schema image.ours 2 lot_table by_first_column set_lot_columns set_lot_is set_lot_plain refl (none_acts 3) count ran in
+      let it = updated set_lot_text set_lot_values old new our_schema image.ours 2 lot_table by_first_column set_lot_columns set_lot_means.0 set_lot_means.1 refl (none_acts 3) count ran in
       let change = λ (l : StoredLot). let l2 : StoredLot = record l { discarded = discarded } in l2 in
       let moves = unnumbered_set lot_table lot_row (passes by_first_column set_lot_values) (shown set_lot_columns set_lot_values) (λ l. bytes_eq l.lot.name name) (λ r n is. is)
       change (λ r. kept_id _) t.lots old new it (λ l. one_test (same_text l.lot.name name)) lot_put (λ v r. refl) (λ v r. refl) in
@@ -111,7 +111,7 @@ module _ (id : ℕ) (totals : BatchTotals) where
 
   pub totals_changed : (old new : State) (count : ℕ) → Executes set_totals_text set_totals_values old new (Ok count) → Moves (with_totals_set id totals) old.now new.now
   totals_changed old new count ran t image =
-      let it = updated set_totals_text set_totals_values old new our_schema image.ours 3 batch_table by_id set_totals_columns set_totals_is set_totals_plain refl (none_acts 5) count ran in
+      let it = updated set_totals_text set_totals_values old new our_schema image.ours 3 batch_table by_id set_totals_columns set_totals_means.0 set_totals_means.1 refl (none_acts 5) count ran in
       let moves = rows_set batch_table batch_row (passes by_id set_totals_values) (shown set_totals_columns set_totals_values) (λ b. b.id == id) (λ r n is. is)
       with_counters (λ r. kept_id _) t.batches old new it (λ b. one_test (same_int b.id id)) totals_put in
       refilled (take 3 (filled t)) (drop 4 (filled t)) batch_table refl refl t (with_totals_set id totals t) old new
@@ -138,7 +138,7 @@ module _ (name : List ℕ) where
 
   pub closed_changed : (old new : State) (count : ℕ) → Executes set_closed_text set_closed_values old new (Ok count) → Moves (with_closed_set name) old.now new.now
   closed_changed old new count ran t image =
-      let it = updated set_closed_text set_closed_values old new our_schema image.ours 3 batch_table by_second_column set_closed_columns set_closed_is set_closed_plain refl (none_acts 5) count ran in
+      let it = updated set_closed_text set_closed_values old new our_schema image.ours 3 batch_table by_second_column set_closed_columns set_closed_means.0 set_closed_means.1 refl (none_acts 5) count ran in
       let change = λ (b : StoredBatch). let b2 : StoredBatch = record b { closed = true } in b2 in
       let moves = rows_set batch_table batch_row (passes by_second_column set_closed_values) (shown set_closed_columns set_closed_values) (λ b. bytes_eq b.name name) (λ r n is. is)
       change (λ r. kept_id _) t.batches old new it (λ b. one_test (same_text b.name name)) closed_put in
@@ -155,7 +155,7 @@ module _ (batch place : ℕ) (state : RecordState) (spoiled remakes : ℕ) where
 
   pub record_changed : (old new : State) (count : ℕ) → Executes set_record_text set_record_values old new (Ok count) → Moves (with_record_set batch place state spoiled remakes) old.now new.now
   record_changed old new count ran t image =
-      let it = updated set_record_text set_record_values old new our_schema image.ours 4 record_table by_place set_record_columns set_record_is set_record_plain refl (none_acts 7) count ran in
+      let it = updated set_record_text set_record_values old new our_schema image.ours 4 record_table by_place set_record_columns set_record_means.0 set_record_means.1 refl (none_acts 7) count ran in
       let change = λ (r : StoredRecord). let r2 : StoredRecord = record r { state = state; spoiled = spoiled; remakes = remakes } in r2 in
       let moves = unnumbered_set record_table record_row (passes by_place set_record_values) (shown set_record_columns set_record_values) (λ r. (r.batch == batch) && (r.place == place)) (λ r n is. is)
       change (λ r. kept_id _) t.records old new it (λ r. two_tests (same_int r.batch batch) (same_int r.place place)) record_put (λ v r. refl) (λ v r. refl) in
@@ -186,7 +186,7 @@ module _ (id : ℕ) where
 
   pub end_changed : (old new : State) (count : ℕ) → Executes set_end_text set_end_values old new (Ok count) → Moves (with_end_set id) old.now new.now
   end_changed old new count ran t image =
-      let it = updated set_end_text set_end_values old new our_schema image.ours 6 session_table by_id set_end_columns set_end_is set_end_plain refl (none_acts 12) count ran in
+      let it = updated set_end_text set_end_values old new our_schema image.ours 6 session_table by_id set_end_columns set_end_means.0 set_end_means.1 refl (none_acts 12) count ran in
       let change = λ (s : StoredSession). let s2 : StoredSession = record s { state = session.Spoiled; ended = true } in s2 in
       let moves = rows_set session_table session_row (passes by_id set_end_values) (shown set_end_columns set_end_values) (λ s. s.id == id) (λ r n is. is)
       change (λ r. kept_id _) t.sessions old new it (λ s. one_test (same_int s.id id)) end_put in

@@ -2,10 +2,9 @@
 //! nothing of it.
 ghost use Rattle.std.specs.Prelude.{◌≡◌, ◌<◌, ◌^◌};
 ghost use Rattle.sqlite.specs.Held.{state};
-ghost use Rattle.sqlite.specs.State.{HasCleanDisk, Survives};
-ghost use Rattle.sql_base.specs.Ends.{Wrote};
+ghost use Rattle.sqlite.specs.State.{Survives};
 ghost use Rattle.sql_rows.specs.Encoding.{enc_code};
-ghost use Rattle.sql_rows.specs.Image.{Moves};
+ghost use Rattle.sql_rows.specs.Writes.{WritesRows};
 ghost use Rattle.table_rows.specs.After.{new_batch, new_record};
 ghost use Rattle.table_rows.specs.Tables.{StoredGrouping, with_batch, with_grouping, with_record};
 
@@ -36,8 +35,7 @@ pub fn add_batch<'x, S: Alter>(
 ) -> Result<usize, Error>
     requires { id < 2 ^ 63 }
     ensures same_reference { tx.new.conn.ghost_name ≡ tx.old.conn.ghost_name }
-    ensures wrote { HasCleanDisk (state S.Store tx.new.conn.now)
-        → Wrote (Moves (with_batch (new_batch id name.now product.now raw.now records)))
+    ensures wrote { WritesRows (with_batch (new_batch id name.now product.now raw.now records))
         (state S.Store tx.old.conn.now) (state S.Store tx.new.conn.now) result }
     ensures survives { Survives (state S.Store tx.old.conn.now) (state S.Store tx.new.conn.now)
         (λ _. ⊥) }
@@ -64,8 +62,7 @@ pub fn add_record<S: Alter>(
 ) -> Result<usize, Error>
     requires { batch < 2 ^ 63 }
     ensures same_reference { tx.new.conn.ghost_name ≡ tx.old.conn.ghost_name }
-    ensures wrote { HasCleanDisk (state S.Store tx.new.conn.now)
-        → Wrote (Moves (with_record (new_record batch (place, name.now))))
+    ensures wrote { WritesRows (with_record (new_record batch (place, name.now)))
         (state S.Store tx.old.conn.now) (state S.Store tx.new.conn.now) result }
     ensures survives { Survives (state S.Store tx.old.conn.now) (state S.Store tx.new.conn.now)
         (λ _. ⊥) }
@@ -101,8 +98,7 @@ pub fn add_grouping<S: Alter>(
       tol = row.now.tol;
       coded = row.now.coded;
     } in
-        HasCleanDisk (state S.Store tx.new.conn.now)
-        → Wrote (Moves (with_grouping grouping)) (state S.Store tx.old.conn.now)
+        WritesRows (with_grouping grouping) (state S.Store tx.old.conn.now)
         (state S.Store tx.new.conn.now) result }
     ensures survives { Survives (state S.Store tx.old.conn.now) (state S.Store tx.new.conn.now)
         (λ _. ⊥) }

@@ -1,10 +1,10 @@
-//! Sessions, their words and their blanks, in an open transaction. A crash before its end leaves nothing of it.
+//! Sessions, their words and their blanks, in an open transaction. A crash before its end leaves
+//! nothing of it.
 ghost use Rattle.std.specs.Prelude.{◌≡◌, ◌<◌, ◌^◌};
 ghost use Rattle.sqlite.specs.Held.{state};
-ghost use Rattle.sqlite.specs.State.{HasCleanDisk, Survives};
-ghost use Rattle.sql_base.specs.Ends.{Wrote};
+ghost use Rattle.sqlite.specs.State.{Survives};
 ghost use Rattle.sql_rows.specs.Encoding.{session_code};
-ghost use Rattle.sql_rows.specs.Image.{Moves};
+ghost use Rattle.sql_rows.specs.Writes.{WritesRows};
 ghost use Rattle.table_rows.specs.After.{new_session};
 ghost use Rattle.table_rows.specs.Tables.{StoredBlank, StoredWord, with_blank, with_session};
 ghost use Rattle.table_rows.specs.Tables.{with_session_set, with_word};
@@ -41,8 +41,7 @@ pub fn add_word<S: Alter>(
       place = place;
       sw = sw;
     } in
-        HasCleanDisk (state S.Store tx.new.conn.now)
-        → Wrote (Moves (with_word word)) (state S.Store tx.old.conn.now)
+        WritesRows (with_word word) (state S.Store tx.old.conn.now)
         (state S.Store tx.new.conn.now) result }
     ensures survives { Survives (state S.Store tx.old.conn.now) (state S.Store tx.new.conn.now)
         (λ _. ⊥) }
@@ -64,8 +63,7 @@ pub fn set_session<S: Alter>(
     requires session { session < 2 ^ 63 }
     requires words { words < 2 ^ 63 }
     ensures same_reference { tx.new.conn.ghost_name ≡ tx.old.conn.ghost_name }
-    ensures wrote { HasCleanDisk (state S.Store tx.new.conn.now)
-        → Wrote (Moves (with_session_set session stands words cursor.now))
+    ensures wrote { WritesRows (with_session_set session stands words cursor.now)
         (state S.Store tx.old.conn.now) (state S.Store tx.new.conn.now) result }
     ensures survives { Survives (state S.Store tx.old.conn.now) (state S.Store tx.new.conn.now)
         (λ _. ⊥) }
@@ -98,15 +96,14 @@ pub fn add_session<S: Alter>(
     requires place { place.now.place < 2 ^ 63 }
     requires blank { blank < 2 ^ 63 }
     ensures same_reference { tx.new.conn.ghost_name ≡ tx.old.conn.ghost_name }
-    ensures wrote { HasCleanDisk (state S.Store tx.new.conn.now)
-        → Wrote (Moves (with_session (new_session id place.now machine.now blank)))
+    ensures wrote { WritesRows (with_session (new_session id place.now machine.now blank))
         (state S.Store tx.old.conn.now) (state S.Store tx.new.conn.now) result }
     ensures survives { Survives (state S.Store tx.old.conn.now) (state S.Store tx.new.conn.now)
         (λ _. ⊥) }
 {
     tx.execute(
-        "INSERT INTO session (id, machine, batch, place, serial, state, ended, words, app, segment, \
-        at_offset, block) VALUES (?1, ?2, ?3, ?4, ?5, 0, 0, 0, 0, 0, 0, 0)",
+        "INSERT INTO session (id, machine, batch, place, serial, state, ended, words, app, \
+        segment, at_offset, block) VALUES (?1, ?2, ?3, ?4, ?5, 0, 0, 0, 0, 0, 0, 0)",
         &[
             int(id),
             ValueRef::Text(machine.bytes()),
@@ -131,8 +128,7 @@ pub fn add_blank<S: Alter>(
       lot = lot.now;
       discarded = discarded;
     } in
-        HasCleanDisk (state S.Store tx.new.conn.now)
-        → Wrote (Moves (with_blank blank)) (state S.Store tx.old.conn.now)
+        WritesRows (with_blank blank) (state S.Store tx.old.conn.now)
         (state S.Store tx.new.conn.now) result }
     ensures survives { Survives (state S.Store tx.old.conn.now) (state S.Store tx.new.conn.now)
         (λ _. ⊥) }

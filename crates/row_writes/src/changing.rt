@@ -1,10 +1,9 @@
 //! Rows that change, in an open transaction. A crash before its end leaves nothing of it.
 ghost use Rattle.std.specs.Prelude.{◌≡◌, ◌<◌, ◌^◌};
 ghost use Rattle.sqlite.specs.Held.{state};
-ghost use Rattle.sqlite.specs.State.{HasCleanDisk, Survives};
-ghost use Rattle.sql_base.specs.Ends.{Wrote};
+ghost use Rattle.sqlite.specs.State.{Survives};
 ghost use Rattle.sql_rows.specs.Encoding.{record_code};
-ghost use Rattle.sql_rows.specs.Image.{Moves};
+ghost use Rattle.sql_rows.specs.Writes.{WritesRows};
 ghost use Rattle.table_rows.specs.Tables.{with_closed_set, with_end_set, with_lot_set};
 ghost use Rattle.table_rows.specs.Tables.{with_record_set, with_totals_set};
 
@@ -35,8 +34,7 @@ pub fn set_lot<S: Alter>(
 ) -> Result<usize, Error>
     requires { discarded < 2 ^ 63 }
     ensures same_reference { tx.new.conn.ghost_name ≡ tx.old.conn.ghost_name }
-    ensures wrote { HasCleanDisk (state S.Store tx.new.conn.now)
-        → Wrote (Moves (with_lot_set name.now discarded)) (state S.Store tx.old.conn.now)
+    ensures wrote { WritesRows (with_lot_set name.now discarded) (state S.Store tx.old.conn.now)
         (state S.Store tx.new.conn.now) result }
     ensures survives { Survives (state S.Store tx.old.conn.now) (state S.Store tx.new.conn.now)
         (λ _. ⊥) }
@@ -62,8 +60,7 @@ pub fn set_totals<S: Alter>(
     requires sessions { totals.now.sessions < 2 ^ 63 }
     requires spoiled { totals.now.spoiled < 2 ^ 63 }
     ensures same_reference { tx.new.conn.ghost_name ≡ tx.old.conn.ghost_name }
-    ensures wrote { HasCleanDisk (state S.Store tx.new.conn.now)
-        → Wrote (Moves (with_totals_set batch totals.now)) (state S.Store tx.old.conn.now)
+    ensures wrote { WritesRows (with_totals_set batch totals.now) (state S.Store tx.old.conn.now)
         (state S.Store tx.new.conn.now) result }
     ensures survives { Survives (state S.Store tx.old.conn.now) (state S.Store tx.new.conn.now)
         (λ _. ⊥) }
@@ -87,8 +84,7 @@ pub fn set_totals<S: Alter>(
 /// Closes a batch.
 pub fn set_closed<S: Alter>(tx: &mut Transaction<'_, S>, name: &Name) -> Result<usize, Error>
     ensures same_reference { tx.new.conn.ghost_name ≡ tx.old.conn.ghost_name }
-    ensures wrote { HasCleanDisk (state S.Store tx.new.conn.now)
-        → Wrote (Moves (with_closed_set name.now)) (state S.Store tx.old.conn.now)
+    ensures wrote { WritesRows (with_closed_set name.now) (state S.Store tx.old.conn.now)
         (state S.Store tx.new.conn.now) result }
     ensures survives { Survives (state S.Store tx.old.conn.now) (state S.Store tx.new.conn.now)
         (λ _. ⊥) }
@@ -114,8 +110,7 @@ pub fn set_record<S: Alter>(
     requires spoiled { spoiled < 2 ^ 63 }
     requires remakes { remakes < 2 ^ 63 }
     ensures same_reference { tx.new.conn.ghost_name ≡ tx.old.conn.ghost_name }
-    ensures wrote { HasCleanDisk (state S.Store tx.new.conn.now)
-        → Wrote (Moves (with_record_set batch place stands spoiled remakes))
+    ensures wrote { WritesRows (with_record_set batch place stands spoiled remakes)
         (state S.Store tx.old.conn.now) (state S.Store tx.new.conn.now) result }
     ensures survives { Survives (state S.Store tx.old.conn.now) (state S.Store tx.new.conn.now)
         (λ _. ⊥) }
@@ -136,8 +131,7 @@ pub fn set_record<S: Alter>(
 pub fn set_end<S: Alter>(tx: &mut Transaction<'_, S>, session: u64) -> Result<usize, Error>
     requires { session < 2 ^ 63 }
     ensures same_reference { tx.new.conn.ghost_name ≡ tx.old.conn.ghost_name }
-    ensures wrote { HasCleanDisk (state S.Store tx.new.conn.now)
-        → Wrote (Moves (with_end_set session)) (state S.Store tx.old.conn.now)
+    ensures wrote { WritesRows (with_end_set session) (state S.Store tx.old.conn.now)
         (state S.Store tx.new.conn.now) result }
     ensures survives { Survives (state S.Store tx.old.conn.now) (state S.Store tx.new.conn.now)
         (λ _. ⊥) }

@@ -1,11 +1,11 @@
 //! One row more, in an open transaction. A crash before its end leaves nothing of it.
 ghost use Rattle.std.specs.Prelude.{◌≡◌, ◌<◌, ◌^◌};
 ghost use Rattle.sqlite.specs.Held.{state};
-ghost use Rattle.sqlite.specs.State.{HasCleanDisk, Survives};
-ghost use Rattle.job_core.specs.Contents.{Entry, Mark};
-ghost use Rattle.sql_base.specs.Ends.{Wrote};
-ghost use Rattle.sql_rows.specs.Image.{Moves};
+ghost use Rattle.sqlite.specs.State.{Survives};
+ghost use Rattle.job_core.specs.Contents.{Mark};
+ghost use Rattle.sql_rows.specs.Writes.{WritesRows};
 ghost use Rattle.table_rows.specs.After.{new_lot};
+ghost use Rattle.table_rows.specs.Kept.{kept_reply};
 ghost use Rattle.table_rows.specs.Tables.{StoredRemake, with_lot, with_mark, with_product};
 ghost use Rattle.table_rows.specs.Tables.{with_remake, with_reply};
 
@@ -18,8 +18,7 @@ use store_data::{Name, Product};
 /// Adds a product.
 pub fn add_product<S: Alter>(tx: &mut Transaction<'_, S>, product: &Product) -> Result<usize, Error>
     ensures same_reference { tx.new.conn.ghost_name ≡ tx.old.conn.ghost_name }
-    ensures wrote { HasCleanDisk (state S.Store tx.new.conn.now)
-        → Wrote (Moves (with_product product.now)) (state S.Store tx.old.conn.now)
+    ensures wrote { WritesRows (with_product product.now) (state S.Store tx.old.conn.now)
         (state S.Store tx.new.conn.now) result }
     ensures survives { Survives (state S.Store tx.old.conn.now) (state S.Store tx.new.conn.now)
         (λ _. ⊥) }
@@ -39,8 +38,7 @@ pub fn add_product<S: Alter>(tx: &mut Transaction<'_, S>, product: &Product) -> 
 pub fn add_lot<S: Alter>(tx: &mut Transaction<'_, S>, lot: &Lot) -> Result<usize, Error>
     requires { lot.now.first < 2 ^ 63 }
     ensures same_reference { tx.new.conn.ghost_name ≡ tx.old.conn.ghost_name }
-    ensures wrote { HasCleanDisk (state S.Store tx.new.conn.now)
-        → Wrote (Moves (with_lot (new_lot lot.now))) (state S.Store tx.old.conn.now)
+    ensures wrote { WritesRows (with_lot (new_lot lot.now)) (state S.Store tx.old.conn.now)
         (state S.Store tx.new.conn.now) result }
     ensures survives { Survives (state S.Store tx.old.conn.now) (state S.Store tx.new.conn.now)
         (λ _. ⊥) }
@@ -73,8 +71,7 @@ pub fn add_remake<S: Alter>(
       place = place;
       turn = turn;
     } in
-        HasCleanDisk (state S.Store tx.new.conn.now)
-        → Wrote (Moves (with_remake row)) (state S.Store tx.old.conn.now)
+        WritesRows (with_remake row) (state S.Store tx.old.conn.now)
         (state S.Store tx.new.conn.now) result }
     ensures survives { Survives (state S.Store tx.old.conn.now) (state S.Store tx.new.conn.now)
         (λ _. ⊥) }
@@ -96,15 +93,8 @@ pub fn add_reply<'x, S: Alter>(
 ) -> Result<usize, Error>
     requires { number < 2 ^ 63 }
     ensures same_reference { tx.new.conn.ghost_name ≡ tx.old.conn.ghost_name }
-    ensures wrote { let entry : Entry = record {
-      client = client.now;
-      number = number;
-      ask = ask.now;
-      status = status;
-      body = body.now;
-    } in
-        HasCleanDisk (state S.Store tx.new.conn.now)
-        → Wrote (Moves (with_reply entry)) (state S.Store tx.old.conn.now)
+    ensures wrote { let entry = kept_reply client.now number ask.now status body.now in
+        WritesRows (with_reply entry) (state S.Store tx.old.conn.now)
         (state S.Store tx.new.conn.now) result }
     ensures survives { Survives (state S.Store tx.old.conn.now) (state S.Store tx.new.conn.now)
         (λ _. ⊥) }
@@ -130,8 +120,7 @@ pub fn add_mark<S: Alter>(
     requires { upto < 2 ^ 63 }
     ensures same_reference { tx.new.conn.ghost_name ≡ tx.old.conn.ghost_name }
     ensures wrote { let mark : Mark = record { client = client.now; upto = upto } in
-        HasCleanDisk (state S.Store tx.new.conn.now)
-        → Wrote (Moves (with_mark mark)) (state S.Store tx.old.conn.now)
+        WritesRows (with_mark mark) (state S.Store tx.old.conn.now)
         (state S.Store tx.new.conn.now) result }
     ensures survives { Survives (state S.Store tx.old.conn.now) (state S.Store tx.new.conn.now)
         (λ _. ⊥) }

@@ -1,9 +1,8 @@
 //! Rows that go, in an open transaction. A crash before its end leaves nothing of it.
 ghost use Rattle.std.specs.Prelude.{◌≡◌, ◌<◌, ◌^◌};
 ghost use Rattle.sqlite.specs.Held.{state};
-ghost use Rattle.sqlite.specs.State.{HasCleanDisk, Survives};
-ghost use Rattle.sql_base.specs.Ends.{Wrote};
-ghost use Rattle.sql_rows.specs.Image.{Moves};
+ghost use Rattle.sqlite.specs.State.{Survives};
+ghost use Rattle.sql_rows.specs.Writes.{WritesRows};
 ghost use Rattle.table_rows.specs.Tables.{without_mark, without_replies};
 
 use sql_base::int;
@@ -19,8 +18,7 @@ pub fn drop_replies<S: Alter>(
 ) -> Result<usize, Error>
     requires { upto < 2 ^ 63 }
     ensures same_reference { tx.new.conn.ghost_name ≡ tx.old.conn.ghost_name }
-    ensures wrote { HasCleanDisk (state S.Store tx.new.conn.now)
-        → Wrote (Moves (without_replies client.now upto)) (state S.Store tx.old.conn.now)
+    ensures wrote { WritesRows (without_replies client.now upto) (state S.Store tx.old.conn.now)
         (state S.Store tx.new.conn.now) result }
     ensures survives { Survives (state S.Store tx.old.conn.now) (state S.Store tx.new.conn.now)
         (λ _. ⊥) }
@@ -34,8 +32,7 @@ pub fn drop_replies<S: Alter>(
 /// Drops a client's mark.
 pub fn drop_mark<S: Alter>(tx: &mut Transaction<'_, S>, client: &Name) -> Result<usize, Error>
     ensures same_reference { tx.new.conn.ghost_name ≡ tx.old.conn.ghost_name }
-    ensures wrote { HasCleanDisk (state S.Store tx.new.conn.now)
-        → Wrote (Moves (without_mark client.now)) (state S.Store tx.old.conn.now)
+    ensures wrote { WritesRows (without_mark client.now) (state S.Store tx.old.conn.now)
         (state S.Store tx.new.conn.now) result }
     ensures survives { Survives (state S.Store tx.old.conn.now) (state S.Store tx.new.conn.now)
         (λ _. ⊥) }

@@ -1,5 +1,5 @@
 -- The lines of a batch's records, by the rows of its records and its good sessions.
-use Rattle.std.proofs.Common.{◌≡◌, ℕ, ◌+◌, ◌<◌, ◌==◌, Bool, true, false, cond, ◌&&◌, List, [], ◌∷◌, get_or, length, map, All, Option, Some, None, inl, inr, refl, sym, ap, ◌∙◌, subst, arith}
+use Rattle.std.proofs.Common.{◌≡◌, ℕ, ◌+◌, ◌<◌, ◌==◌, Bool, true, false, ◌&&◌, List, get_or, length, map, All, Option, Some, None, inl, inr, refl, sym, ap, ◌∙◌, subst, arith}
 use Rattle.std.specs.Prelude.{AllPairs, bytes_eq, count_by, filter, find, option_map, slice_get}
 use Rattle.std.specs.List.{enumerate_from, list_any, position_or_len}
 use Rattle.std.proofs.Math.Bool.{and_comm}
@@ -8,19 +8,16 @@ use Rattle.std.proofs.lemmas.List.{length-map}
 use Rattle.std.proofs.lemmas.List.Elements.{All-weaker}
 use Rattle.std.proofs.lemmas.List.Folds.{find_at, list_any_at}
 use Rattle.std.proofs.lemmas.List.FromFn.{get_or-enumerate_from, length-enumerate_from}
-use Rattle.std.proofs.lemmas.List.Sums.{position_or_len_is, sum_by-cons}
+use Rattle.std.proofs.lemmas.List.Sums.{position_or_len_is}
 use Rattle.std.proofs.lemmas.Option.{same_Some}
 use Rattle.std.proofs.lemmas.Simd.{map-map}
 use Rattle.store_data.proofs.GroupLemmas.{bytes_eq-same, same-bytes_eq}
-use Rattle.job_core.specs.declared.facts.RecordState.TheVariants as rec
-use Rattle.job_core.specs.declared.facts.SessionState.{SessionState}
-use Rattle.job_core.specs.declared.facts.SessionState.TheVariants as session
 use Rattle.job_core.specs.declared.rows.RecordLine.{RecordLine}
 use Rattle.job_core.specs.Accounts.{record_line, record_lines, sessions_of}
 use Rattle.job_core.specs.Facts.{Batch, Facts, Session}
-use Rattle.job_core.specs.Sound.{IsSession, IsSound, IsSoundRecord, has_card}
-use Rattle.job_core.specs.States.{batch_named, is_good, is_running, is_spoiled, is_withdrawn, record_state, records_named, records_under, remakes_of, session_state, state_by, states_of}
-use Rattle.job_core.proofs.Lists.{count_by_any, count_by_none, map_same}
+use Rattle.job_core.specs.Sound.{IsSession, IsSound}
+use Rattle.job_core.specs.States.{batch_named, is_good, is_spoiled, is_withdrawn, record_state, records_named, records_under, remakes_of, session_state, states_of}
+use Rattle.job_core.proofs.Lists.{map_same}
 use Rattle.job_core.proofs.SoundFacts.{is_for}
 use Rattle.step_laws.proofs.BlankSums.{bytes_eq_either}
 use Rattle.table_rows.specs.Keys.{is_good_of, is_record_of}

@@ -1,5 +1,5 @@
 -- A product's blanks, by the rows of its lots and its batches.
-use Rattle.std.proofs.Common.{◌≡◌, ℕ, suc, ◌+◌, ◌≤◌, Bool, true, false, cond, ◌&&◌, List, [], ◌∷◌, get_or, length, map, All, Option, Some, None, inl, inr, refl, sym, ap, ◌∙◌, arith}
+use Rattle.std.proofs.Common.{◌≡◌, ℕ, suc, ◌+◌, ◌≤◌, Bool, true, false, ◌&&◌, List, [], ◌∷◌, get_or, length, map, All, Option, Some, None, inl, inr, refl, sym, ap, ◌∙◌, arith}
 use Rattle.std.specs.Prelude.{AllPairs, bytes_eq, count_by, filter, sum_by}
 use Rattle.std.specs.List.{list_any}
 use Rattle.std.proofs.lemmas.Bool.{cases_Bool}
@@ -17,8 +17,8 @@ use Rattle.job_core.specs.declared.facts.SessionState.{SessionState}
 use Rattle.job_core.specs.declared.facts.SessionState.TheVariants as session
 use Rattle.job_core.specs.Accounts.{batch_totals, blank_totals, count_records, count_sessions, lots_of, record_states, session_states}
 use Rattle.job_core.specs.Facts.{Batch, Facts, Session}
-use Rattle.job_core.specs.Sound.{IsSession, IsSound, IsSoundRecord}
-use Rattle.job_core.specs.States.{batch_named, is_good, is_running, is_withdrawn, record_state, records_named, records_under, remakes_of, same_record_state, same_session_state, session_state, state_by, states_of}
+use Rattle.job_core.specs.Sound.{IsSession, IsSound}
+use Rattle.job_core.specs.States.{batch_named, is_withdrawn, record_state, records_named, records_under, remakes_of, same_record_state, same_session_state, session_state, states_of}
 use Rattle.job_core.proofs.Lists.{count_by_any, count_by_none}
 use Rattle.job_core.proofs.SoundFacts.{is_for}
 use Rattle.step_laws.specs.Sums.{AreBlankSums, batches_of}

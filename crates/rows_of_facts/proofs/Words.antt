@@ -1,35 +1,36 @@
 -- The rows after a word.
-use Rattle.std.proofs.Common.{◌≡◌, ℕ, ◌+◌, false, List, [], ◌∷◌, ◌++◌, map, refl, sym, ap, subst, ◌∙◌, IsPermutation}
-use Rattle.std.specs.Prelude.{bytes_eq, option_map}
+use Rattle.std.proofs.Common.{◌≡◌, ℕ, ◌+◌, false, List, ◌∷◌, map, refl, sym, ap, subst, ◌∙◌, IsPermutation}
+use Rattle.std.specs.Prelude.{bytes_eq, count_by, option_map}
 use Rattle.std.proofs.lemmas.Option.{same_Some}
 use Rattle.store_data.specs.declared.cursor.Cursor.{Cursor}
 use Rattle.job_core.specs.declared.change.Change.{Change}
 use Rattle.job_core.specs.declared.change.Change.TheVariants as change
+use Rattle.job_core.specs.declared.facts.RecordState.{RecordState}
 use Rattle.job_core.specs.declared.facts.RecordState.TheVariants as rec
 use Rattle.job_core.specs.declared.facts.SessionState.{SessionState}
 use Rattle.job_core.specs.declared.facts.SessionState.TheVariants as session
+use Rattle.job_core.specs.declared.rows.BatchTotals.{BatchTotals}
 use Rattle.job_core.specs.declared.rows.SessionRow.{SessionRow}
-use Rattle.job_core.specs.Accounts.{session_states}
+use Rattle.job_core.specs.Accounts.{batch_totals, session_states}
 use Rattle.job_core.specs.Contents.{Contents, Entry, Mark}
 use Rattle.job_core.specs.Facts.{Facts, Session, with_word, worded}
 use Rattle.job_core.specs.Rows.{session_row}
 use Rattle.job_core.specs.Sound.{IsSound, IsSoundChange, changed}
-use Rattle.job_core.specs.States.{is_record, plan_for, record_state, session_cursor, session_state}
+use Rattle.job_core.specs.States.{is_record, is_spoiled, plan_for, record_state, remakes_of, session_cursor, session_state, states_of}
 use Rattle.job_core.proofs.SessionLemmas.{session_changed}
 use Rattle.step_laws.specs.Later.{KnowsMore}
 use Rattle.step_laws.specs.Records.{StandsSame}
 use Rattle.step_laws.proofs.ChangeStands.{record_of_there, touched_stands, touched_stood}
 use Rattle.step_laws.proofs.Kept.{no_more, state_same}
 use Rattle.step_laws.proofs.RecordStands.{named}
-use Rattle.table_rows.specs.After.{rows_after}
-use Rattle.table_rows.specs.Tables.{HaveSameRows, session_set, with_reply, with_session_set}
+use Rattle.table_rows.specs.After.{record_after, rows_after}
+use Rattle.table_rows.specs.Tables.{HaveSameRows, session_set, with_session_set}
 use Rattle.table_rows.specs.Tables as tables
 use Rattle.table_rows.specs.declared.before.Before.{Before}
 use Rattle.table_rows.specs.declared.before.Before.TheVariants as before
-use Rattle.table_rows.specs.declared.before.RecordPlace.{RecordPlace}
 use Rattle.rows_of_facts.specs.Before.{IsBefore}
 use Rattle.rows_of_facts.specs.Image.{image, stored_blanks, stored_groupings, stored_lots, stored_remakes, stored_sessions, stored_words}
-use Rattle.rows_of_facts.proofs.Lists.{pushed, unmoved}
+use Rattle.rows_of_facts.proofs.Lists.{unmoved}
 use Rattle.rows_of_facts.proofs.OneRecord.{batches_set, records_set}
 use Rattle.rows_of_facts.proofs.OneSession.{blanks_same, sessions_elsewhere, sessions_same, stand_same}
 use Rattle.rows_of_facts.proofs.SessionRows.{word_put, word_set}
@@ -105,6 +106,26 @@ module _ (f : Facts) (s index sw : ℕ) (stands : SessionState) (cursor : Cursor
     ran : record_state f own.batch own.rec ≡ rec.Running
     ran = touched_stood f word_change sound keeps.before (named own.batch own.rec) rec.Running (record_of_there f s own keeps.before.1) refl
 
+    -- the rows, where its record comes to stand so
+    rows_over : (kept : List Entry) (marks : List Mark) (state : RecordState) (spoiled : ℕ) (totals : BatchTotals) → record_state worded_facts own.batch own.rec ≡ state
+        → count_by is_spoiled (states_of worded_facts own.batch own.rec) ≡ spoiled → batch_totals worded_facts own.batch ≡ totals
+        → HaveSameRows (image (record { facts = worded_facts; kept = kept; marks = marks }))
+        (record_after (place_of f own.batch own.rec) state spoiled (remakes_of f own.batch own.rec) totals
+        (with_session_set s stands (index + 1) cursor (tables.with_word (record { session = s; place = index; sw = sw }) (image (record { facts = f; kept = kept; marks = marks })))))
+    rows_over kept marks state spoiled totals now spoiled_are totals_are = record {
+      products = unmoved _ _ refl;
+      lots = unmoved _ _ lots_then;
+      batches = unmoved _ _ (batches_set f worded_facts.sessions f.remakes f.withdrawn own.batch own.rec sound others elsewhere totals totals_are);
+      records = unmoved _ _ (records_set f worded_facts.sessions f.remakes f.withdrawn own.batch own.rec sound others state spoiled (remakes_of f own.batch own.rec) now spoiled_are refl);
+      groupings = unmoved _ _ groupings_then;
+      sessions = unmoved _ _ sessions_then;
+      words = words_then;
+      blanks = unmoved _ _ blanks_then;
+      remakes = unmoved _ _ remakes_then;
+      replies = unmoved _ _ refl;
+      marks = unmoved _ _ refl;
+    }
+
 pub rows_after_word : (c : Contents) (s index sw : ℕ) (stands : SessionState) (cursor : Cursor) (told : Before) → IsSound c.facts
     → IsSoundChange c.facts (change.AddsWord s index sw stands cursor) → IsBefore c.facts (change.AddsWord s index sw stands cursor) told
     → HaveSameRows (image (record c { facts = changed c.facts (change.AddsWord s index sw stands cursor) })) (rows_after (change.AddsWord s index sw stands cursor) told (image c))
@@ -134,55 +155,23 @@ rows_after_word c s index sw session.Good cursor (before.OfRecord p) sound keeps
     let good = session.Good in
     let x : Session = keeps.before.0 in
     let there = keeps.before.1 in
-    let runs = keeps.before.2 in
     let word = change.AddsWord s index sw good cursor in
-    let g : Facts = with_word f s sw in
     let stands = stands_then f s index sw good cursor keeps in
-    let beside = others f s index sw good cursor keeps sound in
-    let now : record_state g x.batch x.rec ≡ rec.Good = touched_stands f word sound keeps.before keeps.after (named x.batch x.rec) rec.Good (record_of_there f s x there) refl in
-    let totals = totals_good f s x (worded sw) there refl refl runs sound beside (ran f s index sw good cursor keeps sound) stands now in
-    let spoiled = spoiled_good f s x (worded sw) there refl refl runs stands in
-    let at : RecordPlace = place_of f x.batch x.rec in
-    subst (λ q. HaveSameRows (image (record c { facts = g })) (rows_after word (before.OfRecord q) (image c))) (sym (own_place f s x there p is))
-    (record {
-      products = unmoved _ _ refl;
-      lots = unmoved _ _ (lots_then f s index sw good cursor keeps);
-      batches = unmoved _ _ (batches_set f g.sessions f.remakes f.withdrawn x.batch x.rec sound beside (elsewhere f s index sw good cursor keeps) _ totals);
-      records = unmoved _ _ (records_set f g.sessions f.remakes f.withdrawn x.batch x.rec sound beside rec.Good at.spoiled at.remakes now spoiled refl);
-      groupings = unmoved _ _ (groupings_then f s index sw good cursor keeps);
-      sessions = unmoved _ _ (sessions_then f s index sw good cursor keeps);
-      words = words_then f s index sw good cursor keeps;
-      blanks = unmoved _ _ (blanks_then f s index sw good cursor keeps);
-      remakes = unmoved _ _ (remakes_then f s index sw good cursor keeps);
-      replies = unmoved _ _ refl;
-      marks = unmoved _ _ refl;
-    })
+    let now : record_state (with_word f s sw) x.batch x.rec ≡ rec.Good = touched_stands f word sound keeps.before keeps.after (named x.batch x.rec) rec.Good (record_of_there f s x there) refl in
+    let spoiled = spoiled_good f s x (worded sw) there refl refl keeps.before.2 stands in
+    let totals = totals_good f s x (worded sw) there refl refl keeps.before.2 sound (others f s index sw good cursor keeps sound) (ran f s index sw good cursor keeps sound) stands now in
+    subst (λ q. HaveSameRows (image (record c { facts = with_word f s sw })) (rows_after word (before.OfRecord q) (image c))) (sym (own_place f s x there p is))
+    (rows_over f s index sw good cursor keeps sound c.kept c.marks rec.Good _ _ now spoiled totals)
 rows_after_word c s index sw session.Spoiled cursor (before.OfRecord p) sound keeps is =
     let f : Facts = c.facts in
     let over = session.Spoiled in
     let x : Session = keeps.before.0 in
     let there = keeps.before.1 in
-    let runs = keeps.before.2 in
     let word = change.AddsWord s index sw over cursor in
-    let g : Facts = with_word f s sw in
     let stands = stands_then f s index sw over cursor keeps in
-    let beside = others f s index sw over cursor keeps sound in
-    let now : record_state g x.batch x.rec ≡ rec.Failed = touched_stands f word sound keeps.before keeps.after (named x.batch x.rec) rec.Failed (record_of_there f s x there) refl in
-    let totals = totals_spoiled f s x (worded sw) there refl refl runs sound beside (ran f s index sw over cursor keeps sound) stands now in
-    let spoiled = spoiled_more f s x (worded sw) there refl refl runs stands in
-    let at : RecordPlace = place_of f x.batch x.rec in
-    subst (λ q. HaveSameRows (image (record c { facts = g })) (rows_after word (before.OfRecord q) (image c))) (sym (own_place f s x there p is))
-    (record {
-      products = unmoved _ _ refl;
-      lots = unmoved _ _ (lots_then f s index sw over cursor keeps);
-      batches = unmoved _ _ (batches_set f g.sessions f.remakes f.withdrawn x.batch x.rec sound beside (elsewhere f s index sw over cursor keeps) _ totals);
-      records = unmoved _ _ (records_set f g.sessions f.remakes f.withdrawn x.batch x.rec sound beside rec.Failed (at.spoiled + 1) at.remakes now spoiled refl);
-      groupings = unmoved _ _ (groupings_then f s index sw over cursor keeps);
-      sessions = unmoved _ _ (sessions_then f s index sw over cursor keeps);
-      words = words_then f s index sw over cursor keeps;
-      blanks = unmoved _ _ (blanks_then f s index sw over cursor keeps);
-      remakes = unmoved _ _ (remakes_then f s index sw over cursor keeps);
-      replies = unmoved _ _ refl;
-      marks = unmoved _ _ refl;
-    })
+    let now : record_state (with_word f s sw) x.batch x.rec ≡ rec.Failed = touched_stands f word sound keeps.before keeps.after (named x.batch x.rec) rec.Failed (record_of_there f s x there) refl in
+    let spoiled = spoiled_more f s x (worded sw) there refl refl keeps.before.2 stands in
+    let totals = totals_spoiled f s x (worded sw) there refl refl keeps.before.2 sound (others f s index sw over cursor keeps sound) (ran f s index sw over cursor keeps sound) stands now in
+    subst (λ q. HaveSameRows (image (record c { facts = with_word f s sw })) (rows_after word (before.OfRecord q) (image c))) (sym (own_place f s x there p is))
+    (rows_over f s index sw over cursor keeps sound c.kept c.marks rec.Failed _ _ now spoiled totals)
 rows_after_word c s index sw _ cursor _ sound keeps is = absurd is

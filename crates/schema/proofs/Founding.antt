@@ -2,7 +2,6 @@
 use Rattle.std.proofs.Common.{◌≡◌, ◌⊎◌, inl, inr, refl, sym, subst, IsTrue}
 use Rattle.sqlite.specs.Effect.{Database}
 use Rattle.sqlite.specs.State.{State}
-use Rattle.sqlite.specs.Tree.{Trees}
 use Rattle.job_core.specs.Contents.{AreSame, AreSound, Contents, no_contents}
 use Rattle.job_core.proofs.NextContents.{nothing_sound}
 use Rattle.table_rows.specs.Tables.{no_rows}

@@ -1,5 +1,4 @@
 -- What a commit makes of a database that has the rows of some contents.
-use Rattle.std.specs.Prelude.{IsTrue, IfOk, Result}
 use Rattle.sqlite.specs.Effect.{Database}
 use Rattle.job_core.specs.Contents.{AreSound, Contents}
 use Rattle.rows_of_facts.specs.Image.{image}

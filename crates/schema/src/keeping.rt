@@ -2,9 +2,10 @@
 ghost use Rattle.std.specs.Prelude.{◌≡◌, ◌<◌, ◌^◌, false, OnErr, OnOk};
 ghost use Rattle.sqlite.specs.Held.{state};
 ghost use Rattle.sqlite.specs.State.{HasCleanDisk, Survives};
-ghost use Rattle.job_core.specs.Contents.{Entry, IsOwed, IsOwedRelease, committed, released};
+ghost use Rattle.job_core.specs.Contents.{IsOwed, IsOwedRelease, committed, released};
 ghost use Rattle.sql_base.specs.Ends.{Ends, IsKept, IsLeft};
 ghost use Rattle.schema.specs.Takes.{Takes};
+ghost use Rattle.table_rows.specs.Kept.{kept_reply};
 
 use job_core::Change;
 use rows_of_facts::{rows_after_change, rows_after_release, rows_with_reply};
@@ -27,26 +28,14 @@ pub(crate) fn keep<'x, S: Alter>(
 ) -> Result<(), Error>
     requires idle { conn.old.in_transaction ≡ false }
     requires number { number < 2 ^ 63 }
-    ensures ok { let entry : Entry = record {
-      client = client.now;
-      number = number;
-      ask = ask.now;
-      status = status;
-      body = body.now;
-    } in
+    ensures ok { let entry = kept_reply client.now number ask.now status body.now in
         HasCleanDisk (state S.Store conn.new) → OnOk result
         (Ends (Takes (IsOwed change.now entry) (λ c. committed c change.now entry))
         (state S.Store conn.old) (state S.Store conn.new)) }
     ensures err { HasCleanDisk (state S.Store conn.new)
         → OnErr result (IsKept (state S.Store conn.old) (state S.Store conn.new)) }
     ensures idle { conn.new.in_transaction ≡ false }
-    ensures crash { let entry : Entry = record {
-      client = client.now;
-      number = number;
-      ask = ask.now;
-      status = status;
-      body = body.now;
-    } in
+    ensures crash { let entry = kept_reply client.now number ask.now status body.now in
         Survives (state S.Store conn.old) (state S.Store conn.new)
         (IsLeft (Takes (IsOwed change.now entry) (λ c. committed c change.now entry))
         (state S.Store conn.old)) }
@@ -75,26 +64,14 @@ pub(crate) fn release<'x, S: Alter>(
 ) -> Result<(), Error>
     requires idle { conn.old.in_transaction ≡ false }
     requires number { number < 2 ^ 63 }
-    ensures ok { let entry : Entry = record {
-      client = client.now;
-      number = number;
-      ask = ask.now;
-      status = status;
-      body = body.now;
-    } in
+    ensures ok { let entry = kept_reply client.now number ask.now status body.now in
         HasCleanDisk (state S.Store conn.new) → OnOk result
         (Ends (Takes (IsOwedRelease upto entry) (λ c. released c upto entry))
         (state S.Store conn.old) (state S.Store conn.new)) }
     ensures err { HasCleanDisk (state S.Store conn.new)
         → OnErr result (IsKept (state S.Store conn.old) (state S.Store conn.new)) }
     ensures idle { conn.new.in_transaction ≡ false }
-    ensures crash { let entry : Entry = record {
-      client = client.now;
-      number = number;
-      ask = ask.now;
-      status = status;
-      body = body.now;
-    } in
+    ensures crash { let entry = kept_reply client.now number ask.now status body.now in
         Survives (state S.Store conn.old) (state S.Store conn.new)
         (IsLeft (Takes (IsOwedRelease upto entry) (λ c. released c upto entry))
         (state S.Store conn.old)) }

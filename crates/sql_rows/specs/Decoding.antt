@@ -1,5 +1,5 @@
 -- What the values of a row tell: the typed row that stands so.
-use Rattle.std.specs.Prelude.{ℕ, zero, suc, pos, Bool, true, false, not, List, []}
+use Rattle.std.specs.Prelude.{ℕ, zero, suc, pos, Bool, false, not, List, []}
 use Rattle.std.specs.Ordering.{int_eq}
 use Rattle.sqlite.specs.declared.types.Value.{Value}
 use Rattle.sqlite.specs.declared.types.Value.TheVariants.{Int, Text, Blob}

@@ -1,3 +1,4 @@
 pub mod Encoding
 pub mod Image
 pub mod Decoding
+pub mod Writes

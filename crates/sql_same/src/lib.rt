@@ -9,6 +9,7 @@ mod same;
 mod terms;
 
 use crate::same::Same;
+pub use parts::are_same_but_tree;
 use sqlite_schema::schema::Schema;
 
 /// Whether the two are one schema. Texts that define the same part in other words, or that stand in

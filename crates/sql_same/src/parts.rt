@@ -1,4 +1,7 @@
 //! The parts of a schema.
+ghost use Rattle.std.specs.Prelude.{◌≡◌, ◌↔◌, IsTrue};
+ghost use Rattle.sql_same.specs.Bare.{bare};
+
 use crate::same::Same;
 use sqlite_schema::code::lend_value;
 use sqlite_schema::schema::{Column, Index, Reference, Schema, Stamps, Table, View};
@@ -56,20 +59,26 @@ impl Same for Stamps {
     }
 }
 
+/// Whether two tables are one but for the number of their trees.
+pub fn are_same_but_tree(a: &Table, b: &Table) -> bool
+    ensures { IsTrue result ↔ (bare a.now ≡ bare b.now) }
+{
+    a.name.same(&b.name)
+        && a.columns.same(&b.columns)
+        && a.key.same(&b.key)
+        && a.primary.same(&b.primary)
+        && a.uniques.same(&b.uniques)
+        && a.orders.same(&b.orders)
+        && a.checks.same(&b.checks)
+        && a.references.same(&b.references)
+        && a.computed.same(&b.computed)
+        && a.stamps.same(&b.stamps)
+        && a.is_counted == b.is_counted
+}
+
 impl Same for Table {
     fn same(&self, other: &Table) -> bool {
-        self.name.same(&other.name)
-            && self.tree == other.tree
-            && self.columns.same(&other.columns)
-            && self.key.same(&other.key)
-            && self.primary.same(&other.primary)
-            && self.uniques.same(&other.uniques)
-            && self.orders.same(&other.orders)
-            && self.checks.same(&other.checks)
-            && self.references.same(&other.references)
-            && self.computed.same(&other.computed)
-            && self.stamps.same(&other.stamps)
-            && self.is_counted == other.is_counted
+        self.tree == other.tree && are_same_but_tree(self, other)
     }
 }
 

@@ -4,4 +4,4 @@
 
 mod opening;
 
-pub use opening::{CreateFault, create, has_our_tables, our_tables};
+pub use opening::{CreateFault, create, has_our_tables, make_all, our_tables};

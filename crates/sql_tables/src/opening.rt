@@ -158,8 +158,9 @@ fn complete<S: Alter>(tx: &mut Transaction<'_, S>) -> Result<usize, Error>
     add_version(tx)
 }
 
-// Makes all of it, in an open transaction.
-fn make_all<S: Alter>(tx: &mut Transaction<'_, S>) -> Result<usize, Error>
+/// Makes the tables and the indices and tells their version, in an open transaction. A crash leaves
+/// nothing of it.
+pub fn make_all<S: Alter>(tx: &mut Transaction<'_, S>) -> Result<usize, Error>
     ensures same_reference { tx.new.conn.ghost_name ≡ tx.old.conn.ghost_name }
     ensures made { HasCleanDisk (state S.Store tx.new.conn.now)
         → Wrote MakesAll (state S.Store tx.old.conn.now)

@@ -2,10 +2,11 @@
 ghost use Rattle.std.specs.Prelude.{◌≡◌, ◌<◌, ◌^◌, false, OnErr, OnOk};
 ghost use Rattle.sqlite.specs.Held.{state};
 ghost use Rattle.sqlite.specs.State.{HasCleanDisk, Survives};
-ghost use Rattle.job_core.specs.Contents.{Entry};
-ghost use Rattle.sql_base.specs.Ends.{Ends, IsKept, IsLeft, Wrote};
+ghost use Rattle.sql_base.specs.Ends.{Ends, IsKept, IsLeft};
 ghost use Rattle.sql_rows.specs.Image.{Moves};
+ghost use Rattle.sql_rows.specs.Writes.{WritesRows};
 ghost use Rattle.table_rows.specs.After.{rows_after};
+ghost use Rattle.table_rows.specs.Kept.{kept_reply};
 ghost use Rattle.table_rows.specs.Tables.{with_reply};
 ghost use Rattle.store_commits.specs.Written.{rows_written};
 
@@ -32,15 +33,8 @@ fn write_with_reply<'x, S: Alter>(
 ) -> Result<(), Error>
     requires { number < 2 ^ 63 }
     ensures same_reference { tx.new.conn.ghost_name ≡ tx.old.conn.ghost_name }
-    ensures wrote { let entry : Entry = record {
-      client = client.now;
-      number = number;
-      ask = ask.now;
-      status = status;
-      body = body.now;
-    } in
-        HasCleanDisk (state S.Store tx.new.conn.now)
-        → Wrote (Moves (λ t. with_reply entry (rows_after change.now before.now t)))
+    ensures wrote { let entry = kept_reply client.now number ask.now status body.now in
+        WritesRows (λ t. with_reply entry (rows_after change.now before.now t))
         (state S.Store tx.old.conn.now) (state S.Store tx.new.conn.now) result }
     ensures survives { Survives (state S.Store tx.old.conn.now) (state S.Store tx.new.conn.now)
         (λ _. ⊥) }
@@ -63,16 +57,9 @@ fn write_all<'x, S: Alter>(
 ) -> Result<(), Error>
     requires { number < 2 ^ 63 }
     ensures same_reference { tx.new.conn.ghost_name ≡ tx.old.conn.ghost_name }
-    ensures wrote { let entry : Entry = record {
-      client = client.now;
-      number = number;
-      ask = ask.now;
-      status = status;
-      body = body.now;
-    } in
-        HasCleanDisk (state S.Store tx.new.conn.now)
-        → Wrote (Moves (rows_written writing.now entry))
-        (state S.Store tx.old.conn.now) (state S.Store tx.new.conn.now) result }
+    ensures wrote { let entry = kept_reply client.now number ask.now status body.now in
+        WritesRows (rows_written writing.now entry) (state S.Store tx.old.conn.now)
+        (state S.Store tx.new.conn.now) result }
     ensures survives { Survives (state S.Store tx.old.conn.now) (state S.Store tx.new.conn.now)
         (λ _. ⊥) }
 {
@@ -101,26 +88,14 @@ pub fn commit<'x, S: Alter>(
 ) -> Result<(), Error>
     requires idle { conn.old.in_transaction ≡ false }
     requires number { number < 2 ^ 63 }
-    ensures ok { let entry : Entry = record {
-      client = client.now;
-      number = number;
-      ask = ask.now;
-      status = status;
-      body = body.now;
-    } in
+    ensures ok { let entry = kept_reply client.now number ask.now status body.now in
         HasCleanDisk (state S.Store conn.new) → OnOk result
         (Ends (Moves (rows_written writing.now entry)) (state S.Store conn.old)
         (state S.Store conn.new)) }
     ensures err { HasCleanDisk (state S.Store conn.new)
         → OnErr result (IsKept (state S.Store conn.old) (state S.Store conn.new)) }
     ensures idle { conn.new.in_transaction ≡ false }
-    ensures crash { let entry : Entry = record {
-      client = client.now;
-      number = number;
-      ask = ask.now;
-      status = status;
-      body = body.now;
-    } in
+    ensures crash { let entry = kept_reply client.now number ask.now status body.now in
         Survives (state S.Store conn.old) (state S.Store conn.new)
         (IsLeft (Moves (rows_written writing.now entry)) (state S.Store conn.old)) }
 {

@@ -1,5 +1,5 @@
 -- From what reads show of rows to what they tell of contents, once for all reads.
-use Rattle.std.proofs.Common.{Result, Ok, Err, IfOk, IsTrue, inl, refl, sym, subst, ◌∙◌, arith}
+use Rattle.std.proofs.Common.{Result, Ok, Err, IfOk, IsTrue, sym, subst, ◌∙◌, arith}
 use Rattle.sqlite.specs.State.{HasCleanDisk, State}
 use Rattle.sqlite.specs.declared.error.Error.{Error}
 use Rattle.sqlite.proofs.StateLemmas.{survives_then}
@@ -8,7 +8,8 @@ use Rattle.table_rows.specs.Tables.{Tables}
 use Rattle.rows_of_facts.specs.Image.{image}
 use Rattle.sql_base.specs.Ends.{IsKept}
 use Rattle.sql_rows.specs.Image.{IsImage}
-use Rattle.store_reads.specs.Tells.{Looks, Tells}
+use Rattle.row_reads.specs.Reads.{Looks}
+use Rattle.store_reads.specs.Tells.{Tells}
 
 -- an open connection shows this of whatever rows it has
 abbrev pub ShowsRows : State → (Tables → Type 0) → Type 0

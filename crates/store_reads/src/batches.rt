@@ -4,8 +4,9 @@ ghost use Rattle.sqlite.specs.Held.{state};
 ghost use Rattle.job_core.specs.Accounts.{batch_totals};
 ghost use Rattle.job_core.specs.Rows.{batch_has, batch_row_of, batch_size_of};
 ghost use Rattle.job_core.specs.States.{is_batch_finished};
+ghost use Rattle.row_reads.specs.Reads.{Looks};
 ghost use Rattle.store_reads.specs.Heads.{is_over_in, row_of, totals_in};
-ghost use Rattle.store_reads.specs.Tells.{Looks, Tells};
+ghost use Rattle.store_reads.specs.Tells.{Tells};
 
 use job_core::{BatchRow, BatchSize, BatchTotals};
 use row_reads::{BatchHead, batch_head, grouping_count};

@@ -10,7 +10,8 @@ ghost use Rattle.rows_of_facts.specs.Before.{IsBefore, IsBeforeWord, IsPlaceOf, 
 ghost use Rattle.rows_of_facts.specs.Image.{image};
 ghost use Rattle.sql_rows.specs.Image.{IsImage};
 ghost use Rattle.step_laws.specs.Sums.{discarded_in};
-ghost use Rattle.store_reads.specs.Tells.{Looks, Tells};
+ghost use Rattle.row_reads.specs.Reads.{Looks};
+ghost use Rattle.store_reads.specs.Tells.{Tells};
 
 use crate::counts::{batch_count, session_count};
 use crate::names;

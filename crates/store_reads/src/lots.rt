@@ -3,7 +3,8 @@ ghost use Rattle.std.specs.Prelude.{false, option_map, ◌≡◌};
 ghost use Rattle.sqlite.specs.Held.{state};
 ghost use Rattle.job_core.specs.States.{any_overlaps, is_charged, lot_named, lot_of};
 ghost use Rattle.row_reads.specs.declared.lots.LotRow.{LotRow as LotRowValue};
-ghost use Rattle.store_reads.specs.Tells.{Looks, Tells};
+ghost use Rattle.row_reads.specs.Reads.{Looks};
+ghost use Rattle.store_reads.specs.Tells.{Tells};
 
 use crate::numbers::END;
 use job_core::Lot;

@@ -3,7 +3,8 @@ ghost use Rattle.std.specs.Prelude.{IfOk, IfSome, false, ◌≡◌};
 ghost use Rattle.sqlite.specs.Held.{state};
 ghost use Rattle.store_data.specs.Sequence.{IsProduct};
 ghost use Rattle.job_core.specs.States.{product_named};
-ghost use Rattle.store_reads.specs.Tells.{Looks, Tells};
+ghost use Rattle.row_reads.specs.Reads.{Looks};
+ghost use Rattle.store_reads.specs.Tells.{Tells};
 
 use sqlite::{Alter, Connection, Error};
 use store_data::{Name, Product};

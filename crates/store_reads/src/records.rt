@@ -3,7 +3,8 @@ ghost use Rattle.std.specs.Prelude.{false, option_map, ◌≡◌};
 ghost use Rattle.sqlite.specs.Held.{state};
 ghost use Rattle.job_core.specs.States.{first_waiting, record_state_of};
 ghost use Rattle.row_reads.specs.declared.records.RecordAt.{RecordAt as RecordAtValue};
-ghost use Rattle.store_reads.specs.Tells.{Looks, Tells};
+ghost use Rattle.row_reads.specs.Reads.{Looks};
+ghost use Rattle.store_reads.specs.Tells.{Tells};
 
 use job_core::RecordState;
 use row_reads::{RecordAt, batch_id, record_named};

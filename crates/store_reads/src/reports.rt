@@ -2,8 +2,9 @@
 ghost use Rattle.std.specs.Prelude.{false, ◌≡◌, ◌<◌, ◌^◌};
 ghost use Rattle.sqlite.specs.Held.{state};
 ghost use Rattle.job_core.specs.Accounts.{blank_totals, record_lines};
+ghost use Rattle.row_reads.specs.Reads.{Looks};
 ghost use Rattle.store_reads.specs.Lines.{lines_with};
-ghost use Rattle.store_reads.specs.Tells.{Looks, Tells};
+ghost use Rattle.store_reads.specs.Tells.{Tells};
 
 use crate::lines::lines_told;
 use crate::sums::totals_told;

@@ -5,8 +5,9 @@ ghost use Rattle.store_data.specs.Sequence.{IsRow};
 ghost use Rattle.store_data.specs.declared.row.Product.{Product as ProductValue};
 ghost use Rattle.job_core.specs.declared.rows.SegmentRow.{SegmentRow as SegmentRowValue};
 ghost use Rattle.job_core.specs.Rows.{segment_row_of};
+ghost use Rattle.row_reads.specs.Reads.{Looks};
 ghost use Rattle.store_reads.specs.Segments.{IsBatchProduct, product_in, rows_in};
-ghost use Rattle.store_reads.specs.Tells.{Looks, Tells};
+ghost use Rattle.store_reads.specs.Tells.{Tells};
 
 use crate::plans::{rows_told, segment_in};
 use job_core::SegmentRow;

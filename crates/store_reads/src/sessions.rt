@@ -5,7 +5,8 @@ ghost use Rattle.store_data.specs.Cursor.{IsCursor};
 ghost use Rattle.job_core.specs.declared.rows.SessionRow.{SessionRow as SessionRowValue};
 ghost use Rattle.job_core.specs.Rows.{session_row_of};
 ghost use Rattle.job_core.specs.States.{running_session};
-ghost use Rattle.store_reads.specs.Tells.{Looks, Tells};
+ghost use Rattle.row_reads.specs.Reads.{Looks};
+ghost use Rattle.store_reads.specs.Tells.{Tells};
 
 use crate::numbers::END;
 use job_core::SessionRow;

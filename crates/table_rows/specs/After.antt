@@ -1,5 +1,5 @@
 -- The rows after a change, by the change and by how what it touches stood before it.
-use Rattle.std.specs.Prelude.{◌+◌, ◌-◌, ℕ, true, false, List, [], ◌++◌, length, map, bytes_eq}
+use Rattle.std.specs.Prelude.{◌+◌, ◌-◌, ℕ, true, false, List, ◌++◌, length, map, bytes_eq}
 use Rattle.std.specs.List.{enumerate_from, position_or_len}
 use Rattle.store_data.specs.Cursor.{select_cursor}
 use Rattle.store_data.specs.Groups.{first_appearances}

@@ -1,3 +1,4 @@
 pub mod Tables
 pub mod Keys
+pub mod Kept
 pub mod After

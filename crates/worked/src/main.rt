@@ -9,6 +9,8 @@ use case_plans::{Table, check_plan, check_table};
 use drills::{check_script, check_scripted};
 use faulty_store::FaultyStore;
 use list_store::ListStore;
+use schema::SqlStore;
+use sqlite::MemStore;
 use std::alloc::Global;
 use std::process::ExitCode;
 use std::{env, fs, io};
@@ -104,15 +106,18 @@ fn run_case(alloc: Global, kind: Kind, case: Case) -> Result<(), CaseFault> {
         Kind::Plan => match check_plan(alloc, &case)? {
             Some(printed) => {
                 check_machine::<ListStore>(alloc, &printed)?;
-                check_machine::<FaultyStore>(alloc, &printed)
+                check_machine::<FaultyStore>(alloc, &printed)?;
+                check_machine::<SqlStore<MemStore>>(alloc, &printed)
             }
             None => Ok(()),
         },
-        Kind::Exchange => match check_exchanges::<ListStore, FaultyStore>(alloc, case)? {
+        Kind::Exchange => match check_exchanges::<ListStore, FaultyStore, SqlStore<MemStore>>(
+            alloc, case,
+        )? {
             Some(scripted) => check_scripted(alloc, &scripted),
             None => Ok(()),
         },
-        Kind::Message => check_messages::<ListStore, FaultyStore>(alloc, &case),
+        Kind::Message => check_messages::<ListStore, FaultyStore, SqlStore<MemStore>>(alloc, &case),
         Kind::Drill => check_script(alloc, &case),
         Kind::Table(table) => check_table(alloc, table, &case),
     }

@@ -1,6 +1,6 @@
-use Rattle.audit_laws.proofs.ForthImage.{audited_image}
-use Rattle.audit_laws.proofs.ForthRecords.{contents_sound}
-use Rattle.audit_laws.proofs.ForthTold.{tells}
+use Rattle.audit_laws.proofs.ImageRows.{audited_image}
+use Rattle.audit_laws.proofs.SoundRecords.{contents_sound}
+use Rattle.audit_laws.proofs.SoundTold.{tells}
 use Rattle.audit_laws.proofs.laws.audited_rows_are_sound.Goals as goal
 
 pub returns : goal.returns

@@ -1,4 +1,4 @@
-use Rattle.audit_laws.proofs.Back.{rows_audited}
+use Rattle.audit_laws.proofs.AuditedImage.{rows_audited}
 use Rattle.audit_laws.proofs.laws.sound_rows_are_audited.Goals as goal
 
 pub returns : goal.returns

@@ -2,10 +2,11 @@ use Rattle.std.proofs.Common.{arith}
 use Rattle.sqlite.specs.Held.{state}
 use Rattle.sqlite.specs.State.{HasCleanDisk}
 use Rattle.sqlite.proofs.InsideLemmas.{keeps_then}
-use Rattle.job_core.specs.Contents.{Entry, Mark}
+use Rattle.job_core.specs.Contents.{Mark}
 use Rattle.sql_base.proofs.Ending.{inside_then, wrote_then}
 use Rattle.sql_rows.specs.Image.{Moves}
 use Rattle.table_rows.specs.After.{rows_after_release}
+use Rattle.table_rows.specs.Kept.{kept_reply}
 use Rattle.table_rows.specs.Tables.{Tables, with_mark, with_reply, without_mark, without_replies}
 use Rattle.change_writes.proofs.Parts.{moved_on}
 use Rattle.change_writes.proofs.releases.write_release.Goals as goal
@@ -14,7 +15,7 @@ pub returns-clause-wrote : goal.returns-clause-wrote
 returns-clause-wrote g c clean =
     let v = c.args in
     let client = v.client.now in
-    let entry : Entry = record { client = client; number = v.number; ask = v.ask.now; status = v.status; body = v.body.now } in
+    let entry = kept_reply client v.number v.ask.now v.status v.body.now in
     let mark : Mark = record { client = client; upto = v.upto } in
     let gone = λ (t : Tables). without_mark client (without_replies client v.upto t) in
     let marked = λ (t : Tables). with_mark mark (gone t) in

@@ -1,18 +1,11 @@
-use Rattle.std.proofs.Common.{true, map, subst}
-use Rattle.sqlite.specs.Held.{state}
-use Rattle.sql_base.proofs.Querying.{shown_open}
-use Rattle.sql_base.proofs.Selecting.{if_ok}
+use Rattle.std.proofs.Common.{map}
 use Rattle.row_reads.specs.Decoding.{IsFirst, product_in}
 use Rattle.row_reads.proofs.Answering.{product_found}
+use Rattle.row_reads.proofs.Told.{rows_told}
 use Rattle.row_reads.proofs.products.product.Goals as goal
 
 pub returns-clause-found : goal.returns-clause-found
 returns-clause-found g c clean =
     let shown = rw c.bytes.ensures.value at (c.in_ok-rows.ensures.shown clean) in
-    let begun = state g.S.Store (record c.args.conn.now { in_transaction = true }) in
-    let end = state g.S.Store shown.0 in
-    if_ok c.first_product.result _ _ (λ found is. (
-      shown_open begun end _ _ c.in_ok-rows.rows.items shown.1,
-      λ t image once. product_found c.args.code.now begun end c.in_ok-rows.rows.items shown.1 t image once found
-          (subst (λ rows. IsFirst (map (product_in c.args.code.now) rows) found) c.as_slice.ensures.value is),
-    )) c.first_product.ensures.value
+    rows_told _ _ _ _ _ _ c.as_slice.ensures.value shown.1 c.first_product.result (λ rows found. IsFirst (map (product_in c.args.code.now) rows) found) _ c.first_product.ensures.value
+    (λ t image found is once. product_found c.args.code.now _ _ _ shown.1 t image once found is)

@@ -1,19 +1,12 @@
-use Rattle.std.proofs.Common.{true, map, subst}
-use Rattle.sqlite.specs.Held.{state}
-use Rattle.sql_base.proofs.Querying.{shown_open}
-use Rattle.sql_base.proofs.Selecting.{if_ok}
+use Rattle.std.proofs.Common.{map}
 use Rattle.row_reads.specs.CardDecoding.{record_in}
 use Rattle.row_reads.specs.Decoding.{IsFirst}
 use Rattle.row_reads.proofs.CardAnswers.{record_named_found}
+use Rattle.row_reads.proofs.Told.{rows_told}
 use Rattle.row_reads.proofs.records.record_named.Goals as goal
 
 pub returns-clause-found : goal.returns-clause-found
 returns-clause-found g c clean =
     let shown = rw (c.int.ensures, c.bytes.ensures.value) at (c.in_ok-rows.ensures.shown clean) in
-    let begun = state g.S.Store (record c.args.conn.now { in_transaction = true }) in
-    let end = state g.S.Store shown.0 in
-    if_ok c.first_record.result _ _ (λ found is. (
-      shown_open begun end _ _ c.in_ok-rows.rows.items shown.1,
-      λ t image once. record_named_found c.args.batch c.args.name.now begun end c.in_ok-rows.rows.items shown.1 t image once found
-          (subst (λ rows. IsFirst (map record_in rows) found) c.as_slice.ensures.value is),
-    )) c.first_record.ensures.value
+    rows_told _ _ _ _ _ _ c.as_slice.ensures.value shown.1 c.first_record.result (λ rows found. IsFirst (map record_in rows) found) _ c.first_record.ensures.value
+    (λ t image found is once. record_named_found c.args.batch c.args.name.now _ _ _ shown.1 t image once found is)

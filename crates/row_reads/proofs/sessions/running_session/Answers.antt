@@ -1,18 +1,11 @@
-use Rattle.std.proofs.Common.{true, map, subst}
-use Rattle.sqlite.specs.Held.{state}
-use Rattle.sql_base.proofs.Querying.{shown_open}
-use Rattle.sql_base.proofs.Selecting.{if_ok}
+use Rattle.std.proofs.Common.{map}
 use Rattle.row_reads.specs.Decoding.{IsFirst, id_in}
 use Rattle.row_reads.proofs.CardAnswers.{running_found}
+use Rattle.row_reads.proofs.Told.{rows_told}
 use Rattle.row_reads.proofs.sessions.running_session.Goals as goal
 
 pub returns-clause-found : goal.returns-clause-found
 returns-clause-found g c clean =
     let shown = rw c.bytes.ensures.value at (c.in_ok-rows.ensures.shown clean) in
-    let begun = state g.S.Store (record c.args.conn.now { in_transaction = true }) in
-    let end = state g.S.Store shown.0 in
-    if_ok c.first_id.result _ _ (λ found is. (
-      shown_open begun end _ _ c.in_ok-rows.rows.items shown.1,
-      λ t image once. running_found c.args.machine.now begun end c.in_ok-rows.rows.items shown.1 t image once found
-          (subst (λ rows. IsFirst (map id_in rows) found) c.as_slice.ensures.value is),
-    )) c.first_id.ensures.value
+    rows_told _ _ _ _ _ _ c.as_slice.ensures.value shown.1 c.first_id.result (λ rows found. IsFirst (map id_in rows) found) _ c.first_id.ensures.value
+    (λ t image found is once. running_found c.args.machine.now _ _ _ shown.1 t image once found is)

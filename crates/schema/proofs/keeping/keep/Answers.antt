@@ -1,8 +1,9 @@
 use Rattle.std.proofs.Common.{arith}
 use Rattle.sqlite.specs.Held.{state}
-use Rattle.job_core.specs.Contents.{Entry, IsOwed, committed}
+use Rattle.job_core.specs.Contents.{IsOwed, committed}
 use Rattle.sql_rows.specs.Image.{Moves}
 use Rattle.table_rows.specs.After.{rows_after}
+use Rattle.table_rows.specs.Kept.{kept_reply}
 use Rattle.table_rows.specs.Tables.{with_reply}
 use Rattle.schema.specs.Takes.{Takes}
 use Rattle.schema.proofs.Taking.{change_taken, ends_then, left_then}
@@ -10,7 +11,7 @@ use Rattle.schema.proofs.keeping.keep.Goals as goal
 
 pub returns-clause-ok : goal.returns-clause-ok
 returns-clause-ok g c clean =
-    let entry : Entry = record { client = c.args.client.now; number = c.args.number; ask = c.args.ask.now; status = c.args.status; body = c.args.body.now } in
+    let entry = kept_reply c.args.client.now c.args.number c.args.ask.now c.args.status c.args.body.now in
     let change = c.args.change.now in
     let told = c.in_ok-before.before in
     let old = state g.S.Store c.args.conn.now in
@@ -22,7 +23,7 @@ returns-clause-ok g c clean =
 
 pub returns-clause-crash : goal.returns-clause-crash
 returns-clause-crash g c =
-    let entry : Entry = record { client = c.args.client.now; number = c.args.number; ask = c.args.ask.now; status = c.args.status; body = c.args.body.now } in
+    let entry = kept_reply c.args.client.now c.args.number c.args.ask.now c.args.status c.args.body.now in
     let change = c.args.change.now in
     let told = c.in_ok-before.before in
     let old = state g.S.Store c.args.conn.now in

@@ -1,6 +1,7 @@
 use Rattle.sqlite.specs.Held.{state}
-use Rattle.job_core.specs.Contents.{Entry, IsOwedRelease, released}
+use Rattle.job_core.specs.Contents.{IsOwedRelease, released}
 use Rattle.sql_rows.specs.Image.{Moves}
+use Rattle.table_rows.specs.Kept.{kept_reply}
 use Rattle.store_commits.specs.Written.{rows_written}
 use Rattle.store_commits.specs.declared.writing.Writing.TheVariants as writing
 use Rattle.schema.specs.Takes.{Takes}
@@ -9,14 +10,14 @@ use Rattle.schema.proofs.keeping.release.Goals as goal
 
 pub returns-clause-ok : goal.returns-clause-ok
 returns-clause-ok g c clean =
-    let entry : Entry = record { client = c.args.client.now; number = c.args.number; ask = c.args.ask.now; status = c.args.status; body = c.args.body.now } in
+    let entry = kept_reply c.args.client.now c.args.number c.args.ask.now c.args.status c.args.body.now in
     let upto = c.args.upto in
     ends_as (Moves (rows_written (writing.Release upto) entry)) (Takes (IsOwedRelease upto entry) (λ d. released d upto entry)) (state g.S.Store c.args.conn.now) (state g.S.Store c.commit.new.conn)
     (release_taken c.rows_after_release.ensures upto entry _) c.commit.result (c.commit.ensures.ok clean)
 
 pub returns-clause-crash : goal.returns-clause-crash
 returns-clause-crash g c =
-    let entry : Entry = record { client = c.args.client.now; number = c.args.number; ask = c.args.ask.now; status = c.args.status; body = c.args.body.now } in
+    let entry = kept_reply c.args.client.now c.args.number c.args.ask.now c.args.status c.args.body.now in
     let upto = c.args.upto in
     left_as (Moves (rows_written (writing.Release upto) entry)) (Takes (IsOwedRelease upto entry) (λ d. released d upto entry)) (state g.S.Store c.args.conn.now) (state g.S.Store c.commit.new.conn)
     (release_taken c.rows_after_release.ensures upto entry _) c.commit.ensures.crash

@@ -5,11 +5,12 @@ use Rattle.sql_base.specs.Ends.{Ends, IsKept, IsLeft}
 use Rattle.sql_rows.specs.Image.{Moves}
 use Rattle.store_commits.specs.Written.{rows_written}
 use Rattle.sql_base.proofs.Ending.{crash_of, ok_of, err_of, dropped, crash_undone, settled_if}
+use Rattle.table_rows.specs.Kept.{kept_reply}
 use Rattle.store_commits.proofs.commits.commit.Goals as goal
 
 pub returns-clause-ok : goal.returns-clause-ok
 returns-clause-ok g c clean =
-    let taken = Moves (rows_written c.args.writing.now (record { client = c.args.client.now; number = c.args.number; ask = c.args.ask.now; status = c.args.status; body = c.args.body.now })) in
+    let taken = Moves (rows_written c.args.writing.now (kept_reply c.args.client.now c.args.number c.args.ask.now c.args.status c.args.body.now)) in
     let old = c.args.conn.now in
     let mid = c.write_all.new.tx.conn.now in
     let end = c.commit.new.self.0 in
@@ -21,7 +22,7 @@ returns-clause-ok g c clean =
 
 pub returns-clause-err : goal.returns-clause-err
 returns-clause-err g c clean =
-    let taken = Moves (rows_written c.args.writing.now (record { client = c.args.client.now; number = c.args.number; ask = c.args.ask.now; status = c.args.status; body = c.args.body.now })) in
+    let taken = Moves (rows_written c.args.writing.now (kept_reply c.args.client.now c.args.number c.args.ask.now c.args.status c.args.body.now)) in
     let old = c.args.conn.now in
     let mid = c.write_all.new.tx.conn.now in
     let end = c.commit.new.self.0 in
@@ -34,7 +35,7 @@ returns-clause-err g c clean =
 
 pub returns-clause-crash : goal.returns-clause-crash
 returns-clause-crash g c =
-    let taken = Moves (rows_written c.args.writing.now (record { client = c.args.client.now; number = c.args.number; ask = c.args.ask.now; status = c.args.status; body = c.args.body.now })) in
+    let taken = Moves (rows_written c.args.writing.now (kept_reply c.args.client.now c.args.number c.args.ask.now c.args.status c.args.body.now)) in
     let old = c.args.conn.now in
     let mid = c.write_all.new.tx.conn.now in
     let end = c.commit.new.self.0 in
@@ -44,7 +45,7 @@ returns-clause-crash g c =
 
 pub returns-in_err-write_all-clause-err : goal.returns-in_err-write_all-clause-err
 returns-in_err-write_all-clause-err g c clean =
-    let taken = Moves (rows_written c.args.writing.now (record { client = c.args.client.now; number = c.args.number; ask = c.args.ask.now; status = c.args.status; body = c.args.body.now })) in
+    let taken = Moves (rows_written c.args.writing.now (kept_reply c.args.client.now c.args.number c.args.ask.now c.args.status c.args.body.now)) in
     let old = c.args.conn.now in
     let mid = c.write_all.new.tx.conn.now in
     let end = c.drop-tx.new.self.0 in
@@ -57,7 +58,7 @@ returns-in_err-write_all-clause-err g c clean =
 
 pub returns-in_err-write_all-clause-crash : goal.returns-in_err-write_all-clause-crash
 returns-in_err-write_all-clause-crash g c =
-    let taken = Moves (rows_written c.args.writing.now (record { client = c.args.client.now; number = c.args.number; ask = c.args.ask.now; status = c.args.status; body = c.args.body.now })) in
+    let taken = Moves (rows_written c.args.writing.now (kept_reply c.args.client.now c.args.number c.args.ask.now c.args.status c.args.body.now)) in
     let old = c.args.conn.now in
     let mid = c.write_all.new.tx.conn.now in
     let end = c.drop-tx.new.self.0 in

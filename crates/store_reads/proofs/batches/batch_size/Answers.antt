@@ -21,7 +21,7 @@ returns-clause-value g c =
     let old = state g.S.Store c.args.conn.now in
     let mid = state g.S.Store c.batch_head.new.conn in
     let new = state g.S.Store c.grouping_count.new.conn in
-    shown_then old mid new _ _ _ (record { kept = c.batch_head.ensures.kept; survives = c.batch_head.ensures.survives }) (record { kept = c.grouping_count.ensures.kept; survives = c.grouping_count.ensures.survives })
+    shown_then old mid new _ _ _ c.batch_head.ensures.looks c.grouping_count.ensures.looks
     (shown old mid _ _ (rw c.in-Some.is at c.in_ok-head.ensures.found) (λ d sound is. is (c.batches_by_name.ensures.once d.facts n sound.facts)))
     (shown mid new _ _ c.in_ok-rows.ensures.found (λ d sound is. is))
     (λ d sound one two.

@@ -19,7 +19,7 @@ returns-clause-value g c =
     let old = state g.S.Store c.args.conn.now in
     let mid = state g.S.Store c.batch_id.new.conn in
     let new = state g.S.Store c.first_waiting.new.conn in
-    shown_then old mid new _ _ _ (record { kept = c.batch_id.ensures.kept; survives = c.batch_id.ensures.survives }) (record { kept = c.first_waiting.ensures.kept; survives = c.first_waiting.ensures.survives })
+    shown_then old mid new _ _ _ c.batch_id.ensures.looks c.first_waiting.ensures.looks
     (shown old mid _ _ (rw c.in-Some.is at c.in_ok-id.ensures.found) (λ d sound is. is (c.batches_by_name.ensures.once d.facts b sound.facts)))
     (shown mid new _ _ c.in_ok-found.ensures.found (λ d sound is. is))
     (λ d sound one two.

@@ -21,7 +21,7 @@ returns-clause-value g c =
     told old new c.totals_told.result
     (λ d. IsPermutation (map lot_row_of (filter (is_lot_for p) (stored_lots d.facts))) lots × IsPermutation (map head_of (filter (is_batch_for p) (stored_batches d.facts))) heads)
     (λ totals. totals ≡ totals_told lots heads) _
-    (shown_then old mid new _ _ _ (record { kept = c.lots_of.ensures.kept; survives = c.lots_of.ensures.survives }) (record { kept = c.batches_of.ensures.kept; survives = c.batches_of.ensures.survives })
+    (shown_then old mid new _ _ _ c.lots_of.ensures.looks c.batches_of.ensures.looks
     (shown old mid _ _ c.in_ok-lots.ensures.found (λ d sound is. is)) (shown mid new _ _ c.in_ok-heads.ensures.found (λ d sound is. is)) (λ d sound one two. (one, two)))
     (rw (c.as_slice.ensures.value, c.as_slice-2.ensures.value) at c.totals_told.ensures)
     (λ d sound both totals made.

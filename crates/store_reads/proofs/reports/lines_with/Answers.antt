@@ -22,7 +22,7 @@ returns-clause-value g c =
     told old new c.lines_told.result
     (λ d. AreSorted place_of (map record_at (filter (is_record_of id) (stored_records d.facts))) records × IsPermutation (map good_at (filter (is_good_of id) (stored_sessions d.facts))) good)
     (λ lines. (lines.items ≡ map (line_told good) records) × ((k : ℕ) → count_by (is_card_at k) good ≤ 1)) _
-    (shown_then old mid new _ _ _ (record { kept = c.records_of.ensures.kept; survives = c.records_of.ensures.survives }) (record { kept = c.good_sessions.ensures.kept; survives = c.good_sessions.ensures.survives })
+    (shown_then old mid new _ _ _ c.records_of.ensures.looks c.good_sessions.ensures.looks
     (shown old mid _ _ c.in_ok-records.ensures.found (λ d sound is. is)) (shown mid new _ _ c.in_ok-good.ensures.found (λ d sound is. is)) (λ d sound one two. (one, two)))
     (ok_both c.lines_told.result _ _ (rw (c.as_slice.ensures.value, c.as_slice-2.ensures.value) at c.lines_told.ensures.value) (rw c.as_slice-2.ensures.value at c.lines_told.ensures.once))
     (λ d sound both lines made.

@@ -19,7 +19,7 @@ returns-clause-value g c =
     let new = state g.S.Store c.lines_with.new.conn in
     told_then old mid new c.lines_with.result (λ d. found ≡ option_map (λ (row : StoredBatch). row.id) (find (is_batch_named b) (stored_batches d.facts)))
     (λ d lines. lines.items ≡ lines_with d.facts (unwrap_or found 0)) _
-    (record { kept = c.batch_id.ensures.kept; survives = c.batch_id.ensures.survives }) c.lines_with.ensures.looks
+    c.batch_id.ensures.looks c.lines_with.ensures.looks
     (shown old mid _ _ c.in_ok-batch_id.ensures.found (λ d sound is. is (c.batches_by_name.ensures.once d.facts b sound.facts)))
     (rw c.unwrap_or-id.ensures at c.lines_with.ensures.value)
     (λ d sound one lines two. two ∙ lines_by_id d.facts b found one ∙ sym (c.lines_by_rows.ensures d.facts b sound.facts))

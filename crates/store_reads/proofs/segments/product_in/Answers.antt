@@ -16,7 +16,7 @@ returns-clause-value g c =
     let old = state g.S.Store c.args.conn.now in
     let mid = state g.S.Store c.batch_head.new.conn in
     let new = state g.S.Store c.product.new.conn in
-    shown_then old mid new _ _ _ (record { kept = c.batch_head.ensures.kept; survives = c.batch_head.ensures.survives }) (record { kept = c.product.ensures.kept; survives = c.product.ensures.survives })
+    shown_then old mid new _ _ _ c.batch_head.ensures.looks c.product.ensures.looks
     (shown old mid _ _ (rw c.in-Some.is at c.in_ok-head.ensures.found) (λ d sound is. is (c.batches_by_name.ensures.once d.facts b sound.facts)))
     (shown mid new _ _ c.in_ok-found.ensures.found (λ d sound is. is sound.facts.named.products.once))
     (λ d sound one two. c.with_id.ensures ∙ product_told d.facts b c.in-Some.head one c.in_ok-found.found two)

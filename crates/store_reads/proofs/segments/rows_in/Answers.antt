@@ -19,8 +19,8 @@ returns-clause-value g c =
     let old = state g.S.Store c.args.conn.now in
     let mid = state g.S.Store c.record_named.new.conn in
     let new = state g.S.Store c.groupings_of.new.conn in
-    shown_then old mid new _ _ _ (record { kept = c.record_named.ensures.kept; survives = c.record_named.ensures.survives })
-    (record { kept = c.groupings_of.ensures.kept; survives = c.groupings_of.ensures.survives })
+    shown_then old mid new _ _ _ c.record_named.ensures.looks
+    c.groupings_of.ensures.looks
     (shown old mid _ _ (rw c.in-Some.is at c.in_ok-found.ensures.found) (λ d sound is. is (c.records_by_name.ensures.once d.facts id r)))
     (shown mid new _ _ c.in_ok-groupings.ensures.found (λ d sound is. is))
     (λ d sound one two.

@@ -20,7 +20,7 @@ returns-in_default-2-clause-value g c =
     let one = state g.S.Store c.args.conn.now in
     let two = state g.S.Store c.session.new.conn in
     let three = state g.S.Store c.batch_name.new.conn in
-    shown_then one two three _ _ _ (record { kept = c.session.ensures.kept; survives = c.session.ensures.survives }) (record { kept = c.batch_name.ensures.kept; survives = c.batch_name.ensures.survives })
+    shown_then one two three _ _ _ c.session.ensures.looks c.batch_name.ensures.looks
     (shown one two _ _ (rw c.in-Some.is at c.in_ok-found.ensures.found) (λ d sound is. is (c.sessions_by_number.ensures.once d.facts id)))
     (shown two three _ _ (rw c.in_default-2.is at c.in_ok-batch.ensures.found) (λ d sound is. is (c.batches_by_id.ensures.once d.facts s.batch)))
     (λ d sound first second.
@@ -35,8 +35,8 @@ returns-in_default-3-clause-value g c =
     let two = state g.S.Store c.session.new.conn in
     let three = state g.S.Store c.batch_name.new.conn in
     let four = state g.S.Store c.record_at.new.conn in
-    shown_third one two three four _ _ _ _ (record { kept = c.session.ensures.kept; survives = c.session.ensures.survives }) (record { kept = c.batch_name.ensures.kept; survives = c.batch_name.ensures.survives })
-    (record { kept = c.record_at.ensures.kept; survives = c.record_at.ensures.survives })
+    shown_third one two three four _ _ _ _ c.session.ensures.looks c.batch_name.ensures.looks
+    c.record_at.ensures.looks
     (shown one two _ _ (rw c.in-Some.is at c.in_ok-found.ensures.found) (λ d sound is. is (c.sessions_by_number.ensures.once d.facts id)))
     (shown two three _ _ (rw c.in-Some-2.is at c.in_ok-batch.ensures.found) (λ d sound is. is (c.batches_by_id.ensures.once d.facts s.batch)))
     (shown three four _ _ (rw c.in_default-3.is at c.in_ok-card.ensures.found) (λ d sound is. is (c.records_by_place.ensures.once d.facts s.batch s.place)))
@@ -52,8 +52,8 @@ returns-clause-value g c =
     let two = state g.S.Store c.session.new.conn in
     let three = state g.S.Store c.batch_name.new.conn in
     let four = state g.S.Store c.record_at.new.conn in
-    shown_third one two three four _ _ _ _ (record { kept = c.session.ensures.kept; survives = c.session.ensures.survives }) (record { kept = c.batch_name.ensures.kept; survives = c.batch_name.ensures.survives })
-    (record { kept = c.record_at.ensures.kept; survives = c.record_at.ensures.survives })
+    shown_third one two three four _ _ _ _ c.session.ensures.looks c.batch_name.ensures.looks
+    c.record_at.ensures.looks
     (shown one two _ _ (rw c.in-Some.is at c.in_ok-found.ensures.found) (λ d sound is. is (c.sessions_by_number.ensures.once d.facts id)))
     (shown two three _ _ (rw c.in-Some-2.is at c.in_ok-batch.ensures.found) (λ d sound is. is (c.batches_by_id.ensures.once d.facts s.batch)))
     (shown three four _ _ (rw c.in-Some-3.is at c.in_ok-card.ensures.found) (λ d sound is. is (c.records_by_place.ensures.once d.facts s.batch s.place)))

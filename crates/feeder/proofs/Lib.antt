@@ -1,0 +1,12 @@
+pub mod Readings
+pub mod Blanks
+pub mod Replies
+pub mod Fine
+pub mod Going
+pub mod Rows
+pub mod Calls
+pub mod Arriving
+pub mod Events
+pub mod Lines
+pub mod Recorded
+pub mod Whole

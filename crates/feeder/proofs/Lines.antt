@@ -1,0 +1,94 @@
+-- What follows of a shop floor where all that stays true is true.
+use Rattle.std.proofs.Common.{◌≡◌, ◌≤◌, ◌<◌, ◌*◌, ◌==◌, ℕ, true, List, [], ◌∷◌, ◌++◌, length, length-append, refl, sym, ap, ◌∙◌, subst, inl, inr, append-nil, arith}
+use Rattle.std.specs.Prelude.{filter}
+use Rattle.std.proofs.lemmas.Bool.{le-leb}
+use Rattle.std.proofs.lemmas.List.{length-map}
+use Rattle.std.proofs.lemmas.List.Elements.{All-weaker}
+use Rattle.std.proofs.lemmas.Option.{same_Some}
+use Rattle.store_data.specs.Sequence.{Command}
+use Rattle.job_core.specs.declared.reply.Reply.{Reply}
+use Rattle.job_core.specs.declared.request.Call.{Call}
+use Rattle.job_core.specs.declared.request.Call.TheVariants.{Release}
+use Rattle.job_core.specs.Facts.{Facts, Session}
+use Rattle.job_core.specs.States.{commands_for, session_numbered}
+use Rattle.job_core.specs.Contents.{Mark, mark_of}
+use Rattle.step_laws.proofs.GoodCards.{good_whole, one_good, one_of_blank}
+use Rattle.arrivals.specs.Told.{Told, status_of}
+use Rattle.arrivals.specs.Meaning.{contents_after, is_released}
+use Rattle.arrivals.proofs.MeaningLemmas.{contents_released}
+use Rattle.feeder.specs.declared.world.Stop.{Stop}
+use Rattle.feeder.specs.declared.world.Stop.TheVariants.{No, Before, After}
+use Rattle.feeder.specs.Table.{number_at}
+use Rattle.feeder.specs.World.{Packet, World, arrival_of, arrives, is_name_of}
+use Rattle.feeder.specs.ShopFloor.{CardsAreCharged, GoodCardsAreWhole, IsSessionOf, OldBootsAreOver, PutOutIsCounted, RecordsHaveOneCard, sequence_of}
+use Rattle.feeder.proofs.Blanks.{only_of_blank}
+use Rattle.feeder.proofs.Fine.{Fine, Fits, IsDecidedFine, IsFinePacket, got}
+use Rattle.feeder.proofs.Going.{all_at}
+
+module _ (names : List (List ℕ)) (w : World) (fine : Fine names w) where
+  abbrev f : Facts
+  f = w.contents.facts
+
+  one_session : (serial : ℕ) (x y : Session) → IsSessionOf f serial x → IsSessionOf f serial y → x ≡ y
+  one_session serial x y is_x is_y =
+      same_Some x y (sym is_x.there ∙ ap (session_numbered f.sessions) (one_of_blank f is_x.number is_y.number x y fine.sound is_x.there is_y.there (is_x.blank ∙ sym is_y.blank)) ∙ is_y.there)
+
+  whole_by : (received rest seq : List (List ℕ)) → length seq ≤ length received → received ++ rest ≡ seq → received ≡ seq
+  whole_by received [] seq long is = sym (append-nil received) ∙ is
+  whole_by received (c ∷ rest) seq long is = absurd (omega (arith, long, length-append received (c ∷ rest), ap (λ (xs : List (List ℕ)). length xs) is))
+
+  none_by : (seq : List (List ℕ)) → length seq ≤ 0 → [] ≡ seq
+  none_by [] few = refl
+  none_by (c ∷ seq) few = absurd (omega arith)
+
+  pub whole : GoodCardsAreWhole w
+  whole serial x is good =
+      let long : length (sequence_of f x) ≡ length (commands_for f x.batch x.rec) = length-map (commands_for f x.batch x.rec) (λ (c : Command). c.bytes) in
+      let words = fine.words is.number x is.there in
+      let at : got w.cards x.blank ≡ length (w.cards serial).received = ap (got w.cards) is.blank in
+      let enough : length (sequence_of f x) ≤ length (w.cards serial).received = omega (arith, long, words, at, (good_whole f is.number x fine.sound is.there good).0) in
+      elim (fine.cards serial) [
+        | inl none ↦ none ∙ none_by (sequence_of f x) (omega (arith, enough, ap (λ (xs : List (List ℕ)). length xs) none))
+        | inr has ↦
+            let same : sequence_of f has.0 ≡ sequence_of f x = ap (sequence_of f) (one_session serial has.0 x has.1 is) in
+            whole_by (w.cards serial).received has.2.0 (sequence_of f x) enough (has.2.1 ∙ same)
+      ]
+
+  pub charged : CardsAreCharged w
+  charged serial some = elim (fine.cards serial) [
+    | inl none ↦ absurd (some none)
+    | inr has ↦ (has.0, ap (λ b. filter (λ (y : Session). y.blank == b) f.sessions) (sym has.1.blank) ∙ only_of_blank f has.1.number has.0 fine.sound has.1.there, has.2)
+  ]
+
+  pub one_card : RecordsHaveOneCard w
+  one_card one two x y is_x is_y good_x good_y batch rec =
+      let number = one_good f is_x.number is_y.number x y fine.sound is_x.there is_y.there good_x good_y (sym batch) (sym rec) in
+      let same : x ≡ y = same_Some x y (sym is_x.there ∙ ap (session_numbered f.sessions) number ∙ is_y.there) in
+      sym is_x.blank ∙ ap (λ (z : Session). z.blank) same ∙ is_y.blank
+
+  pub put_out : PutOutIsCounted w
+  put_out = fine.put_out
+
+  fits_release : (marks : List Mark) (m : List ℕ) (call : Call) (upto : ℕ) (r : Reply) → call ≡ Release upto → Fits f marks m call r → status_of r ≡ 200 → upto ≤ mark_of marks m
+  fits_release marks m call upto r is fits = let P : Call → Type 0 = λ c. Fits f marks m c r in subst P is fits
+
+  pub old_boots : OldBootsAreOver w
+  old_boots machine boot is = All-weaker (IsFinePacket f w.cards w.machines w.boots) (λ (p : Packet). p.machine ≡ machine → p.boot < boot → (stop : Stop) → (arrives w (arrival_of p) stop).contents ≡ w.contents)
+      (λ p one own below.
+      let listed : is_name_of names is.release.arrival.client ≡ true = ap (is_name_of names) (is.client ∙ sym own) ∙ (fine.machines p.machine one.sender one.there).listed in
+      let answer = all_at (IsDecidedFine names f w.contents.marks w.cards w.machines w.packets) w.decided is.at is.release fine.decided is.there listed in
+      let told = answer.told in
+      let ok : status_of told.reply ≡ 200 = ap (λ (t : Told). t.status) told.text ∙ is.accepted in
+      let upto : boot * 10000000 ≤ mark_of w.contents.marks told.packet.machine = fits_release w.contents.marks told.packet.machine told.packet.call (boot * 10000000) told.reply (answer.call ∙ is.request) told.fits ok in
+      let here : mark_of w.contents.marks told.packet.machine ≡ mark_of w.contents.marks p.machine = ap (mark_of w.contents.marks) (told.client_is ∙ is.client ∙ sym own) in
+      let most = one.sent.most in
+      let under : number_at p.boot p.place ≤ mark_of w.contents.marks p.machine = omega (arith, upto, here, below, most) in
+      let gone : is_released w.contents.marks (arrival_of p) ≡ true = le-leb (number_at p.boot p.place) (mark_of w.contents.marks p.machine) under in
+      let same : contents_after w.contents (arrival_of p ∷ []) ≡ w.contents = contents_released w.contents (arrival_of p) fine.above gone in
+      by_stop p same)
+      w.packets fine.packets
+    where
+      by_stop : (p : Packet) → contents_after w.contents (arrival_of p ∷ []) ≡ w.contents → (stop : Stop) → (arrives w (arrival_of p) stop).contents ≡ w.contents
+      by_stop p same Before = refl
+      by_stop p same After = same
+      by_stop p same No = same

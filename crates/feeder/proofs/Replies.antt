@@ -1,0 +1,219 @@
+-- What the replies of the plain machine say to machines, and go on to say.
+use Rattle.std.proofs.Common.{◌≡◌, ◌<◌, ◌+◌, ℕ, List, length, Some, refl, sym, ap, ◌∙◌, arith}
+use Rattle.std.specs.Prelude.{false, slice_get, ⊤}
+use Rattle.job_core.specs.declared.facts.SessionState.TheVariants as session
+use Rattle.job_core.specs.declared.reply.Reply.{Reply}
+use Rattle.job_core.specs.declared.reply.Reply.TheVariants as reply
+use Rattle.job_core.specs.declared.request.Request.{Request}
+use Rattle.job_core.specs.declared.request.Request.TheVariants as request
+use Rattle.job_core.specs.Facts.{Facts, Session, new_session}
+use Rattle.job_core.specs.Sound.{IsSound}
+use Rattle.job_core.specs.States.{command_at, command_bytes, commands_for, is_charged, session_numbered, session_state}
+use Rattle.job_core.proofs.Lists.{item_there}
+use Rattle.step_laws.specs.Later.{IsLaterSession, Later}
+use Rattle.step_laws.specs.Ranges.{IsRangedReply}
+use Rattle.step_laws.specs.Replies.{MayBeTold, Says}
+use Rattle.step_laws.proofs.GoodCards.{running_begun}
+use Rattle.arrivals.specs.Commands.{IsCommand}
+use Rattle.wire.specs.ReplyText.{IsReply}
+
+-- an opening that is told a command opened this session of its blank, and the command is its record's first
+abbrev pub OpenFits : Facts → List ℕ → ℕ → Reply → Type 0
+OpenFits f client blank (reply.Opened batch told command rec s) = (x : Session) × (session_numbered f.sessions s ≡ Some x) × (x.machine ≡ client) × (x.blank ≡ blank) × IsCommand f x.batch x.rec 0 command
+OpenFits f client blank _ = ⊤
+
+-- an answer that is told a command is told the next of its session's record, and one that is told good made its session good
+abbrev pub AnswerFits : Facts → List ℕ → ℕ → ℕ → Reply → Type 0
+AnswerFits f client s k (reply.Next command index told) =
+    (told ≡ s) × (index ≡ k + 1) × (x : Session) × (session_numbered f.sessions s ≡ Some x) × (x.machine ≡ client) × IsCommand f x.batch x.rec index command
+AnswerFits f client s k (reply.Good told) = (told ≡ s) × (x : Session) × (session_numbered f.sessions s ≡ Some x) × (session_state f x ≡ session.Good)
+AnswerFits f client s k _ = ⊤
+
+-- ---- for good
+
+command_later : (f g : Facts) (b r c q : List ℕ) (k : ℕ) (command : List ℕ) → c ≡ b → q ≡ r → commands_for g b r ≡ commands_for f b r → IsCommand f b r k command → IsCommand g c q k command
+command_later f g b r c q k command batch rec same is =
+    let here : commands_for g c q ≡ commands_for f b r = ap (λ n. commands_for g n q) batch ∙ ap (commands_for g b) rec ∙ same in
+    (is.0, ap (λ cs. slice_get cs k) here ∙ is.1, is.2)
+
+-- a good session stays good
+pub good_later : (f g : Facts) (s : ℕ) (x : Session) (y : IsLaterSession f g s x) → session_state f x ≡ session.Good → session_state g y.now ≡ session.Good
+good_later f g s x y good =
+    let over = y.over (λ runs. running_apart (sym runs ∙ good)) in
+    ap (session_state g) over.0 ∙ over.1 ∙ good
+  where
+    running_apart : session.Running ≡ session.Good → ⊥
+    running_apart e = cc
+
+pub open_later : (f g : Facts) (client : List ℕ) (blank : ℕ) (r : Reply) → Later f g → OpenFits f client blank r → OpenFits g client blank r
+open_later f g client blank (reply.Opened batch told command rec s) later fits =
+    let y = later s fits.0 fits.1 in
+    (y.now, y.there, y.machine ∙ fits.2, y.blank ∙ fits.3, command_later f g fits.0.batch fits.0.rec y.now.batch y.now.rec 0 command y.batch y.rec y.commands fits.4)
+open_later f g client blank (reply.Product p made) later fits = tt
+open_later f g client blank (reply.Lot l made) later fits = tt
+open_later f g client blank (reply.Import b records made rows) later fits = tt
+open_later f g client blank (reply.Next command k s) later fits = tt
+open_later f g client blank (reply.Good s) later fits = tt
+open_later f g client blank (reply.Spoiled s) later fits = tt
+open_later f g client blank (reply.Reset s) later fits = tt
+open_later f g client blank (reply.Discarded other) later fits = tt
+open_later f g client blank (reply.Waiting b rec) later fits = tt
+open_later f g client blank (reply.Withdrawn b rec) later fits = tt
+open_later f g client blank (reply.Closed b) later fits = tt
+open_later f g client blank (reply.Refused why) later fits = tt
+open_later f g client blank (reply.Busy s) later fits = tt
+open_later f g client blank (reply.Released mark) later fits = tt
+open_later f g client blank (reply.NumberReleased mark) later fits = tt
+open_later f g client blank (reply.Faulty fault) later fits = tt
+
+pub answer_later : (f g : Facts) (client : List ℕ) (s k : ℕ) (r : Reply) → Later f g → AnswerFits f client s k r → AnswerFits g client s k r
+answer_later f g client s k (reply.Next command index told) later fits =
+    let y = later s fits.2 fits.3 in
+    (fits.0, fits.1, y.now, y.there, y.machine ∙ fits.4, command_later f g fits.2.batch fits.2.rec y.now.batch y.now.rec index command y.batch y.rec y.commands fits.5)
+answer_later f g client s k (reply.Good told) later fits =
+    let y = later s fits.1 fits.2 in
+    (fits.0, y.now, y.there, good_later f g s fits.1 y fits.3)
+answer_later f g client s k (reply.Product p made) later fits = tt
+answer_later f g client s k (reply.Lot l made) later fits = tt
+answer_later f g client s k (reply.Import b records made rows) later fits = tt
+answer_later f g client s k (reply.Opened b blank command rec told) later fits = tt
+answer_later f g client s k (reply.Spoiled told) later fits = tt
+answer_later f g client s k (reply.Reset told) later fits = tt
+answer_later f g client s k (reply.Discarded blank) later fits = tt
+answer_later f g client s k (reply.Waiting b rec) later fits = tt
+answer_later f g client s k (reply.Withdrawn b rec) later fits = tt
+answer_later f g client s k (reply.Closed b) later fits = tt
+answer_later f g client s k (reply.Refused why) later fits = tt
+answer_later f g client s k (reply.Busy told) later fits = tt
+answer_later f g client s k (reply.Released mark) later fits = tt
+answer_later f g client s k (reply.NumberReleased mark) later fits = tt
+answer_later f g client s k (reply.Faulty fault) later fits = tt
+
+-- ---- at the step
+
+-- command k of a running session's record, where the session has k words
+command_is : (g : Facts) (s k : ℕ) (x : Session) (command : List ℕ) → IsSound g → session_numbered g.sessions s ≡ Some x → session_state g x ≡ session.Running → length x.words ≡ k
+    → command ≡ command_at g x.batch x.rec k → IsCommand g x.batch x.rec k command
+command_is g s k x command sound there runs words is =
+    let commands = commands_for g x.batch x.rec in
+    let left : length x.words < length commands = (running_begun g s x sound there runs).0 in
+    let c = item_there commands k (omega (arith, left, words)) in
+    (c.0, c.1, is ∙ ap command_bytes c.1)
+
+pub open_says : (f g : Facts) (client b : List ℕ) (blank : ℕ) (r : Reply) → IsSound g → MayBeTold (request.Open b blank) r → Says f g client r → OpenFits g client blank r
+open_says f g client b blank (reply.Opened batch told command rec s) sound may says =
+    let x : Session = new_session client batch rec told in
+    (x, says.1.there, refl, may.1, command_is g s 0 x command sound says.1.there says.1.stands refl says.3)
+open_says f g client b blank (reply.Product p made) sound may says = tt
+open_says f g client b blank (reply.Lot l made) sound may says = tt
+open_says f g client b blank (reply.Import c records made rows) sound may says = tt
+open_says f g client b blank (reply.Next command k s) sound may says = tt
+open_says f g client b blank (reply.Good s) sound may says = tt
+open_says f g client b blank (reply.Spoiled s) sound may says = tt
+open_says f g client b blank (reply.Reset s) sound may says = tt
+open_says f g client b blank (reply.Discarded other) sound may says = tt
+open_says f g client b blank (reply.Waiting c rec) sound may says = tt
+open_says f g client b blank (reply.Withdrawn c rec) sound may says = tt
+open_says f g client b blank (reply.Closed c) sound may says = tt
+open_says f g client b blank (reply.Refused why) sound may says = tt
+open_says f g client b blank (reply.Busy s) sound may says = tt
+open_says f g client b blank (reply.Released mark) sound may says = tt
+open_says f g client b blank (reply.NumberReleased mark) sound may says = tt
+open_says f g client b blank (reply.Faulty fault) sound may says = tt
+
+pub answer_says : (f g : Facts) (client : List ℕ) (s k sw : ℕ) (r : Reply) → IsSound g → MayBeTold (request.Answer s k sw) r → Says f g client r → AnswerFits g client s k r
+answer_says f g client s k sw (reply.Next command index told) sound may says =
+    let x = says.0 in
+    let own = says.1 in
+    (may.0, may.1, x, ap (session_numbered g.sessions) (sym may.0) ∙ own.there, own.own, command_is g told index x command sound own.there own.stands says.2 says.3)
+answer_says f g client s k sw (reply.Good told) sound may says =
+    let own = says.1 in
+    (may, says.0, ap (session_numbered g.sessions) (sym may) ∙ own.there, own.stands)
+answer_says f g client s k sw (reply.Product p made) sound may says = tt
+answer_says f g client s k sw (reply.Lot l made) sound may says = tt
+answer_says f g client s k sw (reply.Import b records made rows) sound may says = tt
+answer_says f g client s k sw (reply.Opened b blank command rec told) sound may says = tt
+answer_says f g client s k sw (reply.Spoiled told) sound may says = tt
+answer_says f g client s k sw (reply.Reset told) sound may says = tt
+answer_says f g client s k sw (reply.Discarded blank) sound may says = tt
+answer_says f g client s k sw (reply.Waiting b rec) sound may says = tt
+answer_says f g client s k sw (reply.Withdrawn b rec) sound may says = tt
+answer_says f g client s k sw (reply.Closed b) sound may says = tt
+answer_says f g client s k sw (reply.Refused why) sound may says = tt
+answer_says f g client s k sw (reply.Busy told) sound may says = tt
+answer_says f g client s k sw (reply.Released mark) sound may says = tt
+answer_says f g client s k sw (reply.NumberReleased mark) sound may says = tt
+answer_says f g client s k sw (reply.Faulty fault) sound may says = tt
+
+-- what is opened had no charge
+abbrev pub OpensFree : Facts → ℕ → Reply → Type 0
+OpensFree f blank (reply.Opened batch told command rec s) = is_charged f blank ≡ false
+OpensFree f blank _ = ⊤
+
+pub opens_free : (f g : Facts) (client b : List ℕ) (blank : ℕ) (r : Reply) → MayBeTold (request.Open b blank) r → Says f g client r → OpensFree f blank r
+opens_free f g client b blank (reply.Opened batch told command rec s) may says = ap (is_charged f) (sym may.1) ∙ says.2
+opens_free f g client b blank (reply.Product p made) may says = tt
+opens_free f g client b blank (reply.Lot l made) may says = tt
+opens_free f g client b blank (reply.Import c records made rows) may says = tt
+opens_free f g client b blank (reply.Next command k s) may says = tt
+opens_free f g client b blank (reply.Good s) may says = tt
+opens_free f g client b blank (reply.Spoiled s) may says = tt
+opens_free f g client b blank (reply.Reset s) may says = tt
+opens_free f g client b blank (reply.Discarded other) may says = tt
+opens_free f g client b blank (reply.Waiting c rec) may says = tt
+opens_free f g client b blank (reply.Withdrawn c rec) may says = tt
+opens_free f g client b blank (reply.Closed c) may says = tt
+opens_free f g client b blank (reply.Refused why) may says = tt
+opens_free f g client b blank (reply.Busy s) may says = tt
+opens_free f g client b blank (reply.Released mark) may says = tt
+opens_free f g client b blank (reply.NumberReleased mark) may says = tt
+opens_free f g client b blank (reply.Faulty fault) may says = tt
+
+-- ---- ranges
+
+-- no request is told of marks
+never_released : (q : Request) (mark : ℕ) → MayBeTold q (reply.Released mark) → ⊥
+never_released (request.Product p) mark may = may
+never_released (request.Lot l) mark may = may
+never_released (request.Import b p raw) mark may = may
+never_released (request.Open b blank) mark may = may
+never_released (request.Answer s k sw) mark may = may
+never_released (request.Abort s) mark may = may
+never_released request.Reset mark may = may
+never_released (request.Discard blank) mark may = may
+never_released (request.Remake b r) mark may = may
+never_released (request.Withdraw b r) mark may = may
+never_released (request.Close b) mark may = may
+
+never_gone : (q : Request) (mark : ℕ) → MayBeTold q (reply.NumberReleased mark) → ⊥
+never_gone (request.Product p) mark may = may
+never_gone (request.Lot l) mark may = may
+never_gone (request.Import b p raw) mark may = may
+never_gone (request.Open b blank) mark may = may
+never_gone (request.Answer s k sw) mark may = may
+never_gone (request.Abort s) mark may = may
+never_gone request.Reset mark may = may
+never_gone (request.Discard blank) mark may = may
+never_gone (request.Remake b r) mark may = may
+never_gone (request.Withdraw b r) mark may = may
+never_gone (request.Close b) mark may = may
+
+-- what is told in its ranges can be read back
+pub reply_ranged : (q : Request) (r : Reply) → MayBeTold q r → IsRangedReply r → IsReply r
+reply_ranged q (reply.Product p made) may is = is
+reply_ranged q (reply.Lot l made) may is = is
+reply_ranged q (reply.Import b records made rows) may is = (is.0, omega (arith, is.1), omega (arith, is.2))
+reply_ranged q (reply.Opened b blank command rec s) may is = (is.0, omega (arith, is.1), is.2, is.3, omega (arith, is.4))
+reply_ranged q (reply.Next command k s) may is = (is.0, omega (arith, is.1), omega (arith, is.2))
+reply_ranged q (reply.Good s) may is = omega (arith, is)
+reply_ranged q (reply.Spoiled s) may is = omega (arith, is)
+reply_ranged q (reply.Reset s) may is = omega (arith, is)
+reply_ranged q (reply.Discarded blank) may is = omega (arith, is)
+reply_ranged q (reply.Waiting b rec) may is = is
+reply_ranged q (reply.Withdrawn b rec) may is = is
+reply_ranged q (reply.Closed b) may is = is
+reply_ranged q (reply.Refused why) may is = tt
+reply_ranged q (reply.Busy s) may is = omega (arith, is)
+reply_ranged q (reply.Released mark) may is = absurd (never_released q mark may)
+reply_ranged q (reply.NumberReleased mark) may is = absurd (never_gone q mark may)
+reply_ranged q (reply.Faulty fault) may is = omega (arith, is)

@@ -1,0 +1,36 @@
+use Rattle.feeder.specs.World.{at_first, machines_of, world_after}
+use Rattle.feeder.proofs.Lines.{charged, old_boots, one_card, put_out, whole}
+use Rattle.feeder.proofs.Readings.{readable}
+use Rattle.feeder.proofs.Recorded.{repeats_are_told, run_recorded, start_recorded}
+use Rattle.feeder.proofs.Whole.{world_fine}
+use Rattle.feeder.proofs.world.every_world.Goals as goal
+
+pub returns-clause-whole : goal.returns-clause-whole
+returns-clause-whole c = let es = c.args.events.now in λ reads back. whole (machines_of es) (world_after reads es) (world_fine reads es back c.requires)
+
+pub returns-clause-charged : goal.returns-clause-charged
+returns-clause-charged c = let es = c.args.events.now in λ reads back. charged (machines_of es) (world_after reads es) (world_fine reads es back c.requires)
+
+pub returns-clause-one_card : goal.returns-clause-one_card
+returns-clause-one_card c = let es = c.args.events.now in λ reads back. one_card (machines_of es) (world_after reads es) (world_fine reads es back c.requires)
+
+pub returns-clause-put_out : goal.returns-clause-put_out
+returns-clause-put_out c = let es = c.args.events.now in λ reads back. put_out (machines_of es) (world_after reads es) (world_fine reads es back c.requires)
+
+pub returns-clause-over : goal.returns-clause-over
+returns-clause-over c = let es = c.args.events.now in λ reads back. old_boots (machines_of es) (world_after reads es) (world_fine reads es back c.requires)
+
+pub returns-clause-meant : goal.returns-clause-meant
+returns-clause-meant c = let es = c.args.events.now in λ reads. (run_recorded reads (machines_of es) es at_first start_recorded).meant
+
+pub returns-clause-told : goal.returns-clause-told
+returns-clause-told c = let es = c.args.events.now in λ reads. (run_recorded reads (machines_of es) es at_first start_recorded).told
+
+pub returns-clause-acknowledged : goal.returns-clause-acknowledged
+returns-clause-acknowledged c = let es = c.args.events.now in λ reads. (run_recorded reads (machines_of es) es at_first start_recorded).acknowledged
+
+pub returns-clause-repeats : goal.returns-clause-repeats
+returns-clause-repeats c = let es = c.args.events.now in λ reads. repeats_are_told (world_after reads es) (run_recorded reads (machines_of es) es at_first start_recorded)
+
+pub returns-clause-reading : goal.returns-clause-reading
+returns-clause-reading c = readable

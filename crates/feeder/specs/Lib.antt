@@ -1,0 +1,5 @@
+pub mod Table
+pub mod Views
+pub mod Reading
+pub mod World
+pub mod ShopFloor

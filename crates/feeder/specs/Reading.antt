@@ -1,0 +1,13 @@
+-- How replies are told apart by their texts.
+use Rattle.std.specs.Prelude.{◌≡◌, Option, Some}
+use Rattle.job_core.specs.declared.reply.Reply.{Reply}
+use Rattle.arrivals.specs.Told.{Told, told_of}
+use Rattle.wire.specs.ReplyText.{IsReply}
+
+-- it finds each reply by its status and its body
+abbrev pub ReadsBack : (Told → Option Reply) → Type 0
+ReadsBack reads = (r : Reply) → IsReply r → reads (told_of r) ≡ Some r
+
+-- some reading does
+abbrev pub IsReadable : Type 0
+IsReadable = (reads : Told → Option Reply) × ReadsBack reads

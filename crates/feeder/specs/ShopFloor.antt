@@ -1,0 +1,123 @@
+-- What holds on a shop floor, whatever happens.
+use Rattle.std.specs.Prelude.{◌≡◌, ◌≢◌, ◌≤◌, ◌<◌, ◌^◌, ◌==◌, ℕ, true, false, List, [], ◌∷◌, ◌++◌, map, filter, take, All, slice_get, Some, ⊤}
+use Rattle.store_data.specs.Sequence.{Command}
+use Rattle.job_core.specs.declared.facts.SessionState.TheVariants as session
+use Rattle.job_core.specs.declared.request.Call.{Call}
+use Rattle.job_core.specs.declared.request.Call.TheVariants.{Job, Release}
+use Rattle.job_core.specs.Facts.{Facts, Session}
+use Rattle.job_core.specs.Requests.{IsCall}
+use Rattle.job_core.specs.Sound.{IsName}
+use Rattle.job_core.specs.States.{commands_for, session_numbered, session_state}
+use Rattle.job_core.specs.Contents.{no_contents}
+use Rattle.step_laws.specs.Ranges.{IsRanged}
+use Rattle.arrivals.specs.Meaning.{Arrived, contents_after, is_released, told_on}
+use Rattle.feeder.specs.declared.world.Event.{Event}
+use Rattle.feeder.specs.declared.world.Event.TheVariants as event
+use Rattle.feeder.specs.declared.world.Stop.{Stop}
+use Rattle.feeder.specs.Table.{number_at, release_of}
+use Rattle.feeder.specs.World.{Answered, Packet, World, arrival_of, arrives}
+
+-- ---- the facts of cards
+
+-- a session of the card with this serial
+pub record IsSessionOf (f : Facts) (serial : ℕ) (x : Session) : Type 0 where
+  pub number : ℕ
+  pub there : session_numbered f.sessions number ≡ Some x
+  pub blank : x.blank ≡ serial
+
+-- the card is counted good: it has a good session
+abbrev pub IsCountedGood : Facts → ℕ → Type 0
+IsCountedGood f serial = (x : Session) × IsSessionOf f serial x × (session_state f x ≡ session.Good)
+
+-- the sequence of a session's record
+abbrev pub sequence_of : Facts → Session → List (List ℕ)
+sequence_of f x = map (λ (c : Command). c.bytes) (commands_for f x.batch x.rec)
+
+abbrev pub IsBeginning : List (List ℕ) → List (List ℕ) → Type 0
+IsBeginning xs ys = (rest : List (List ℕ)) × (xs ++ rest ≡ ys)
+
+-- the card is charged to this session, and to no other
+abbrev pub IsChargedTo : Facts → ℕ → Session → Type 0
+IsChargedTo f serial x = filter (λ (y : Session). y.blank == serial) f.sessions ≡ x ∷ []
+
+-- ---- the shop floor
+
+-- a card counted good received exactly its record's sequence, each command once and in order
+abbrev pub GoodCardsAreWhole : World → Type 0
+GoodCardsAreWhole w = (serial : ℕ) (x : Session) → IsSessionOf w.contents.facts serial x → session_state w.contents.facts x ≡ session.Good
+    → (w.cards serial).received ≡ sequence_of w.contents.facts x
+
+-- a card that received any command is charged to one session, and received a beginning of the sequence of that session's record
+abbrev pub CardsAreCharged : World → Type 0
+CardsAreCharged w = (serial : ℕ) → (w.cards serial).received ≢ []
+    → (x : Session) × IsChargedTo w.contents.facts serial x × IsBeginning (w.cards serial).received (sequence_of w.contents.facts x)
+
+-- no record has two cards counted good
+abbrev pub RecordsHaveOneCard : World → Type 0
+RecordsHaveOneCard w = (one two : ℕ) (x y : Session) → IsSessionOf w.contents.facts one x → IsSessionOf w.contents.facts two y
+    → session_state w.contents.facts x ≡ session.Good → session_state w.contents.facts y ≡ session.Good
+    → x.batch ≡ y.batch → x.rec ≡ y.rec → one ≡ two
+
+-- a card that was put out as good is counted good
+abbrev pub PutOutIsCounted : World → Type 0
+PutOutIsCounted w = (serial : ℕ) → (w.cards serial).is_good ≡ true → IsCountedGood w.contents.facts serial
+
+-- ---- releases
+
+abbrev pub arrivals_of : List Answered → List Arrived
+arrivals_of answered = map (λ (g : Answered). g.arrival) answered
+
+-- a machine's release in this boot is accepted: it was decided, and told status 200
+pub record IsAccepted (w : World) (machine : List ℕ) (boot : ℕ) : Type 0 where
+  pub at : ℕ
+  pub release : Answered
+  pub there : slice_get w.decided at ≡ Some release
+  pub client : release.arrival.client ≡ machine
+  pub number : release.arrival.number ≡ number_at boot 1
+  pub request : release.arrival.request ≡ release_of boot
+  pub accepted : release.told.status ≡ 200
+
+-- however the packet arrives, the contents stay
+abbrev pub ChangesNothing : World → Packet → Type 0
+ChangesNothing w p = (stop : Stop) → (arrives w (arrival_of p) stop).contents ≡ w.contents
+
+-- then no packet that it sent in a boot below changes the contents
+abbrev pub OldBootsAreOver : World → Type 0
+OldBootsAreOver w = (machine : List ℕ) (boot : ℕ) → IsAccepted w machine boot
+    → All (λ (p : Packet). p.machine ≡ machine → p.boot < boot → ChangesNothing w p) w.packets
+
+-- ---- a list with stops
+
+-- the contents are the meaning of the decided arrivals
+abbrev pub DecidedIsMeant : World → Type 0
+DecidedIsMeant w = w.contents ≡ contents_after no_contents (arrivals_of w.decided)
+
+-- each was told what it means after those before it
+abbrev pub DecidedIsTold : World → Type 0
+DecidedIsTold w = (i : ℕ) (g : Answered) → slice_get w.decided i ≡ Some g
+    → g.told ≡ told_on (contents_after no_contents (arrivals_of (take i w.decided))) g.arrival
+
+-- every acknowledged arrival is among the decided ones
+abbrev pub AcknowledgedIsDecided : World → Type 0
+AcknowledgedIsDecided w = All (λ (g : Answered). (i : ℕ) × (slice_get w.decided i ≡ Some g)) w.replies
+
+-- the repeat of a decided arrival, whose reply may be lost, gets its reply again, unless its number is released
+abbrev pub RepeatsAreTold : World → Type 0
+RepeatsAreTold w = All (λ (g : Answered). is_released w.contents.marks g.arrival ≡ false → told_on w.contents g.arrival ≡ g.told) w.decided
+
+-- ---- what callers owe
+
+-- its names are names, and its numbers lie in their ranges
+abbrev pub IsRangedCall : Call → Type 0
+IsRangedCall (Job r) = IsRanged r
+IsRangedCall (Release upto) = IsCall (Release upto)
+
+abbrev pub IsEvent : Event → Type 0
+IsEvent (event.Insert machine batch blank) = IsName machine × IsName batch × (blank < 10 ^ 18)
+IsEvent (event.Send machine) = IsName machine
+IsEvent (event.Arrive packet stop) = ⊤
+IsEvent (event.Deliver reply) = ⊤
+IsEvent (event.Card machine sw) = IsName machine × (sw < 2 ^ 16)
+IsEvent (event.Power machine boot) = IsName machine × (1 ≤ boot) × (boot ≤ 9999999999)
+IsEvent (event.Office arrival stop) =
+    IsName arrival.client × (1 ≤ arrival.number) × (arrival.number < 10 ^ 18) × IsRangedCall arrival.request

@@ -1,0 +1,3 @@
+pub mod Drop
+pub mod Texts
+pub mod Anew

@@ -1,0 +1,34 @@
+-- What an INSERT of one row makes of the rows, at each of our tables.
+use Rattle.std.proofs.Common.{◌≡◌, ℕ, ◌+◌, ◌/◌, ◌==◌, not, false, true, List, [], ◌∷◌, ◌++◌, length, map, take, drop, slice_get, Some, Ok}
+use Rattle.std.specs.List.{list_all}
+use Rattle.sqlite.specs.Cast.{cast_row}
+use Rattle.sqlite.specs.Command.TheVariants.{Insert}
+use Rattle.sqlite.specs.Effect.{value_rows}
+use Rattle.sqlite.specs.Order.{Row}
+use Rattle.sqlite.specs.Source.TheVariants.{Values}
+use Rattle.sqlite.specs.State.{Executes, State}
+use Rattle.sqlite.specs.Table.{Table}
+use Rattle.sqlite.specs.Term.{Term}
+use Rattle.sql_base.specs.Columns.{no_stamps}
+use Rattle.sql_base.specs.Effects.{Inserted}
+use Rattle.sql_base.proofs.Inserting.{inserted}
+use Rattle.sql_tables.specs.Tables.{our_schema}
+use Rattle.sql_tables.proofs.Version.{none_acts}
+use Rattle.table_rows.specs.Tables.{Tables}
+use Rattle.sql_rows.specs.Image.{Filled, IsFilled, IsImage, filled}
+use Rattle.sql_rows.proofs.Filling.{refilled}
+use Rattle.row_writes.proofs.Meanings.{Means}
+
+module _ (text : List ℕ) (values : Row) (at : ℕ) (table : Table) (terms : List Term) (width : ℕ) (means : Means text (Insert at (Values terms width)))
+    (listed : slice_get our_schema.tables at ≡ Some table) (uncounted : table.is_counted ≡ false) (unstamped : table.stamps ≡ no_stamps)
+    (row : Row) (one : value_rows values width (length terms / width) terms ≡ row ∷ []) (cast : cast_row table row ≡ row)
+    (old new : State) (count : ℕ) (ran : Executes text values old new (Ok count)) (t u : Tables) (x y : Filled)
+    (left : list_all (λ (z : Filled). not (z.table.tree == table.tree)) (take at (filled t)) ≡ true)
+    (right : list_all (λ (z : Filled). not (z.table.tree == table.tree)) (drop (at + 1) (filled t)) ≡ true) where
+  -- another filling of its table, as the row that was put in makes it
+  pub added : x.table ≡ table → filled t ≡ take at (filled t) ++ x ∷ drop (at + 1) (filled t) → filled u ≡ take at (filled t) ++ y ∷ drop (at + 1) (filled t)
+      → map (λ (z : Filled). z.table) (take at (filled t) ++ x ∷ drop (at + 1) (filled t)) ≡ our_schema.tables
+      → (Inserted our_schema table row old new → IsFilled x old.now.trees → IsFilled y new.now.trees) → IsImage t old.now → IsImage u new.now
+  added is_table is_t is_u are_ours put image =
+      let it = inserted text values old new our_schema image.ours at table terms width means.0 means.1 listed uncounted unstamped row row one cast (none_acts table.tree) count ran in
+      refilled (take at (filled t)) (drop (at + 1) (filled t)) table left right t u old new x y is_table is_t is_u are_ours it.kept it.others (put it) image

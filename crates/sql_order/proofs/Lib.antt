@@ -1,0 +1,3 @@
+pub mod Defined
+pub mod Lookups
+pub mod Standing

@@ -1,0 +1,5 @@
+pub mod Alike
+pub mod Texts
+pub mod Versions
+pub mod Finds
+pub mod Ours

@@ -1,0 +1,5 @@
+-- A table without its tree's number.
+use Rattle.sqlite_schema.specs.declared.schema.Table.{Table}
+
+abbrev pub bare : Table → Table
+bare t = record t { tree = 0 }
