@@ -1,0 +1,3 @@
+pub mod PutMeanings
+pub mod PuttingRows
+pub mod Several
