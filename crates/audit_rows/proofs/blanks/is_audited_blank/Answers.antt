@@ -1,0 +1,16 @@
+use Rattle.std.proofs.Common.{◌≡◌, ◌∙◌, Some, None, sym, ap}
+use Rattle.std.specs.Prelude.{option_map}
+use Rattle.std.proofs.lemmas.Option.{none-some, same_Some}
+use Rattle.job_core.specs.declared.facts.Lot.{Lot}
+use Rattle.audit_rows.proofs.SessionLemmas.{refused}
+use Rattle.audit_rows.proofs.blanks.is_audited_blank.Goals as goal
+
+pub returns-in-None : goal.returns-in-None
+returns-in-None c = refused (λ a. none-some a.lot (sym (ap (option_map (λ lot. lot.now.lot)) c.in-None.is) ∙ c.lot_for.ensures ∙ a.lot_is))
+
+pub returns-in-Some : goal.returns-in-Some
+returns-in-Some c =
+    let there = sym c.lot_for.ensures ∙ ap (option_map (λ lot. lot.now.lot)) c.in-Some.is in (
+      λ yes. record { lot = c.in-Some.lot.now.lot; lot_is = there; named = c.names.ensures.0 yes },
+      λ a. c.names.ensures.1 (ap (λ (l : Lot). l.name) (same_Some c.in-Some.lot.now.lot a.lot (sym there ∙ a.lot_is)) ∙ a.named),
+    )

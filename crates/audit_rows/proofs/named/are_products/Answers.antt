@@ -1,0 +1,14 @@
+use Rattle.std.proofs.Common.{◌∙◌, sym}
+use Rattle.std.proofs.lemmas.Bool.{false≢true}
+use Rattle.audit_rows.proofs.NamedLemmas.{are_products, products_apart, products_in_range}
+use Rattle.audit_rows.proofs.SessionLemmas.{refused}
+use Rattle.audit_rows.proofs.named.are_products.Goals as goal
+
+pub returns-then-not-are_apart : goal.returns-then-not-are_apart
+returns-then-not-are_apart c = refused (λ a. false≢true (sym c.if-not-are_apart.true ∙ c.are_apart.ensures.1 (products_apart c.args.products.now a)))
+
+pub returns : goal.returns
+returns c = (
+  λ yes. are_products c.args.products.now c.if-products-gt256.false (c.are_apart.ensures.0 c.if-not-are_apart.false) (c.are_in_range.ensures.0 yes),
+  λ a. c.are_in_range.ensures.1 (products_in_range c.args.products.now a),
+)

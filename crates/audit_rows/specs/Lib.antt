@@ -1,0 +1,5 @@
+pub mod Cards
+pub mod Order
+pub mod Sessions
+pub mod Files
+pub mod Audit

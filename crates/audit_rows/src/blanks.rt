@@ -1,0 +1,287 @@
+//! Blanks, their lots and their sessions.
+ghost use Rattle.std.specs.Prelude.{◌≡◌, ◌≢◌, ◌≤◌, ◌+◌, ◌^◌, ◌&&◌, ◌↔◌, IfOk, IsTrue, All, nat_le};
+ghost use Rattle.std.specs.Prelude.{nat_lt};
+ghost use Rattle.std.specs.Prelude.{AllPairs, IsPermutation, count_by, map, not, option_map};
+ghost use Rattle.std.specs.List.Sorted.{IsNonDecreasing};
+ghost use Rattle.job_core.specs.States.{is_in, lot_of};
+ghost use Rattle.table_rows.specs.Tables.{StoredBlank as BlankValue, StoredLot as LotValue};
+ghost use Rattle.table_rows.specs.Tables.{StoredSession as SessionValue};
+ghost use Rattle.facts_of_rows.specs.Decided.{discarded_rows};
+ghost use Rattle.audit_laws.specs.Audited.{IsAuditedBlank, IsAuditedLot, opened_rows};
+ghost use Rattle.audit_rows.specs.Audit.{AreBlanks};
+ghost use Rattle.audit_rows.specs.Order.{AreReady, lots_of};
+
+use crate::lots::lot_of;
+use crate::once::are_once;
+use std::alloc::{AllocError, Global};
+use stored_rows::{StoredBlank, StoredLot, StoredSession, Tables};
+
+// The serials of blanks.
+fn blank_serials(alloc: Global, blanks: &[StoredBlank]) -> Result<Vec<u64>, AllocError>
+    ensures { IfOk result
+        (λ serials. serials.items ≡ map (λ (b : BlankValue). b.serial) blanks.now) }
+{
+    let mut serials = Vec::new(alloc);
+    for blank in blanks {
+        serials.push(blank.serial)?;
+    }
+    Ok(serials)
+}
+
+// Whether no serial stands twice.
+fn are_blanks_once(alloc: Global, blanks: &[StoredBlank]) -> Result<bool, AllocError>
+    ensures { IfOk result (λ once. IsTrue once
+        ↔ AllPairs (λ (b c : BlankValue). b.serial ≢ c.serial) blanks.now) }
+{
+    let serials = blank_serials(alloc, blanks)?;
+    are_once(alloc, &serials)
+}
+
+// The lot of a blank.
+fn lot_for<'a>(tables: &'a Tables, blank: &StoredBlank) -> Option<&'a StoredLot>
+    requires { AreReady tables.now }
+    ensures { option_map (λ lot. lot.now.lot) result
+        ≡ lot_of (lots_of tables.now.lots) blank.now.serial }
+{
+    lot_of(&tables.lots, blank.serial)
+}
+
+// Whether a blank is said to lie in this lot.
+fn names(blank: &StoredBlank, lot: &StoredLot) -> bool
+    ensures { IsTrue result ↔ (lot.now.lot.name ≡ blank.now.lot) }
+{
+    lot.name.as_slice() == blank.lot.as_slice()
+}
+
+// Whether a blank's serial lies in its lot.
+fn is_audited_blank(tables: &Tables, blank: &StoredBlank) -> bool
+    requires { AreReady tables.now }
+    ensures { IsTrue result ↔ IsAuditedBlank tables.now blank.now }
+{
+    match lot_for(tables, blank) {
+        None => false,
+        Some(lot) => names(blank, lot),
+    }
+}
+
+// Whether the serial of each of these blanks lies in its lot.
+fn are_audited_blanks(tables: &Tables, blanks: &[StoredBlank]) -> bool
+    requires { AreReady tables.now }
+    ensures { IsTrue result ↔ All (IsAuditedBlank tables.now) blanks.now }
+{
+    for blank in blanks {
+        if !is_audited_blank(tables, blank) {
+            return false;
+        }
+    }
+    true
+}
+
+// Whether a session opened a blank.
+fn is_opened(blank: &StoredBlank) -> bool
+    ensures { result ≡ not blank.now.discarded }
+{
+    !blank.discarded
+}
+
+// Whether a blank was taken out of use.
+fn is_discarded(blank: &StoredBlank) -> bool
+    ensures { result ≡ blank.now.discarded }
+{
+    blank.discarded
+}
+
+// The serial of a blank.
+fn serial_of(blank: &StoredBlank) -> u64
+    ensures { result ≡ blank.now.serial }
+{
+    blank.serial
+}
+
+// The serials of the blanks that sessions opened.
+fn opened_serials(alloc: Global, blanks: &[StoredBlank]) -> Result<Vec<u64>, AllocError>
+    ensures { IfOk result (λ serials. serials.items
+        ≡ map (λ (b : BlankValue). b.serial) (opened_rows blanks.now)) }
+{
+    let mut serials = Vec::new(alloc);
+    for blank in blanks {
+        if is_opened(blank) {
+            serials.push(serial_of(blank))?;
+        }
+    }
+    Ok(serials)
+}
+
+// The serials of the discarded blanks.
+fn discarded_serials(alloc: Global, blanks: &[StoredBlank]) -> Result<Vec<u64>, AllocError>
+    ensures { IfOk result (λ serials. serials.items
+        ≡ map (λ (b : BlankValue). b.serial) (discarded_rows blanks.now)) }
+{
+    let mut serials = Vec::new(alloc);
+    for blank in blanks {
+        if is_discarded(blank) {
+            serials.push(serial_of(blank))?;
+        }
+    }
+    Ok(serials)
+}
+
+// The serials of the sessions.
+fn session_serials(alloc: Global, sessions: &[StoredSession]) -> Result<Vec<u64>, AllocError>
+    ensures { IfOk result (λ serials. serials.items
+        ≡ map (λ (s : SessionValue). s.serial) sessions.now) }
+{
+    let mut serials = Vec::new(alloc);
+    for session in sessions {
+        serials.push(session.serial)?;
+    }
+    Ok(serials)
+}
+
+// Whether these are the same serials, in one order.
+fn is_same_list(first: &[u64], second: &[u64]) -> bool
+    ensures { IsTrue result ↔ (first.now ≡ second.now) }
+{
+    first == second
+}
+
+// Whether these are the same serials.
+fn are_same(first: Vec<u64>, second: Vec<u64>) -> Result<bool, AllocError>
+    ensures { IfOk result (λ same. IsTrue same
+        ↔ IsPermutation first.items second.items) }
+{
+    let (mut left, mut right) = (first, second);
+    left.sort()?;
+    right.sort()?;
+    Ok(is_same_list(&left, &right))
+}
+
+// Whether the blanks that are not discarded are those of the sessions.
+fn are_opened(
+    alloc: Global,
+    blanks: &[StoredBlank],
+    sessions: &[StoredSession],
+) -> Result<bool, AllocError>
+    ensures { IfOk result (λ same. IsTrue same
+        ↔ IsPermutation (map (λ (b : BlankValue). b.serial) (opened_rows blanks.now))
+        (map (λ (s : SessionValue). s.serial) sessions.now)) }
+{
+    let opened = opened_serials(alloc, blanks)?;
+    let charged = session_serials(alloc, sessions)?;
+    are_same(opened, charged)
+}
+
+// How many of these serials stand from one on, and below another.
+fn count_between(serials: &[u64], low: u64, end: u64) -> usize
+    requires rising { IsNonDecreasing serials.now }
+    requires order { low ≤ end }
+    ensures { result ≡ count_by (λ serial. nat_le low serial && nat_lt serial end) serials.now }
+{
+    let first = serials.partition_point(|serial| *serial < low);
+    let last = serials.partition_point(|serial| *serial < end);
+    last - first
+}
+
+// Whether a lot counts those of these serials that lie in it.
+fn counts(lot: &StoredLot, serials: &[u64]) -> bool
+    requires rising { IsNonDecreasing serials.now }
+    requires range { lot.now.lot.first + lot.now.lot.count ≤ 10 ^ 18 }
+    ensures { IsTrue result
+        ↔ (lot.now.discarded ≡ count_by (λ serial. is_in serial lot.now.lot) serials.now) }
+{
+    let end = lot.low_serial + u64::from(lot.amount);
+    lot.discarded == count_between(serials, lot.low_serial, end) as u64
+}
+
+// Whether each lot counts those of these serials that lie in it.
+fn count_all(lots: &[StoredLot], serials: &[u64]) -> bool
+    requires rising { IsNonDecreasing serials.now }
+    requires ranges { All (λ (l : LotValue). l.lot.first + l.lot.count ≤ 10 ^ 18) lots.now }
+    ensures { IsTrue result ↔ All (λ (l : LotValue). l.discarded
+        ≡ count_by (λ serial. is_in serial l.lot) serials.now) lots.now }
+{
+    for lot in lots {
+        if !counts(lot, serials) {
+            return false;
+        }
+    }
+    true
+}
+
+// The serials of the discarded blanks, sorted.
+fn sorted_serials(alloc: Global, blanks: &[StoredBlank]) -> Result<Vec<u64>, AllocError>
+    ensures rising { IfOk result (λ serials. IsNonDecreasing serials.items) }
+    ensures same { IfOk result (λ serials. IsPermutation
+        (map (λ (b : BlankValue). b.serial) (discarded_rows blanks.now)) serials.items) }
+{
+    let mut serials = discarded_serials(alloc, blanks)?;
+    serials.sort()?;
+    Ok(serials)
+}
+
+// Whether each lot counts its discarded blanks.
+fn count_discarded(
+    alloc: Global,
+    lots: &[StoredLot],
+    blanks: &[StoredBlank],
+) -> Result<bool, AllocError>
+    requires { All (λ (l : LotValue). l.lot.first + l.lot.count ≤ 10 ^ 18) lots.now }
+    ensures { IfOk result (λ sound. IsTrue sound ↔ All (λ (l : LotValue). l.discarded
+        ≡ count_by (λ (b : BlankValue). is_in b.serial l.lot) (discarded_rows blanks.now))
+        lots.now) }
+{
+    let serials = sorted_serials(alloc, blanks)?;
+    Ok(count_all(lots, &serials))
+}
+
+// Whether each lot of the tables counts its discarded blanks.
+fn has_counts(alloc: Global, tables: &Tables) -> Result<bool, AllocError>
+    requires { AreReady tables.now }
+    ensures { IfOk result (λ sound. IsTrue sound ↔ All (IsAuditedLot tables.now) tables.now.lots) }
+{
+    count_discarded(alloc, &tables.lots, &tables.blanks)
+}
+
+// Whether no serial of the tables' blanks stands twice.
+fn has_once(alloc: Global, tables: &Tables) -> Result<bool, AllocError>
+    ensures { IfOk result (λ once. IsTrue once
+        ↔ AllPairs (λ (b c : BlankValue). b.serial ≢ c.serial) tables.now.blanks) }
+{
+    are_blanks_once(alloc, &tables.blanks)
+}
+
+// Whether the serial of each of the tables' blanks lies in its lot.
+fn has_lots(tables: &Tables) -> bool
+    requires { AreReady tables.now }
+    ensures { IsTrue result ↔ All (IsAuditedBlank tables.now) tables.now.blanks }
+{
+    are_audited_blanks(tables, &tables.blanks)
+}
+
+// Whether the tables' blanks that are not discarded are those of the sessions.
+fn has_opened(alloc: Global, tables: &Tables) -> Result<bool, AllocError>
+    ensures { IfOk result (λ same. IsTrue same
+        ↔ IsPermutation (map (λ (b : BlankValue). b.serial) (opened_rows tables.now.blanks))
+        (map (λ (s : SessionValue). s.serial) tables.now.sessions)) }
+{
+    are_opened(alloc, &tables.blanks, &tables.sessions)
+}
+
+/// Whether blanks are as lots and sessions say.
+pub(crate) fn are_blanks(alloc: Global, tables: &Tables) -> Result<bool, AllocError>
+    requires { AreReady tables.now }
+    ensures { IfOk result (λ sound. IsTrue sound ↔ AreBlanks tables.now) }
+{
+    let counted = has_counts(alloc, tables)?;
+    if !counted {
+        return Ok(false);
+    }
+    let once = has_once(alloc, tables)?;
+    if !once {
+        return Ok(false);
+    }
+    if !has_lots(tables) {
+        return Ok(false);
+    }
+    has_opened(alloc, tables)
+}

@@ -1,0 +1,72 @@
+//! Ids that are counted up, and rows that name one.
+ghost use Rattle.std.specs.Prelude.{◌≡◌, ◌↔◌, ℕ, All, IsTrue, length, map};
+ghost use Rattle.std.specs.List.{range_with_len};
+ghost use Rattle.audit_rows.specs.Audit.{IsIdOf};
+
+use crate::ranges::Ranged;
+use stored_rows::{StoredBatch, StoredSession};
+
+/// Rows with an id.
+pub(crate) trait Counted {
+    ghost id: { Self → ℕ };
+
+    /// The id.
+    fn id(&self) -> u64
+        ensures { result ≡ id self.now };
+}
+
+impl Counted for StoredBatch {
+    ghost id = { λ batch. batch.id };
+
+    fn id(&self) -> u64 {
+        self.id
+    }
+}
+
+impl Counted for StoredSession {
+    ghost id = { λ session. session.id };
+
+    fn id(&self) -> u64 {
+        self.id
+    }
+}
+
+/// Sessions name their batch.
+impl Ranged for StoredSession {
+    ghost number = { λ session. session.batch };
+
+    fn number(&self) -> u64 {
+        self.batch
+    }
+}
+
+/// Whether the ids begin at 1 and go up by one.
+pub(crate) fn are_counted<T: Counted>(rows: &[T]) -> bool
+    ensures { IsTrue result ↔ (map T.id rows.now ≡ range_with_len 1 (length rows.now)) }
+{
+    for place in 0..rows.len() {
+        if rows[place].id() != place as u64 + 1 {
+            return false;
+        }
+    }
+    true
+}
+
+// Whether a number is one of so many ids.
+fn is_id(id: u64, count: usize) -> bool
+    ensures { IsTrue result ↔ IsIdOf count id }
+{
+    id >= 1 && id <= count as u64
+}
+
+/// Whether each row names one of so many ids.
+pub(crate) fn have_ids<T: Ranged>(rows: &[T], count: usize) -> bool
+    ensures { IsTrue result ↔ All (λ row. IsIdOf count (T.number row)) rows.now }
+{
+    for row in rows {
+        if !is_id(row.number(), count) {
+            return false;
+        }
+    }
+    true
+}

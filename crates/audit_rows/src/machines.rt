@@ -1,0 +1,52 @@
+//! Machines, and the sessions that run on them.
+ghost use Rattle.std.specs.Prelude.{◌≡◌, ◌≤◌, ◌↔◌, ℕ, List, IfOk, IsTrue, All, count_by, filter, map};
+ghost use Rattle.job_core.specs.Sound.{IsName};
+ghost use Rattle.job_core.specs.States.{is_running};
+ghost use Rattle.table_rows.specs.Keys.{is_running_on};
+ghost use Rattle.table_rows.specs.Tables.{StoredSession as SessionValue};
+
+use crate::once::are_once;
+use job_core::SessionState;
+use std::alloc::{AllocError, Global};
+use store_data::Name;
+use stored_rows::StoredSession;
+
+// The machine of a session.
+fn machine_of(session: &StoredSession) -> Name
+    requires { IsName session.now.machine }
+    ensures { result ≡ session.now.machine }
+{
+    Name::new(&session.machine).unwrap()
+}
+
+// Whether a session runs.
+fn runs(session: &StoredSession) -> bool
+    ensures { result ≡ is_running session.now.state }
+{
+    matches!(session.state, SessionState::Running)
+}
+
+// The machines of the sessions that run.
+fn running_machines(alloc: Global, sessions: &[StoredSession]) -> Result<Vec<Name>, AllocError>
+    requires { All (λ (s : SessionValue). IsName s.machine) sessions.now }
+    ensures { IfOk result (λ names. names.items ≡ map (λ (s : SessionValue). s.machine)
+        (filter (λ (s : SessionValue). is_running s.state) sessions.now)) }
+{
+    let mut names = Vec::new(alloc);
+    for session in sessions {
+        if runs(session) {
+            names.push(machine_of(session))?;
+        }
+    }
+    Ok(names)
+}
+
+/// Whether no machine runs two of these sessions.
+pub(crate) fn run_once(alloc: Global, sessions: &[StoredSession]) -> Result<bool, AllocError>
+    requires { All (λ (s : SessionValue). IsName s.machine) sessions.now }
+    ensures { IfOk result (λ once. IsTrue once
+        ↔ ((machine : List ℕ) → count_by (is_running_on machine) sessions.now ≤ 1)) }
+{
+    let machines = running_machines(alloc, sessions)?;
+    are_once(alloc, &machines)
+}

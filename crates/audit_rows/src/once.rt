@@ -1,0 +1,71 @@
+//! Rows of which no two are alike.
+ghost use Rattle.std.specs.Prelude.{◌≡◌, ◌↔◌, Bool, true, false, IfOk, IfSome, IsTrue, All};
+ghost use Rattle.std.specs.Prelude.{AllPairs, None};
+
+use indexmap::IndexSet;
+use std::alloc::{AllocError, Global};
+use std::hash::Hash;
+
+/// Rows of which no two may be alike.
+pub(crate) trait Apart {
+    ghost apart: { Self → Self → Bool };
+
+    /// Whether the two differ enough.
+    fn is_apart(&self, other: &Self) -> bool
+        ensures { result ≡ apart self.now other.now };
+}
+
+// Whether each of these rows is apart from another.
+fn are_apart_from<T: Apart>(rows: &[T], other: &T) -> bool
+    ensures { IsTrue result ↔ All (λ row. T.apart row other.now ≡ true) rows.now }
+{
+    for row in rows {
+        if !row.is_apart(other) {
+            return false;
+        }
+    }
+    true
+}
+
+/// Whether the rows are apart from each other. Each is tested with each.
+pub(crate) fn are_apart<T: Apart>(rows: &[T]) -> bool
+    ensures { IsTrue result ↔ AllPairs (λ x y. T.apart x y ≡ true) rows.now }
+{
+    for place in 0..rows.len() {
+        if !are_apart_from(&rows[..place], &rows[place]) {
+            return false;
+        }
+    }
+    true
+}
+
+/// The set of these items, if no two of them are equal.
+pub(crate) fn set_of<T: Eq + Hash + Copy + Drop>(
+    alloc: Global,
+    items: &[T],
+) -> Result<Option<IndexSet<T>>, AllocError>
+    ensures keys { IfOk result (λ found. IfSome found (λ set. set.keys ≡ items.now)) }
+    ensures once { IfOk result
+        (λ found. IfSome found (λ _. AllPairs (λ x y. T.eq y x ≡ false) items.now)) }
+    ensures none { IfOk result
+        (λ found. found ≡ None → AllPairs (λ x y. T.eq y x ≡ false) items.now → ⊥) }
+{
+    let mut set = IndexSet::new(alloc);
+    for item in items {
+        if !set.insert(*item)? {
+            return Ok(None);
+        }
+    }
+    Ok(Some(set))
+}
+
+/// Whether no two of these items are equal.
+pub(crate) fn are_once<T: Eq + Hash + Copy + Drop>(
+    alloc: Global,
+    items: &[T],
+) -> Result<bool, AllocError>
+    ensures { IfOk result (λ once. IsTrue once ↔ AllPairs (λ x y. T.eq y x ≡ false) items.now) }
+{
+    let found = set_of(alloc, items)?;
+    Ok(found.is_some())
+}
