@@ -70,8 +70,8 @@ fn has_no_further_key(indexes: &[Index]) -> bool
     indexes.iter().all(|index| is_no_further_key(index))
 }
 
-/// Whether a schema has just these tables, in any order. Further indices that are no keys are passed
-/// over; a further key, a view or a trigger is not.
+/// Whether a schema has just these tables, in any order. Further indices that are no keys are
+/// passed over; a further key, a view or a trigger is not.
 pub fn has_just(schema: &Schema, ours: &Schema) -> bool
     ensures { IsTrue result ↔ HasJust schema.now ours.now }
 {

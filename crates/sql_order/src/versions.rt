@@ -172,7 +172,7 @@ fn tables_of_two(alloc: Global) -> Result<Schema, CreateFault>
     }
 }
 
-/// The tables of a version, by making them in memory. Their order and their numbers are of no matter.
+/// The tables of a version, by making them in memory. Their order and numbers are of no matter.
 pub fn tables_of(alloc: Global, version: Version) -> Result<Schema, CreateFault>
     ensures { IfOk result (λ schema. schema ≡ schema_of version) }
 {
@@ -197,8 +197,8 @@ fn has_version<S: Alter>(
     Ok(has_just(conn.schema(), &ours))
 }
 
-/// Which version's tables a database has, in any order and with nothing beside them but indices that
-/// are no keys. Each of them is then found by its name.
+/// Which version's tables a database has, in any order and with nothing beside them but indices
+/// that are no keys. Each of them is then found by its name.
 pub fn version_in<S: Alter>(
     alloc: Global,
     conn: &Connection<S>,

@@ -1,0 +1,10 @@
+pub mod Selecting
+pub mod Shapes
+pub mod Telling
+pub mod Encoded
+pub mod Meanings
+pub mod Found
+pub mod Alone
+pub mod Rising
+pub mod After
+pub mod Numbers

@@ -1,0 +1,21 @@
+use Rattle.std.proofs.Common.{◌≡◌, true, All, MatchOption, map, subst}
+use Rattle.sqlite.specs.Held.{state}
+use Rattle.sql_base.proofs.Selecting.{if_ok}
+use Rattle.sql_rows.specs.Encoding.{blank_row}
+use Rattle.sql_rows.specs.Image.{told}
+use Rattle.sql_tables.specs.Tables.{blank_at}
+use Rattle.order_reads.specs.Shown.{IsAny, IsBlankRow}
+use Rattle.order_reads.specs.Whole.{as_stored}
+use Rattle.order_reads.proofs.Encoded.{blank_law}
+use Rattle.order_reads.proofs.Meanings.{blank_whole}
+use Rattle.order_reads.proofs.Telling.{tells}
+use Rattle.order_reads.proofs.reads.blanks.Goals as goal
+
+pub returns-clause-told : goal.returns-clause-told
+returns-clause-told g c clean =
+    let shown = c.in_ok-rows.ensures.told clean in
+    if_ok c.blanks_in.result _ _ (λ found is. (
+      shown.0,
+      λ tree finds. tells blank_row IsAny true IsBlankRow blank_law c.in_ok-rows.rows.items (told true ((state g.S.Store c.args.conn.now).now.trees tree)) (shown.1 blank_at true blank_whole tree finds) found
+          (subst (λ rows. MatchOption found (All IsBlankRow rows → ⊥) (λ all. map blank_row all.items ≡ map (as_stored true) rows)) c.as_slice.ensures.value is),
+    )) c.blanks_in.ensures

@@ -1,0 +1,21 @@
+use Rattle.std.proofs.Common.{◌≡◌, false, All, MatchOption, map, subst}
+use Rattle.sqlite.specs.Held.{state}
+use Rattle.sql_base.proofs.Selecting.{if_ok}
+use Rattle.sql_rows.specs.Encoding.{product_row}
+use Rattle.sql_rows.specs.Image.{told}
+use Rattle.sql_tables.specs.Tables.{product_at}
+use Rattle.order_reads.specs.Shown.{FitsProduct, IsProductRow}
+use Rattle.order_reads.specs.Whole.{as_stored}
+use Rattle.order_reads.proofs.Encoded.{product_law}
+use Rattle.order_reads.proofs.Meanings.{product_whole}
+use Rattle.order_reads.proofs.Telling.{tells}
+use Rattle.order_reads.proofs.reads.products.Goals as goal
+
+pub returns-clause-told : goal.returns-clause-told
+returns-clause-told g c clean =
+    let shown = c.in_ok-rows.ensures.told clean in
+    if_ok c.products_in.result _ _ (λ found is. (
+      shown.0,
+      λ tree finds. tells product_row FitsProduct false IsProductRow product_law c.in_ok-rows.rows.items (told false ((state g.S.Store c.args.conn.now).now.trees tree)) (shown.1 product_at false product_whole tree finds) found
+          (subst (λ rows. MatchOption found (All IsProductRow rows → ⊥) (λ all. map product_row all.items ≡ map (as_stored false) rows)) c.as_slice.ensures.value is),
+    )) c.products_in.ensures

@@ -1,0 +1,21 @@
+use Rattle.std.proofs.Common.{◌≡◌, false, All, MatchOption, map, subst}
+use Rattle.sqlite.specs.Held.{state}
+use Rattle.sql_base.proofs.Selecting.{if_ok}
+use Rattle.sql_rows.specs.Encoding.{remake_row}
+use Rattle.sql_rows.specs.Image.{told}
+use Rattle.sql_tables.specs.Tables.{remake_at}
+use Rattle.order_reads.specs.Shown.{IsAny, IsRemakeRow}
+use Rattle.order_reads.specs.Whole.{as_stored}
+use Rattle.order_reads.proofs.Encoded.{remake_law}
+use Rattle.order_reads.proofs.Meanings.{remake_whole}
+use Rattle.order_reads.proofs.Telling.{tells}
+use Rattle.order_reads.proofs.reads.remakes.Goals as goal
+
+pub returns-clause-told : goal.returns-clause-told
+returns-clause-told g c clean =
+    let shown = c.in_ok-rows.ensures.told clean in
+    if_ok c.remakes_in.result _ _ (λ found is. (
+      shown.0,
+      λ tree finds. tells remake_row IsAny false IsRemakeRow remake_law c.in_ok-rows.rows.items (told false ((state g.S.Store c.args.conn.now).now.trees tree)) (shown.1 remake_at false remake_whole tree finds) found
+          (subst (λ rows. MatchOption found (All IsRemakeRow rows → ⊥) (λ all. map remake_row all.items ≡ map (as_stored false) rows)) c.as_slice.ensures.value is),
+    )) c.remakes_in.ensures

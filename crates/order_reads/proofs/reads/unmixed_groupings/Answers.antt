@@ -1,0 +1,21 @@
+use Rattle.std.proofs.Common.{◌≡◌, false, All, MatchOption, map, subst}
+use Rattle.sqlite.specs.Held.{state}
+use Rattle.sql_base.proofs.Selecting.{if_ok}
+use Rattle.sql_order.specs.Versions.{unmixed_grouping_at}
+use Rattle.sql_rows.specs.Encoding.{grouping_row}
+use Rattle.sql_rows.specs.Image.{told}
+use Rattle.order_reads.specs.Shown.{FitsGrouping, IsGroupingRow}
+use Rattle.order_reads.specs.Whole.{as_stored}
+use Rattle.order_reads.proofs.Encoded.{grouping_law}
+use Rattle.order_reads.proofs.Meanings.{unmixed_grouping_whole}
+use Rattle.order_reads.proofs.Telling.{tells}
+use Rattle.order_reads.proofs.reads.unmixed_groupings.Goals as goal
+
+pub returns-clause-told : goal.returns-clause-told
+returns-clause-told g c clean =
+    let shown = c.in_ok-rows.ensures.told clean in
+    if_ok c.groupings_in.result _ _ (λ found is. (
+      shown.0,
+      λ tree finds. tells grouping_row FitsGrouping false IsGroupingRow grouping_law c.in_ok-rows.rows.items (told false ((state g.S.Store c.args.conn.now).now.trees tree)) (shown.1 unmixed_grouping_at false unmixed_grouping_whole tree finds) found
+          (subst (λ rows. MatchOption found (All IsGroupingRow rows → ⊥) (λ all. map grouping_row all.items ≡ map (as_stored false) rows)) c.as_slice.ensures.value is),
+    )) c.groupings_in.ensures

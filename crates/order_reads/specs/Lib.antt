@@ -1,0 +1,6 @@
+pub mod Layers
+pub mod Whole
+pub mod Shown
+pub mod Texts
+pub mod Version
+pub mod Rowids

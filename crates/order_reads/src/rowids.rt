@@ -1,0 +1,197 @@
+//! Rowids are read.
+ghost use Rattle.std.specs.Prelude.{◌≡◌, ◌++◌, [], ◌∷◌, false, IfOk, IsTrue, MatchOption};
+ghost use Rattle.sqlite.specs.Held.{state};
+ghost use Rattle.sqlite.specs.State.{HasCleanDisk, Survives};
+ghost use Rattle.sqlite.specs.Tree.{rowid};
+ghost use Rattle.sqlite.specs.Value.{owned};
+ghost use Rattle.sqlite.specs.declared.types.Value.TheVariants.{Int};
+ghost use Rattle.sql_base.specs.Ends.{IsKept};
+ghost use Rattle.sql_tables.specs.Tables.{our_schema};
+ghost use Rattle.order_reads.specs.Rowids.{AreApartIn, AreRising, HasApart, IsRisingFrom};
+ghost use Rattle.order_reads.specs.Rowids.{int_in};
+ghost use Rattle.order_reads.specs.Texts.{card_rowids, name_rowids, other_rowids};
+
+use crate::values::value_at;
+use sql_base::rows_of;
+use sqlite::types::ValueRef;
+use sqlite::{Alter, Connection, Error, Row};
+
+// The integer that a value is.
+fn int_of(value: ValueRef<'_>) -> Option<i64>
+    ensures { MatchOption result (Int (int_in (owned value.entry)) ≡ owned value.entry → ⊥)
+        (λ z. Int z ≡ owned value.entry) }
+{
+    match value {
+        ValueRef::Int(z) => Some(z),
+        _ => None,
+    }
+}
+
+fn rowid_in(row: &Row) -> Option<i64>
+    ensures { MatchOption result (Int (int_in (rowid row.now)) ≡ rowid row.now → ⊥)
+        (λ z. Int z ≡ rowid row.now) }
+{
+    int_of(value_at(row, 0))
+}
+
+// Whether each rowid is an integer above the one before it, the first of them above this one.
+fn is_rising_from(rows: &[Row], floor: i64) -> bool
+    ensures { IsTrue result → IsRisingFrom floor rows.now }
+{
+    let mut rest = rows;
+    let mut last = floor;
+    while let [row, more @ ..] = rest {
+        let Some(z) = rowid_in(row) else {
+            return false;
+        };
+        if z <= last {
+            return false;
+        }
+        last = z;
+        rest = more;
+    }
+    true
+}
+
+fn are_rising(rows: &[Row]) -> bool
+    ensures { IsTrue result → AreRising rows.now }
+{
+    match rows {
+        [] => true,
+        [row, more @ ..] => match rowid_in(row) {
+            Some(z) => is_rising_from(more, z),
+            None => false,
+        },
+    }
+}
+
+// Whether the rowids that a text asks for rise. Then those of the table are apart.
+fn has_rising<S: Alter>(conn: &mut Connection<S>, sql: &str) -> Result<bool, Error>
+    requires { conn.old.in_transaction ≡ false }
+    ensures told { HasCleanDisk (state S.Store conn.new) → IfOk result
+        (λ rising. IsTrue (state S.Store conn.old).is_open
+        × (IsTrue rising → AreApartIn
+        (sql.now ∷ []) (state S.Store conn.old).now)) }
+    ensures kept { HasCleanDisk (state S.Store conn.new)
+        → IsKept (state S.Store conn.old) (state S.Store conn.new) }
+    ensures idle { conn.new.in_transaction ≡ false }
+    ensures survives { Survives (state S.Store conn.old) (state S.Store conn.new) (λ _. ⊥) }
+{
+    let rows = rows_of(conn, sql, &[])?;
+    Ok(are_rising(rows.as_slice()))
+}
+
+fn two_rise<S: Alter>(conn: &mut Connection<S>, first: &str, second: &str) -> Result<bool, Error>
+    requires { conn.old.in_transaction ≡ false }
+    ensures told { HasCleanDisk (state S.Store conn.new) → IfOk result
+        (λ rising. IsTrue (state S.Store conn.old).is_open
+        × (IsTrue rising → AreApartIn
+        (first.now ∷ second.now ∷ []) (state S.Store conn.old).now)) }
+    ensures kept { HasCleanDisk (state S.Store conn.new)
+        → IsKept (state S.Store conn.old) (state S.Store conn.new) }
+    ensures idle { conn.new.in_transaction ≡ false }
+    ensures survives { Survives (state S.Store conn.old) (state S.Store conn.new) (λ _. ⊥) }
+{
+    if has_rising(conn, first)? {
+        has_rising(conn, second)
+    } else {
+        Ok(false)
+    }
+}
+
+fn names_rise<S: Alter>(conn: &mut Connection<S>) -> Result<bool, Error>
+    requires { conn.old.in_transaction ≡ false }
+    ensures told { HasCleanDisk (state S.Store conn.new) → IfOk result
+        (λ rising. IsTrue (state S.Store conn.old).is_open
+        × (IsTrue rising → AreApartIn name_rowids (state S.Store conn.old).now)) }
+    ensures kept { HasCleanDisk (state S.Store conn.new)
+        → IsKept (state S.Store conn.old) (state S.Store conn.new) }
+    ensures idle { conn.new.in_transaction ≡ false }
+    ensures survives { Survives (state S.Store conn.old) (state S.Store conn.new) (λ _. ⊥) }
+{
+    if two_rise(
+        conn,
+        "SELECT rowid FROM version",
+        "SELECT rowid FROM product",
+    )? {
+        two_rise(conn, "SELECT rowid FROM lot", "SELECT rowid FROM batch")
+    } else {
+        Ok(false)
+    }
+}
+
+fn cards_rise<S: Alter>(conn: &mut Connection<S>) -> Result<bool, Error>
+    requires { conn.old.in_transaction ≡ false }
+    ensures told { HasCleanDisk (state S.Store conn.new) → IfOk result
+        (λ rising. IsTrue (state S.Store conn.old).is_open
+        × (IsTrue rising → AreApartIn card_rowids (state S.Store conn.old).now)) }
+    ensures kept { HasCleanDisk (state S.Store conn.new)
+        → IsKept (state S.Store conn.old) (state S.Store conn.new) }
+    ensures idle { conn.new.in_transaction ≡ false }
+    ensures survives { Survives (state S.Store conn.old) (state S.Store conn.new) (λ _. ⊥) }
+{
+    if two_rise(
+        conn,
+        "SELECT rowid FROM record",
+        "SELECT rowid FROM grouping2",
+    )? {
+        two_rise(conn, "SELECT rowid FROM session", "SELECT rowid FROM word")
+    } else {
+        Ok(false)
+    }
+}
+
+fn others_rise<S: Alter>(conn: &mut Connection<S>) -> Result<bool, Error>
+    requires { conn.old.in_transaction ≡ false }
+    ensures told { HasCleanDisk (state S.Store conn.new) → IfOk result
+        (λ rising. IsTrue (state S.Store conn.old).is_open
+        × (IsTrue rising → AreApartIn other_rowids (state S.Store conn.old).now)) }
+    ensures kept { HasCleanDisk (state S.Store conn.new)
+        → IsKept (state S.Store conn.old) (state S.Store conn.new) }
+    ensures idle { conn.new.in_transaction ≡ false }
+    ensures survives { Survives (state S.Store conn.old) (state S.Store conn.new) (λ _. ⊥) }
+{
+    if two_rise(conn, "SELECT rowid FROM blank", "SELECT rowid FROM remake")? {
+        two_rise(conn, "SELECT rowid FROM reply", "SELECT rowid FROM mark")
+    } else {
+        Ok(false)
+    }
+}
+
+fn more_rise<S: Alter>(conn: &mut Connection<S>) -> Result<bool, Error>
+    requires { conn.old.in_transaction ≡ false }
+    ensures told { HasCleanDisk (state S.Store conn.new) → IfOk result
+        (λ rising. IsTrue (state S.Store conn.old).is_open
+        × (IsTrue rising → AreApartIn (card_rowids ++ other_rowids)
+        (state S.Store conn.old).now)) }
+    ensures kept { HasCleanDisk (state S.Store conn.new)
+        → IsKept (state S.Store conn.old) (state S.Store conn.new) }
+    ensures idle { conn.new.in_transaction ≡ false }
+    ensures survives { Survives (state S.Store conn.old) (state S.Store conn.new) (λ _. ⊥) }
+{
+    if cards_rise(conn)? {
+        others_rise(conn)
+    } else {
+        Ok(false)
+    }
+}
+
+/// Whether the rowids of our own tables rise as they are read, so that no two rows of a table have
+/// one. Nothing is changed, and a crash leaves what it could leave before.
+pub fn has_apart_rowids<S: Alter>(conn: &mut Connection<S>) -> Result<bool, Error>
+    requires { conn.old.in_transaction ≡ false }
+    ensures told { HasCleanDisk (state S.Store conn.new) → IfOk result
+        (λ rising. IsTrue (state S.Store conn.old).is_open
+        × (IsTrue rising → (state S.Store conn.old).now.schema ≡ our_schema
+        → HasApart (state S.Store conn.old).now)) }
+    ensures kept { HasCleanDisk (state S.Store conn.new)
+        → IsKept (state S.Store conn.old) (state S.Store conn.new) }
+    ensures idle { conn.new.in_transaction ≡ false }
+    ensures survives { Survives (state S.Store conn.old) (state S.Store conn.new) (λ _. ⊥) }
+{
+    if names_rise(conn)? {
+        more_rise(conn)
+    } else {
+        Ok(false)
+    }
+}
