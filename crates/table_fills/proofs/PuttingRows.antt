@@ -1,36 +1,28 @@
 -- What each INSERT of a whole row does to the rows.
-use Rattle.std.proofs.Common.{◌≡◌, ℕ, [], ◌∷◌, drop, map, pos, take, Ok, refl}
+use Rattle.std.proofs.Common.{◌≡◌, ℕ, [], ◌∷◌, drop, map, pos, Ok, refl}
 use Rattle.sqlite.specs.declared.types.Value.TheVariants.{Blob, Null, Text}
 use Rattle.sqlite.specs.Cast.{cast_row}
 use Rattle.sqlite.specs.Order.{Row}
 use Rattle.sqlite.specs.State.{Executes, State}
-use Rattle.sql_base.specs.Effects.{Inserted}
-use Rattle.sql_base.proofs.Inserting.{inserted}
 use Rattle.sql_base.proofs.Values.{cast_int, cast_null}
-use Rattle.sql_tables.specs.Tables.{batch_table, lot_table, our_schema, record_table, session_table}
+use Rattle.sql_tables.specs.Tables.{batch_table, lot_table, record_table, session_table}
 use Rattle.table_rows.specs.Tables.{StoredBatch, StoredLot, StoredRecord, StoredSession, with_batch, with_lot, with_record, with_session}
 use Rattle.sql_rows.specs.Encoding.{batch_row, flag, lot_row, number, record_code, record_row, session_code, session_row}
-use Rattle.sql_rows.specs.Image.{Moves, by_rowid, filled, unnumbered}
-use Rattle.sql_rows.proofs.Filling.{refilled, row_put, row_put_under}
-use Rattle.sql_tables.proofs.Version.{none_acts}
+use Rattle.sql_rows.specs.Image.{Moves, by_rowid, unnumbered}
+use Rattle.sql_rows.proofs.Filling.{row_put, row_put_under}
+use Rattle.row_writes.proofs.Adding.{added}
 use Rattle.table_fills.specs.PutTexts.{put_batch_terms, put_batch_text, put_lot_terms, put_lot_text, put_record_terms, put_record_text, put_session_terms, put_session_text}
-use Rattle.table_fills.proofs.PutMeanings.{put_batch_is, put_batch_plain, put_lot_is, put_lot_plain, put_record_is, put_record_plain, put_session_is, put_session_plain}
+use Rattle.table_fills.proofs.PutMeanings.{put_batch_means, put_lot_means, put_record_means, put_session_means}
 
 lot_cast : (l : StoredLot) → cast_row lot_table (Null ∷ lot_row l) ≡ Null ∷ lot_row l
 lot_cast l = rw (cast_null, cast_int (pos l.lot.first), cast_int (pos l.lot.count), cast_int (pos l.discarded)) refl
 
-lot_inserted : (old new : State) (l : StoredLot) (count : ℕ) → old.now.schema ≡ our_schema → Executes put_lot_text (lot_row l) old new (Ok count)
-    → Inserted our_schema lot_table (Null ∷ lot_row l) old new
-lot_inserted old new l count ours =
-    inserted put_lot_text (lot_row l) old new our_schema ours 2 lot_table put_lot_terms 6 put_lot_is put_lot_plain refl refl refl
-    (Null ∷ lot_row l) (Null ∷ lot_row l) refl (lot_cast l) (none_acts 3) count
-
 pub lot_put : (old new : State) (l : StoredLot) (count : ℕ) → Executes put_lot_text (lot_row l) old new (Ok count) → Moves (with_lot l) old.now new.now
 lot_put old new l count ran t image =
-    let it = lot_inserted old new l count image.ours ran in
     let rows = map lot_row t.lots in
-    refilled (take 2 (filled t)) (drop 3 (filled t)) lot_table refl refl t (with_lot l t) old new
-    (unnumbered lot_table rows) (unnumbered lot_table (lot_row l ∷ rows)) refl refl refl refl it.kept it.others (row_put lot_table (lot_row l) rows old new it) image
+    added put_lot_text (lot_row l) 2 lot_table put_lot_terms 6 put_lot_means refl refl refl (Null ∷ lot_row l) refl (lot_cast l)
+    old new count ran t (with_lot l t) (unnumbered lot_table rows) (unnumbered lot_table (lot_row l ∷ rows)) refl refl refl refl refl refl
+    (row_put lot_table (lot_row l) rows old new) image
 
 abbrev pub batch_values : StoredBatch → Row
 batch_values b =
@@ -52,34 +44,22 @@ batch_cast b =
       cast_int (pos b.spoiled),
     ) refl
 
-batch_inserted : (old new : State) (b : StoredBatch) (count : ℕ) → old.now.schema ≡ our_schema → Executes put_batch_text (batch_values b) old new (Ok count)
-    → Inserted our_schema batch_table (batch_row b) old new
-batch_inserted old new b count ours =
-    inserted put_batch_text (batch_values b) old new our_schema ours 3 batch_table put_batch_terms 13 put_batch_is put_batch_plain refl refl refl
-    (batch_row b) (batch_row b) refl (batch_cast b) (none_acts 5) count
-
 pub batch_put : (old new : State) (b : StoredBatch) (count : ℕ) → Executes put_batch_text (batch_values b) old new (Ok count) → Moves (with_batch b) old.now new.now
 batch_put old new b count ran t image =
-    let it = batch_inserted old new b count image.ours ran in
     let rows = map batch_row t.batches in
-    refilled (take 3 (filled t)) (drop 4 (filled t)) batch_table refl refl t (with_batch b t) old new
-    (by_rowid batch_table rows) (by_rowid batch_table (batch_row b ∷ rows)) refl refl refl refl it.kept it.others (row_put_under batch_table b.id (drop 1 (batch_row b)) rows old new it) image
+    added put_batch_text (batch_values b) 3 batch_table put_batch_terms 13 put_batch_means refl refl refl (batch_row b) refl (batch_cast b)
+    old new count ran t (with_batch b t) (by_rowid batch_table rows) (by_rowid batch_table (batch_row b ∷ rows)) refl refl refl refl refl refl
+    (row_put_under batch_table b.id (drop 1 (batch_row b)) rows old new) image
 
 record_cast : (r : StoredRecord) → cast_row record_table (Null ∷ record_row r) ≡ Null ∷ record_row r
 record_cast r = rw (cast_null, cast_int (pos r.batch), cast_int (pos r.place), cast_int (pos (record_code r.state)), cast_int (pos r.spoiled), cast_int (pos r.remakes)) refl
 
-record_inserted : (old new : State) (r : StoredRecord) (count : ℕ) → old.now.schema ≡ our_schema → Executes put_record_text (record_row r) old new (Ok count)
-    → Inserted our_schema record_table (Null ∷ record_row r) old new
-record_inserted old new r count ours =
-    inserted put_record_text (record_row r) old new our_schema ours 4 record_table put_record_terms 7 put_record_is put_record_plain refl refl refl
-    (Null ∷ record_row r) (Null ∷ record_row r) refl (record_cast r) (none_acts 7) count
-
 pub record_put : (old new : State) (r : StoredRecord) (count : ℕ) → Executes put_record_text (record_row r) old new (Ok count) → Moves (with_record r) old.now new.now
 record_put old new r count ran t image =
-    let it = record_inserted old new r count image.ours ran in
     let rows = map record_row t.records in
-    refilled (take 4 (filled t)) (drop 5 (filled t)) record_table refl refl t (with_record r t) old new
-    (unnumbered record_table rows) (unnumbered record_table (record_row r ∷ rows)) refl refl refl refl it.kept it.others (row_put record_table (record_row r) rows old new it) image
+    added put_record_text (record_row r) 4 record_table put_record_terms 7 put_record_means refl refl refl (Null ∷ record_row r) refl (record_cast r)
+    old new count ran t (with_record r t) (unnumbered record_table rows) (unnumbered record_table (record_row r ∷ rows)) refl refl refl refl refl refl
+    (row_put record_table (record_row r) rows old new) image
 
 abbrev pub session_values : StoredSession → Row
 session_values s =
@@ -103,15 +83,9 @@ session_cast s =
       cast_int (pos s.cursor.block),
     ) refl
 
-session_inserted : (old new : State) (s : StoredSession) (count : ℕ) → old.now.schema ≡ our_schema → Executes put_session_text (session_values s) old new (Ok count)
-    → Inserted our_schema session_table (session_row s) old new
-session_inserted old new s count ours =
-    inserted put_session_text (session_values s) old new our_schema ours 6 session_table put_session_terms 13 put_session_is put_session_plain refl refl refl
-    (session_row s) (session_row s) refl (session_cast s) (none_acts 12) count
-
 pub session_put : (old new : State) (s : StoredSession) (count : ℕ) → Executes put_session_text (session_values s) old new (Ok count) → Moves (with_session s) old.now new.now
 session_put old new s count ran t image =
-    let it = session_inserted old new s count image.ours ran in
     let rows = map session_row t.sessions in
-    refilled (take 6 (filled t)) (drop 7 (filled t)) session_table refl refl t (with_session s t) old new
-    (by_rowid session_table rows) (by_rowid session_table (session_row s ∷ rows)) refl refl refl refl it.kept it.others (row_put_under session_table s.id (drop 1 (session_row s)) rows old new it) image
+    added put_session_text (session_values s) 6 session_table put_session_terms 13 put_session_means refl refl refl (session_row s) refl (session_cast s)
+    old new count ran t (with_session s t) (by_rowid session_table rows) (by_rowid session_table (session_row s ∷ rows)) refl refl refl refl refl refl
+    (row_put_under session_table s.id (drop 1 (session_row s)) rows old new) image

@@ -35,16 +35,4 @@ with_replies rows t = record t {
 
 -- the rows of each table
 abbrev pub with_all : Tables → Tables → Tables
-with_all rows t = record {
-  products = rows.products ++ t.products;
-  lots = rows.lots ++ t.lots;
-  batches = rows.batches ++ t.batches;
-  records = rows.records ++ t.records;
-  groupings = rows.groupings ++ t.groupings;
-  sessions = rows.sessions ++ t.sessions;
-  words = rows.words ++ t.words;
-  blanks = rows.blanks ++ t.blanks;
-  remakes = rows.remakes ++ t.remakes;
-  replies = rows.replies ++ t.replies;
-  marks = rows.marks ++ t.marks;
-}
+with_all rows t = with_replies rows (with_cards rows (with_batches rows t))

@@ -2,11 +2,10 @@
 //! transaction. A crash before its end leaves nothing of it.
 ghost use Rattle.std.specs.Prelude.{◌≡◌};
 ghost use Rattle.sqlite.specs.Held.{state};
-ghost use Rattle.sqlite.specs.State.{HasCleanDisk, Survives};
-ghost use Rattle.sql_rows.specs.Image.{Moves};
+ghost use Rattle.sqlite.specs.State.{Survives};
 ghost use Rattle.table_rows.specs.Tables.{with_batch, with_grouping, with_lot};
 ghost use Rattle.table_rows.specs.Tables.{with_product, with_record};
-ghost use Rattle.change_writes.specs.Many.{WroteMany};
+ghost use Rattle.change_writes.specs.Many.{WritesMany};
 ghost use Rattle.table_fills.specs.Rows.{with_batches};
 
 use crate::putting::{Put, fit, put_all};
@@ -137,8 +136,7 @@ pub(crate) fn fill_batches<S: Alter>(
     tables: &Tables,
 ) -> Result<(), Error>
     ensures same_reference { tx.new.conn.ghost_name ≡ tx.old.conn.ghost_name }
-    ensures wrote { HasCleanDisk (state S.Store tx.new.conn.now)
-        → WroteMany (Moves (with_batches tables.now)) (state S.Store tx.old.conn.now)
+    ensures wrote { WritesMany (with_batches tables.now) (state S.Store tx.old.conn.now)
         (state S.Store tx.new.conn.now) result }
     ensures survives { Survives (state S.Store tx.old.conn.now) (state S.Store tx.new.conn.now)
         (λ _. ⊥) }

@@ -3,9 +3,9 @@
 ghost use Rattle.std.specs.Prelude.{◌≡◌, OnOk};
 ghost use Rattle.sqlite.specs.Held.{state};
 ghost use Rattle.sqlite.specs.State.{HasCleanDisk, Survives};
-ghost use Rattle.sql_rows.specs.Image.{IsImage, Moves};
+ghost use Rattle.sql_rows.specs.Image.{IsImage};
 ghost use Rattle.table_rows.specs.Tables.{no_rows};
-ghost use Rattle.change_writes.specs.Many.{WroteMany};
+ghost use Rattle.change_writes.specs.Many.{WritesMany};
 ghost use Rattle.table_fills.specs.Rows.{with_all};
 
 use crate::batches::fill_batches;
@@ -19,8 +19,7 @@ use stored_rows::Tables;
 /// caller drops the transaction.
 pub fn fill<S: Alter>(tx: &mut Transaction<'_, S>, tables: &Tables) -> Result<(), Error>
     ensures same_reference { tx.new.conn.ghost_name ≡ tx.old.conn.ghost_name }
-    ensures wrote { HasCleanDisk (state S.Store tx.new.conn.now)
-        → WroteMany (Moves (with_all tables.now)) (state S.Store tx.old.conn.now)
+    ensures wrote { WritesMany (with_all tables.now) (state S.Store tx.old.conn.now)
         (state S.Store tx.new.conn.now) result }
     ensures alone { HasCleanDisk (state S.Store tx.new.conn.now)
         → OnOk result (IsImage no_rows (state S.Store tx.old.conn.now).now

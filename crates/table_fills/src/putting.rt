@@ -2,11 +2,10 @@
 //! leaves nothing of it.
 ghost use Rattle.std.specs.Prelude.{◌≡◌, ◌<◌, ◌^◌, IsTrue};
 ghost use Rattle.sqlite.specs.Held.{state};
-ghost use Rattle.sqlite.specs.State.{HasCleanDisk, Survives};
-ghost use Rattle.sql_base.specs.Ends.{Wrote};
-ghost use Rattle.sql_rows.specs.Image.{Moves};
+ghost use Rattle.sqlite.specs.State.{Survives};
+ghost use Rattle.sql_rows.specs.Writes.{WritesRows};
 ghost use Rattle.table_rows.specs.Tables.{Tables};
-ghost use Rattle.change_writes.specs.Many.{WroteMany};
+ghost use Rattle.change_writes.specs.Many.{WritesMany};
 ghost use Rattle.table_fills.specs.Rows.{with_each};
 
 use sqlite::{Alter, Error, Transaction};
@@ -31,8 +30,7 @@ pub(crate) trait Put {
     /// Puts the row in. A number that is none of SQL's is an error.
     fn put<S: Alter>(&self, tx: &mut Transaction<'_, S>) -> Result<usize, Error>
         ensures same_reference { tx.new.conn.ghost_name ≡ tx.old.conn.ghost_name }
-        ensures wrote { HasCleanDisk (state S.Store tx.new.conn.now)
-            → Wrote (Moves (with_row self.now)) (state S.Store tx.old.conn.now)
+        ensures wrote { WritesRows (with_row self.now) (state S.Store tx.old.conn.now)
             (state S.Store tx.new.conn.now) result }
         ensures survives { Survives (state S.Store tx.old.conn.now)
             (state S.Store tx.new.conn.now) (λ _. ⊥) };
@@ -44,8 +42,7 @@ pub(crate) fn put_all<T: Put, S: Alter>(
     rows: &[T],
 ) -> Result<(), Error>
     ensures same_reference { tx.new.conn.ghost_name ≡ tx.old.conn.ghost_name }
-    ensures wrote { HasCleanDisk (state S.Store tx.new.conn.now)
-        → WroteMany (Moves (with_each T.with_row rows.now)) (state S.Store tx.old.conn.now)
+    ensures wrote { WritesMany (with_each T.with_row rows.now) (state S.Store tx.old.conn.now)
         (state S.Store tx.new.conn.now) result }
     ensures survives { Survives (state S.Store tx.old.conn.now) (state S.Store tx.new.conn.now)
         (λ _. ⊥) }

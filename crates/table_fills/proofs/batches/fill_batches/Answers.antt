@@ -51,5 +51,4 @@ returns-clause-wrote g c clean =
     let by4 = many_on upto3 put4 s0 s3 s4 _ _ by3 wrote4 in
     let upto4 = λ (t : Tables). put4 (upto3 t) in
     let by5 = many_on upto4 put5 s0 s4 s5 _ c.put_all-5.result by4 wrote5 in
-    let upto5 = λ (t : Tables). put5 (upto4 t) in
     subst (λ u. WroteMany (Moves (with_batches u)) s0 s5 c.put_all-5.result) c.tables.view_is (same_made (with_batches rows) (batches_each rows) (batches_same rows) s0 s5 c.put_all-5.result by5)

@@ -39,5 +39,4 @@ returns-clause-wrote g c clean =
     let by2 = many_on put1 put2 s0 s1 s2 _ _ wrote1 wrote2 in
     let upto2 = λ (t : Tables). put2 (put1 t) in
     let by3 = many_on upto2 put3 s0 s2 s3 _ c.put_all-3.result by2 wrote3 in
-    let upto3 = λ (t : Tables). put3 (upto2 t) in
     subst (λ u. WroteMany (Moves (with_cards u)) s0 s3 c.put_all-3.result) c.tables.view_is (same_made (with_cards rows) (cards_each rows) (cards_same rows) s0 s3 c.put_all-3.result by3)
