@@ -1,23 +1,21 @@
 -- The audit by its parts.
-use Rattle.std.proofs.Common.{◌≡◌, ℕ, zero, suc, ◌+◌, ◌-◌, ◌<◌, ◌≤◌, Bool, true, false, eqb, List, [], ◌∷◌, ◌++◌, length, get_or, map, All, Some, None, inl, inr, refl, sym, ap, ◌∙◌, subst, arith}
+use Rattle.std.proofs.Common.{◌≡◌, ℕ, ◌+◌, ◌-◌, ◌<◌, true, false, List, [], ◌∷◌, length, get_or, map, All, Some, refl, sym, ap, ◌∙◌, subst, arith}
 use Rattle.std.specs.Prelude.{◌==◌, filter, find, flat_map}
 use Rattle.std.specs.List.{enumerate_from, position_or_len, range_with_len, slice_get}
 use Rattle.std.proofs.lemmas.Bool.Decides.{nat_tests}
 use Rattle.std.proofs.lemmas.List.{length-map}
 use Rattle.std.proofs.lemmas.List.Elements.{All-append, All-filter, All-head, All-map, All-nil, All-tail}
 use Rattle.std.proofs.lemmas.List.Folds.{find_at}
-use Rattle.std.proofs.lemmas.List.FromFn.{get_or-range_with_len, length-range_with_len}
+use Rattle.std.proofs.lemmas.List.FromFn.{get_or-range_with_len}
 use Rattle.std.proofs.lemmas.List.Sums.{passes_at_first, position_or_len_is}
 use Rattle.std.proofs.lemmas.Option.{slice_get-get_or, slice_get_within}
-use Rattle.store_data.specs.declared.row.Row.{Row}
-use Rattle.job_core.specs.declared.facts.RecordState.TheVariants as rec
 use Rattle.job_core.specs.Facts.{Batch}
 use Rattle.job_core.specs.Sound.{AreApart, AreNamedOnce, IsBatch, IsName}
 use Rattle.table_rows.specs.Tables.{StoredBatch, StoredGrouping, StoredLot, StoredRecord, StoredSession, StoredWord, Tables}
 use Rattle.rows_of_facts.proofs.Lists.{flat_map_same}
 use Rattle.facts_of_rows.specs.Decided.{batch_of_row}
 use Rattle.table_rows.specs.Keys.{is_batch, is_grouping_of, is_record_of}
-use Rattle.audit_laws.specs.Audited.{IsAudited, IsAuditedBatch, IsAuditedRecord, IsAuditedSession, file_groupings, file_keys, file_records, file_rows, grouping_of, is_session_of, key_of}
+use Rattle.audit_laws.specs.Audited.{IsAudited, IsAuditedRecord, IsAuditedSession, file_groupings, file_keys, file_records, file_rows, grouping_of, is_session_of, key_of}
 use Rattle.audit_rows.specs.Audit.{AreBlanks, AreCards, AreNumbered, AreReplies, AreSorted, IsIdOf}
 use Rattle.rows_answer.proofs.Finding.{AllPairs-from_map}
 use Rattle.audit_rows.specs.Order.{AreReady}

@@ -1,9 +1,9 @@
 -- A batch against its file and its sessions.
-use Rattle.std.proofs.Common.{◌≡◌, ℕ, ◌+◌, ◌-◌, ◌<◌, ◌≤◌, Bool, true, false, cond, ltb, ◌&&◌, eqb, List, [], ◌∷◌, length, get_or, map, All, Some, None, Ok, inl, inr, refl, sym, ap, ◌∙◌, subst, arith}
-use Rattle.std.specs.Prelude.{◌==◌, IsPermutation, IsTrue, bytes_eq, filter, find}
+use Rattle.std.proofs.Common.{◌≡◌, ℕ, ◌-◌, ◌<◌, true, cond, ltb, ◌&&◌, List, [], ◌∷◌, length, get_or, map, All, Some, None, Ok, refl, sym, ap, ◌∙◌, subst, arith}
+use Rattle.std.specs.Prelude.{◌==◌, IsPermutation, IsTrue, filter, find}
 use Rattle.std.specs.List.{enumerate_from, list_all, position_or_len, slice_get}
 use Rattle.std.specs.List.Sorted.{IsNonDecreasingBy}
-use Rattle.std.proofs.lemmas.Bool.{and_parts, cases_Bool}
+use Rattle.std.proofs.lemmas.Bool.{and_parts}
 use Rattle.std.proofs.lemmas.Bool.Decides.{nat_tests}
 use Rattle.std.proofs.lemmas.List.{get_or_default, length-map}
 use Rattle.std.proofs.lemmas.List.Elements.{All-cons, All-filter, All-head, All-nil, All-tail, filter_passes}
@@ -18,13 +18,12 @@ use Rattle.store_data.specs.Sequence.{IsProduct}
 use Rattle.batch_import.specs.Batch.{batch_of as read_under}
 use Rattle.job_core.specs.declared.facts.RecordState.{RecordState}
 use Rattle.job_core.specs.declared.facts.RecordState.TheVariants as rec
-use Rattle.job_core.specs.declared.facts.SessionState.{SessionState}
 use Rattle.job_core.specs.declared.facts.SessionState.TheVariants as session
 use Rattle.job_core.specs.Accounts.{count_records, count_sessions}
 use Rattle.job_core.specs.Sound.{IsBatch, IsName}
 use Rattle.job_core.specs.States.{is_finished, product_named, records_of, same_record_state, same_session_state}
 use Rattle.step_laws.proofs.Permuted.{IsPermutation-filter}
-use Rattle.table_rows.specs.Tables.{StoredBatch, StoredGrouping, StoredRecord, StoredSession, Tables}
+use Rattle.table_rows.specs.Tables.{StoredBatch, StoredRecord, StoredSession, Tables}
 use Rattle.table_rows.specs.After.{new_grouping}
 use Rattle.facts_of_rows.specs.Decided.{batch_of_row}
 use Rattle.table_rows.specs.Keys.{is_batch, is_grouping_of, is_record_at, is_record_of}
@@ -33,7 +32,7 @@ use Rattle.rows_answer.proofs.TotalRows.{sum_by-map}
 use Rattle.audit_laws.specs.Audited.{IsAuditedBatch, IsAuditedRecord, IsAuditedSession, file_groupings, file_keys, file_records, file_rows, grouping_of, is_session_at, is_session_of, key_of, record_states_of, session_states_of}
 use Rattle.audit_rows.specs.Files.{CountsBy, HasFile, IsFileOf, IsUnread, groupings_in, keys_of, names_in, records_so, sessions_so}
 use Rattle.audit_rows.specs.Sessions.{AreByRecord, HasRows, IsAuditedFile, IsAuditedWith}
-use Rattle.audit_rows.proofs.FileLemmas.{batch_of, has_rows, place_of, rows_are_read}
+use Rattle.audit_rows.proofs.FileLemmas.{batch_of, place_of, rows_are_read}
 use Rattle.audit_rows.proofs.SameLists.{get_or-map}
 use Rattle.audit_rows.proofs.Pieces.{All-passed, filter-both, filter-filter}
 

@@ -1,6 +1,6 @@
 -- Sessions that are sorted by their records.
 use Rattle.std.proofs.Common.{◌≡◌, ℕ, ◌==◌, Bool, true, false, ◌&&◌, List, [], ◌∷◌, refl, sym, ap, ◌∙◌, subst}
-use Rattle.std.specs.Prelude.{IsPermutation, bytes_eq, filter}
+use Rattle.std.specs.Prelude.{IsPermutation, filter}
 use Rattle.std.proofs.lemmas.List.Elements.{filter_agree}
 use Rattle.table_rows.specs.Tables.{StoredSession}
 use Rattle.audit_laws.specs.Audited.{AreOrderedBy, is_session_at}

@@ -1,10 +1,10 @@
 -- A card goes on by one word.
-use Rattle.std.proofs.Common.{◌≡◌, ℕ, is_some, zero, suc, Bool, true, false, not, ◌+◌, ◌-◌, ◌<◌, ◌≤◌, ◌^◌, List, [], ◌∷◌, ◌++◌, length, take, drop, get_or, All, Some, None, Option, refl, sym, ap, ◌∙◌, subst, arith, inl, inr}
-use Rattle.std.specs.Prelude.{◌==◌, IsTrue, if◌then◌else◌, option_map, slice_get}
-use Rattle.std.proofs.lemmas.Bool.{cases_Bool, cases_lt, false≢true}
+use Rattle.std.proofs.Common.{◌≡◌, ℕ, is_some, suc, Bool, true, false, not, ◌+◌, ◌<◌, ◌^◌, List, [], ◌∷◌, ◌++◌, length, take, drop, get_or, Some, Option, refl, sym, ap, ◌∙◌, arith, inl, inr}
+use Rattle.std.specs.Prelude.{◌==◌, if◌then◌else◌, option_map, slice_get}
+use Rattle.std.proofs.lemmas.Bool.{cases_lt, false≢true}
 use Rattle.std.proofs.lemmas.List.{drop_more, length-append, length_push, map-append, take-append-drop}
 use Rattle.std.proofs.lemmas.List.Elements.{All-nil, All-push}
-use Rattle.std.proofs.lemmas.Option.{none-some, same_Some, slice_get_within}
+use Rattle.std.proofs.lemmas.Option.{slice_get_within}
 use Rattle.store_data.specs.declared.cursor.Cursor.{Cursor}
 use Rattle.store_data.specs.declared.cursor.SegmentView.{SegmentView}
 use Rattle.store_data.specs.Cursor.{PlacedSegment, cursor_at, segment_at, shown}
@@ -12,7 +12,7 @@ use Rattle.store_data.specs.Sequence.{Command, IsPlan, Plan, commands_of}
 use Rattle.job_core.specs.declared.facts.SessionState.TheVariants as session
 use Rattle.job_core.specs.Facts.{Session}
 use Rattle.job_core.specs.Sound.{AreWords}
-use Rattle.job_core.specs.States.{going, goes_at, last_stops, last_stops_from, state_with}
+use Rattle.job_core.specs.States.{going, goes_at, last_stops, state_with}
 use Rattle.table_rows.specs.Tables.{StoredWord}
 use Rattle.audit_rows.specs.Cards.{Leaves, status_words}
 use Rattle.audit_rows.proofs.CursorLemmas.{end_of_view, last_stops-at}

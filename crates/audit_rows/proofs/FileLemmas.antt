@@ -1,18 +1,17 @@
 -- The records of a batch's file, one after the other.
-use Rattle.std.proofs.Common.{◌≡◌, ℕ, zero, suc, ◌+◌, ◌<◌, ◌≤◌, Bool, true, false, ◌&&◌, eqb, List, [], ◌∷◌, length, take, get_or, map, All, Some, Ok, inl, inr, refl, sym, ap, ◌∙◌, subst, arith}
+use Rattle.std.proofs.Common.{◌≡◌, ℕ, ◌<◌, List, [], length, get_or, Some, refl, sym, ap, ◌∙◌, subst, arith}
 use Rattle.std.specs.Prelude.{◌==◌, bytes_eq, filter, find}
 use Rattle.std.specs.List.{enumerate_from, position_or_len, slice_get}
-use Rattle.std.proofs.lemmas.Bool.{cases_Bool}
 use Rattle.std.proofs.lemmas.Bool.Decides.{nat_tests}
 use Rattle.std.proofs.lemmas.List.{get_or_default, length-map}
 use Rattle.std.proofs.lemmas.List.Elements.{All-filter}
 use Rattle.std.proofs.lemmas.List.Folds.{find_at}
-use Rattle.std.proofs.lemmas.List.FromFn.{get_or-enumerate_from, length-enumerate_from}
+use Rattle.std.proofs.lemmas.List.FromFn.{length-enumerate_from}
 use Rattle.std.proofs.lemmas.List.Sums.{count_by-le-length, length-filter, position_or_len_is}
 use Rattle.std.proofs.lemmas.Option.{slice_get-get_or}
 use Rattle.store_data.specs.declared.row.Product.{Product}
 use Rattle.store_data.specs.declared.row.Row.{Row}
-use Rattle.store_data.specs.Groups.{first_appearances, grouped, with_the_key}
+use Rattle.store_data.specs.Groups.{grouped, with_the_key}
 use Rattle.store_data.specs.RecordFaults.{HavePlan}
 use Rattle.store_data.specs.Sequence.{IsRow}
 use Rattle.job_core.specs.Facts.{Batch}
@@ -21,8 +20,8 @@ use Rattle.table_rows.specs.Tables.{StoredBatch, StoredRecord, StoredSession, Ta
 use Rattle.facts_of_rows.specs.Decided.{batch_of_row}
 use Rattle.table_rows.specs.Keys.{is_batch, is_record_at, is_record_of}
 use Rattle.rows_answer.proofs.Finding.{find-filter}
-use Rattle.audit_laws.specs.Audited.{file_records, file_rows, is_session_at, key_of}
-use Rattle.audit_rows.specs.Files.{HasFile, IsFileOf, keys_of, names_in}
+use Rattle.audit_laws.specs.Audited.{file_rows, is_session_at, key_of}
+use Rattle.audit_rows.specs.Files.{HasFile, IsFileOf, names_in}
 use Rattle.audit_rows.specs.Sessions.{HasRows}
 use Rattle.audit_rows.proofs.RowLemmas.{keys_at}
 use Rattle.audit_rows.proofs.SameLists.{get_or-map}

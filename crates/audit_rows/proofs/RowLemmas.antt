@@ -1,7 +1,7 @@
 -- Rows of records, groupings and remakes, each by what gives it.
-use Rattle.std.proofs.Common.{◌≡◌, ℕ, ◌+◌, ◌<◌, ◌≤◌, Bool, true, false, not, ltb, List, [], ◌∷◌, ◌++◌, length, take, get_or, map, fold, Some, inl, inr, refl, sym, ap, ◌∙◌, subst, arith}
+use Rattle.std.proofs.Common.{◌≡◌, ℕ, ◌+◌, ◌<◌, Bool, true, false, not, ltb, List, [], ◌∷◌, ◌++◌, length, take, get_or, map, fold, Some, refl, sym, ap, ◌∙◌, arith}
 use Rattle.std.specs.Prelude.{AllPairs, bytes_eq, slice_get}
-use Rattle.std.specs.List.{enumerate_from, list_any, position_or_len, range_with_len}
+use Rattle.std.specs.List.{enumerate_from, list_any, position_or_len}
 use Rattle.std.proofs.lemmas.Bool.{cond-false, cond-true}
 use Rattle.std.proofs.lemmas.Bool.Decides.{nat_tests}
 use Rattle.std.proofs.lemmas.List.{length-map, map-append, take_more}

@@ -1,6 +1,5 @@
 -- A session's row against its words.
-use Rattle.std.proofs.Common.{◌≡◌, ℕ, Bool, true, false, List, [], ◌∷◌, length, map, Option, Some, None, refl, sym, ap, ◌∙◌, subst, arith}
-use Rattle.std.specs.Prelude.{IsTrue, filter, find}
+use Rattle.std.proofs.Common.{◌≡◌, Bool, true, false, length, Some, refl, sym, ap, ◌∙◌, subst}
 use Rattle.std.proofs.lemmas.Bool.{false≢true}
 use Rattle.std.proofs.lemmas.Option.{same_Some}
 use Rattle.store_data.specs.declared.cursor.Cursor.{Cursor}

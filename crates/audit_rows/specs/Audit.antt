@@ -1,5 +1,5 @@
 -- The parts of the audit.
-use Rattle.std.specs.Prelude.{◌≡◌, ◌≢◌, ◌≤◌, ◌<◌, ◌+◌, ℕ, Bool, true, false, not, List, All, AllPairs, IsPermutation, IsTrue, bytes_eq, count_by, flat_map, length, map}
+use Rattle.std.specs.Prelude.{◌≡◌, ◌≢◌, ◌≤◌, ◌<◌, ◌+◌, ℕ, true, false, not, List, All, AllPairs, IsPermutation, IsTrue, bytes_eq, count_by, flat_map, length, map}
 use Rattle.std.specs.List.{range_with_len}
 use Rattle.std.specs.List.Sorted.{IsNonDecreasingBy}
 use Rattle.store_data.specs.declared.row.Product.{Product}

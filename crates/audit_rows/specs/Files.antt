@@ -1,5 +1,5 @@
 -- What a batch's rows are tested for.
-use Rattle.std.specs.Prelude.{◌≡◌, ◌==◌, ℕ, Bool, true, false, List, All, AllPairs, Ok, Some, bytes_eq, count_by, filter, find, length, map}
+use Rattle.std.specs.Prelude.{◌≡◌, ◌==◌, ℕ, true, false, List, AllPairs, Ok, Some, bytes_eq, count_by, filter, find, length, map}
 use Rattle.std.specs.List.{enumerate_from, list_all, list_any}
 use Rattle.store_data.specs.declared.row.Row.{Row}
 use Rattle.std.specs.List.Sorted.{IsNonDecreasingBy}

@@ -1,8 +1,5 @@
-use Rattle.std.proofs.Common.{◌≡◌, ◌<◌, ◌∙◌, List, Some, ap, get_or, length, subst, sym}
-use Rattle.std.specs.Prelude.{find}
+use Rattle.std.proofs.Common.{◌∙◌, sym}
 use Rattle.std.proofs.lemmas.Bool.{false≢true}
-use Rattle.table_rows.specs.Keys.{is_batch}
-use Rattle.table_rows.specs.Tables.{StoredBatch}
 use Rattle.audit_rows.specs.Sessions.{IsAuditedFile}
 use Rattle.audit_rows.proofs.AuditLemmas.{found_among}
 use Rattle.audit_rows.proofs.SameLists.{All-done, All-here, All-next}

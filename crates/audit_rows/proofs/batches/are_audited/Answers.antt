@@ -1,4 +1,4 @@
-use Rattle.std.proofs.Common.{◌≡◌, ◌<◌, ◌∙◌, ap, arith, length, map, sym}
+use Rattle.std.proofs.Common.{◌<◌, ◌∙◌, arith, length, map, sym}
 use Rattle.std.proofs.lemmas.Bool.{false≢true}
 use Rattle.std.proofs.lemmas.List.{length-map}
 use Rattle.audit_rows.specs.Sessions.{IsAuditedWith}

@@ -1,4 +1,3 @@
-use Rattle.std.proofs.Common.{◌≡◌, ◌∙◌, ltb, sym, ap, subst}
 use Rattle.audit_rows.proofs.BatchLemmas.{by_last}
 use Rattle.audit_rows.proofs.batches.are_placed.Goals as goal
 

@@ -1,4 +1,4 @@
-use Rattle.std.proofs.Common.{◌≡◌, ◌∙◌, All, Bool, List, ap, length, map, sym, subst}
+use Rattle.std.proofs.Common.{◌∙◌, List, ap, map, sym, subst}
 use Rattle.std.proofs.lemmas.Bool.{false≢true}
 use Rattle.store_data.specs.declared.row.Row.{Row}
 use Rattle.store_data.specs.Groups.{grouped}

@@ -1,4 +1,4 @@
-use Rattle.std.proofs.Common.{◌≡◌, ◌∙◌, sym}
+use Rattle.std.proofs.Common.{◌∙◌, sym}
 use Rattle.std.proofs.lemmas.Bool.{false≢true}
 use Rattle.audit_rows.proofs.BatchLemmas.{no_product}
 use Rattle.audit_rows.proofs.SessionLemmas.{refused}

@@ -1,4 +1,4 @@
-use Rattle.std.proofs.Common.{◌≡◌, ◌∙◌, All, List, ℕ, map, sym, subst}
+use Rattle.std.proofs.Common.{List, ℕ, map, sym, subst}
 use Rattle.std.specs.Prelude.{IsPermutation}
 use Rattle.std.specs.List.Sorted.{IsNonDecreasing}
 use Rattle.table_rows.specs.Tables.{StoredBlank}

@@ -1,7 +1,6 @@
-use Rattle.std.proofs.Common.{◌≡◌, ◌∙◌, ◌<◌, ◌∷◌, [], ◌++◌, Bool, Some, None, true, false, ap, length, sym, subst}
+use Rattle.std.proofs.Common.{◌∙◌, false, ap, length, sym, subst}
 use Rattle.std.specs.Prelude.{option_map}
-use Rattle.store_data.specs.Cursor.{IsSegmentAt, shown, segment_at}
-use Rattle.store_data.specs.Sequence.{commands_of}
+use Rattle.store_data.specs.Cursor.{shown}
 use Rattle.audit_rows.specs.Cards.{Leaves}
 use Rattle.audit_rows.proofs.CardLemmas.{Leaves-goes, Leaves-stops, at_length, command_there, none_after, none_past}
 use Rattle.audit_rows.proofs.CursorLemmas.{IsCursor-at, end_at}

@@ -1,4 +1,4 @@
-use Rattle.std.proofs.Common.{◌≡◌, ◌+◌, ◌∙◌, ◌∷◌, ◌++◌, List, ℕ, ap, drop, sym, subst, take, arith}
+use Rattle.std.proofs.Common.{◌+◌, drop, subst, take}
 use Rattle.store_data.specs.Sequence.{commands_of}
 use Rattle.job_core.specs.Sound.{AreWords}
 use Rattle.audit_rows.specs.Cards.{status_words}

@@ -1,5 +1,5 @@
 use Rattle.std.specs.Prelude.{if◌then◌else◌}
-use Rattle.std.proofs.Common.{◌≡◌, ◌∙◌, Bool, true, false, sym, ap}
+use Rattle.std.proofs.Common.{◌≡◌, ◌∙◌, Bool, true, false, ap}
 use Rattle.store_data.specs.contracts.status.Class.{the_type}
 use Rattle.store_data.specs.declared.status.Class.{Class}
 use Rattle.store_data.specs.declared.status.Class.TheVariants.{Go, Stop}

@@ -1,8 +1,8 @@
-use Rattle.std.proofs.Common.{◌∙◌, ◌+◌, ap, arith, length, refl, sym, subst}
+use Rattle.std.proofs.Common.{◌∙◌, ◌+◌, ap, arith, length, sym, subst}
 use Rattle.std.proofs.lemmas.Bool.{false≢true}
 use Rattle.table_rows.specs.Tables.{StoredGrouping}
 use Rattle.table_rows.specs.After.{new_grouping}
-use Rattle.audit_rows.specs.Files.{IsNamed, groupings_in, names_in}
+use Rattle.audit_rows.specs.Files.{IsNamed, groupings_in}
 use Rattle.audit_rows.proofs.RowLemmas.{grouping_here, groupings_count, named_here}
 use Rattle.audit_rows.proofs.SameLists.{all_equal, here_equal, same_here, same_more}
 use Rattle.audit_rows.proofs.SessionLemmas.{granted, refused}

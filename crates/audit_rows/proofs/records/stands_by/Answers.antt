@@ -1,7 +1,5 @@
-use Rattle.std.proofs.Common.{◌≡◌, ◌∙◌, cond, ltb, sym, ap, subst}
+use Rattle.std.proofs.Common.{◌∙◌, sym}
 use Rattle.std.proofs.lemmas.Bool.{false≢true}
-use Rattle.audit_laws.specs.Audited.{is_withdrawn}
-use Rattle.audit_rows.specs.Sessions.{IsSoundCount}
 use Rattle.audit_rows.proofs.RecordLemmas.{stands_by_counts, so_by_counts, sound_by_counts}
 use Rattle.audit_rows.proofs.SessionLemmas.{refused}
 use Rattle.audit_rows.proofs.records.stands_by.Goals as goal

@@ -1,4 +1,4 @@
-use Rattle.std.proofs.Common.{◌∙◌, List, ℕ, subst, sym}
+use Rattle.std.proofs.Common.{◌∙◌, subst, sym}
 use Rattle.std.specs.Prelude.{AllPairs}
 use Rattle.audit_rows.proofs.ReplyLemmas.{is_other, kept_once, once_kept}
 use Rattle.audit_rows.proofs.SameLists.{told_as}

@@ -1,4 +1,4 @@
-use Rattle.std.proofs.Common.{◌≡◌, ◌∙◌, ap, sym}
+use Rattle.std.proofs.Common.{◌∙◌, ap}
 use Rattle.std.specs.Prelude.{bytes_eq}
 use Rattle.std.specs.List.{position}
 use Rattle.audit_rows.proofs.ReplyLemmas.{no_mark, the_mark, mark_within}

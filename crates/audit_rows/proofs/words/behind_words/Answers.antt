@@ -1,4 +1,4 @@
-use Rattle.std.proofs.Common.{◌≡◌, ◌∙◌, ◌++◌, List, ap, arith, drop, length, sym, subst, take}
+use Rattle.std.proofs.Common.{◌∙◌, ◌++◌, List, ap, arith, drop, length, sym, take}
 use Rattle.std.proofs.lemmas.Bool.{false≢true}
 use Rattle.std.proofs.lemmas.List.{length-append, take-append-drop, take_at}
 use Rattle.table_rows.specs.Tables.{StoredWord}
