@@ -1,5 +1,5 @@
 //! A batch is imported, in an open transaction. A crash before its end leaves nothing of it.
-ghost use Rattle.std.specs.Prelude.{◌≡◌, ◌<◌, ◌≤◌, ◌^◌, IfOk, bytes_eq, length, map};
+ghost use Rattle.std.specs.Prelude.{◌≡◌, ◌<◌, ◌≤◌, ◌^◌, [], IfOk, bytes_eq, length, map};
 ghost use Rattle.std.specs.List.{enumerate_from, position_or_len};
 ghost use Rattle.sqlite.specs.Held.{state};
 ghost use Rattle.sqlite.specs.State.{Survives};
@@ -15,7 +15,7 @@ ghost use Rattle.change_writes.specs.Refused.{refused};
 
 use batch_import::{ImportFault, read_batch};
 use indexmap::IndexSet;
-use row_writes::{add_batch, add_grouping, add_record};
+use row_writes::{add_batch, add_grouping, add_record, set_raw};
 use sqlite::{Alter, Error, ErrorCode, Transaction};
 use std::alloc::{AllocError, Global};
 use store_data::{Name, Product, Row};
@@ -24,7 +24,8 @@ use store_data::{Name, Product, Row};
 const FIRST_DATA_ROW: u32 = 2;
 
 /// Writes the batch of a file: its row, its records and its groupings. A file with a fault is an
-/// error, and so is refused memory. After an error the caller drops the transaction.
+/// error, and so is refused memory. After an error the caller drops the transaction. The bytes are
+/// set last: each row that refers to the batch has its row read whole.
 pub fn write_batch<'x, S: Alter>(
     tx: &mut Transaction<'_, S>,
     alloc: Global,
@@ -43,9 +44,33 @@ pub fn write_batch<'x, S: Alter>(
     ensures survives { Survives (state S.Store tx.old.conn.now) (state S.Store tx.new.conn.now)
         (λ _. ⊥) }
 {
+    write_bare(tx, alloc, id, name, code, product, raw)?;
+    set_raw(tx, id, raw)?;
+    Ok(())
+}
+
+// Writes the batch of a file, but for the bytes in its row.
+fn write_bare<'x, S: Alter>(
+    tx: &mut Transaction<'_, S>,
+    alloc: Global,
+    id: u64,
+    name: &'x Name,
+    code: &'x Name,
+    product: &Product,
+    raw: &[u8],
+) -> Result<(), Error>
+    requires id { id < 2 ^ 63 }
+    requires product { IsProduct product.now }
+    ensures same_reference { tx.new.conn.ghost_name ≡ tx.old.conn.ghost_name }
+    ensures wrote { let rows = rows_or_none (batch_of product.now raw.now) in
+        WritesRows (batch_rows_after id name.now code.now [] rows)
+        (state S.Store tx.old.conn.now) (state S.Store tx.new.conn.now) result }
+    ensures survives { Survives (state S.Store tx.old.conn.now) (state S.Store tx.new.conn.now)
+        (λ _. ⊥) }
+{
     let batch = read_batch(alloc, raw, product).map_err(refused)?;
     let names = names_of(alloc, batch.rows.as_slice())?;
-    add_batch(tx, id, name, code, raw, names.len() as u32)?;
+    add_batch(tx, id, name, code, &[], names.len() as u32)?;
     add_records(tx, id, names.as_slice())?;
     add_groupings(tx, id, &names, batch.rows.as_slice())
 }

@@ -1,33 +1,38 @@
 -- What is answered of batches and of charged blanks.
-use Rattle.std.proofs.Common.{◌≡◌, ℕ, ◌&&◌, true, List, [], ◌∷◌, map, Option, pos, refl, subst}
+use Rattle.std.proofs.Common.{◌≡◌, ℕ, ◌&&◌, ◌==◌, nat_le, int_cmp, inl, inr, Bool, true, false, List, [], ◌∷◌, map, Option, Some, pos, refl, ap, ◌∙◌, subst, arith}
+use Rattle.std.proofs.lemmas.Bool.{cases_Bool}
+use Rattle.std.proofs.lemmas.Bool.Decides.{nat_tests}
+use Rattle.std.specs.Ordering.{is_eq}
 use Rattle.std.specs.Prelude.{filter, find, option_map}
 use Rattle.std.specs.List.{list_any}
 use Rattle.std.specs.List.Sorted.{IsPermutation}
 use Rattle.sqlite.specs.declared.types.Value.TheVariants.{Blob, Int, Text}
 use Rattle.sqlite.specs.Collation.TheVariants.{Binary}
-use Rattle.sqlite.specs.Ops.{binary, is_true}
+use Rattle.sqlite.specs.Ops.{binary, from_truth, is_true}
 use Rattle.sqlite.specs.Order.{Row}
 use Rattle.sqlite.specs.State.{Shown, State}
 use Rattle.sqlite.specs.Term.{Term, col}
 use Rattle.sqlite_sql.specs.declared.ops.BinaryOp.TheVariants.{Compare}
-use Rattle.sqlite_sql.specs.declared.ops.CompareOp.TheVariants.{Eq}
+use Rattle.sqlite_sql.specs.declared.ops.CompareOp.TheVariants.{Eq, Le}
 use Rattle.sql_base.proofs.Selecting.{all_pass}
-use Rattle.sql_base.proofs.Tests.{alone, same_blob, same_text}
+use Rattle.sqlite_value.proofs.OrderLemmas.{value_cmp-Int}
+use Rattle.sql_base.proofs.Tests.{alone, same_blob, same_int, same_most, same_text}
 use Rattle.sql_rows.specs.Encoding.{batch_row, blank_row}
 use Rattle.sql_rows.specs.Image.{IsImage}
 use Rattle.sql_rows.proofs.OneImage.{flag_back}
 use Rattle.table_rows.specs.Keys.{is_batch, is_batch_for, is_batch_named, is_batch_with, is_blank}
 use Rattle.table_rows.specs.Tables.{PassesOnce, StoredBatch, Tables}
 use Rattle.row_reads.specs.declared.batches.BatchHead.{BatchHead}
-use Rattle.row_reads.specs.Decoding.{IsFirst, first_number, has_rows, head_in, id_in, name_in}
+use Rattle.row_reads.specs.declared.batches.BatchTold.{BatchTold}
+use Rattle.row_reads.specs.Decoding.{IsFirst, first_number, has_rows, head_in, id_in, name_in, told_in}
 use Rattle.row_reads.specs.CardTexts.{limit_one}
 use Rattle.row_reads.specs.Extremes.{IsGreatest}
-use Rattle.row_reads.specs.NameTexts.{last_batch_text, batches_of_text, by_batch_product, charged_text, batch_has_text, batch_head_text, id_columns, batch_id_text, batch_name_columns, batch_name_text, by_batch_name, by_bytes, by_id, head_columns}
-use Rattle.row_reads.specs.Telling.{head_of}
+use Rattle.row_reads.specs.NameTexts.{last_batch_text, batches_of_text, by_batch_product, charged_text, batch_has_text, batch_head_text, batch_told_text, id_columns, batch_id_text, batch_name_columns, batch_name_text, by_batch_name, by_bytes, by_id, by_id_in_order, head_columns, told_columns}
+use Rattle.row_reads.specs.Telling.{head_of, told_of}
 use Rattle.row_reads.proofs.Answering.{int_key, text_key}
 use Rattle.row_reads.proofs.Asking.{Asks, all_found, any_found, asked, one_found, tells}
-use Rattle.row_reads.proofs.Sorting.{asked_sorted, greatest_found}
-use Rattle.row_reads.proofs.NameMeanings.{last_batch_asks, batches_of_asks, charged_asks, batch_has_asks, batch_head_asks, batch_id_asks, batch_name_asks}
+use Rattle.row_reads.proofs.Sorting.{asked_sorted, first_of_one, greatest_found}
+use Rattle.row_reads.proofs.NameMeanings.{last_batch_asks, batches_of_asks, charged_asks, batch_has_asks, batch_head_asks, batch_id_asks, batch_name_asks, batch_told_asks}
 
 -- the rows with this name
 named : (text : List ℕ) (project : List Term) → Asks text 5 by_batch_name project → (name : List ℕ) (old new : State) (rows : List Row) → Shown text (Text name ∷ []) old new rows
@@ -50,13 +55,45 @@ batch_head_found name old new rows h t image once found first =
     one_found (is_batch_named name) (λ b. tells true head_columns (Text name ∷ []) (batch_row b)) t.batches rows (named batch_head_text head_columns batch_head_asks name old new rows h t image)
     head_in head_of once (λ b is. head_back (Text name ∷ []) b) found first
 
+told_back : (params : Row) (b : StoredBatch) → told_in (tells true told_columns params (batch_row b)) ≡ told_of b
+told_back params b = rw (flag_back b.closed) refl
+
+pub batch_told_found : (name : List ℕ) (old new : State) (rows : List Row) → Shown batch_told_text (Text name ∷ []) old new rows → (t : Tables) → IsImage t old.now
+    → PassesOnce (is_batch_named name) t.batches → (found : Option BatchTold) → IsFirst (map told_in rows) found → found ≡ option_map told_of (find (is_batch_named name) t.batches)
+batch_told_found name old new rows h t image once found first =
+    one_found (is_batch_named name) (λ b. tells true told_columns (Text name ∷ []) (batch_row b)) t.batches rows (named batch_told_text told_columns batch_told_asks name old new rows h t image)
+    told_in told_of once (λ b is. told_back (Text name ∷ []) b) found first
+
+same_number : (m n : ℕ) → is_eq (int_cmp (pos m) (pos n)) ≡ (m == n)
+same_number m n = grind (arith, nat_tests)
+
+equal_told : (m n : ℕ) → binary (Compare Eq Binary) (Int (pos m)) (Int (pos n)) ≡ from_truth (Some (m == n))
+unfolding binary
+equal_told m n = ap (λ is. from_truth (Some is)) (ap is_eq (value_cmp-Int (pos m) (pos n)) ∙ same_number m n)
+
+truth_told : (is : Bool) → is_true (binary (Compare Eq Binary) (from_truth (Some is)) (Int (pos 1))) ≡ is
+truth_told true = same_int 1 1
+truth_told false = same_int 0 1
+
+least_or_equal : (m n : ℕ) → (nat_le m n && (n == m)) ≡ (n == m)
+least_or_equal m n = elim (cases_Bool (nat_le m n)) [
+  | inl low ↦ rw low refl
+  | inr past ↦ rw past (grind (arith, nat_tests))
+]
+
+id_key : (key n : ℕ)
+    → (is_true (binary (Compare Le Binary) (Int (pos key)) (Int (pos n))) && (is_true (binary (Compare Eq Binary) (binary (Compare Eq Binary) (Int (pos n)) (Int (pos key))) (Int (pos 1))) && true)) ≡ (n == key)
+id_key key n = rw (same_most key n, equal_told n key, truth_told (n == key), alone (n == key)) (least_or_equal key n)
+
 pub batch_name_found : (id : ℕ) (old new : State) (rows : List Row) → Shown batch_name_text (Int (pos id) ∷ []) old new rows → (t : Tables) → IsImage t old.now
     → PassesOnce (is_batch id) t.batches → (found : Option (List ℕ)) → IsFirst (map name_in rows) found → found ≡ option_map (λ (b : StoredBatch). b.name) (find (is_batch id) t.batches)
 batch_name_found id old new rows h t image once found first =
-    one_found (is_batch id) (λ b. tells true batch_name_columns (Int (pos id) ∷ []) (batch_row b)) t.batches rows
-    (asked true batch_row by_id batch_name_columns (Int (pos id) ∷ []) (is_batch id) refl (λ v r. refl) (λ b. int_key id b.id) batch_name_text 5 batch_name_asks old new rows h image.ours t.batches
-    image.each.1.1.1.0.rows)
-    name_in (λ b. b.name) once (λ b is. refl) found first
+    let params = Int (pos id) ∷ [] in
+    let tell : StoredBatch → Row = λ b. tells true (col 1 0 ∷ batch_name_columns) params (batch_row b) in
+    let it = asked_sorted true batch_row by_id_in_order (col 1 0) batch_name_columns params (is_batch id) refl (λ v r. refl) (λ b. id_key id b.id) false limit_one batch_name_text 5 batch_name_asks old new rows h image.ours t.batches
+    image.each.1.1.1.0.rows in
+    one_found (is_batch id) tell t.batches it.0 it.1 name_in (λ b. b.name) once (λ b is. refl) found
+    (first_of_one name_in it.0 found (subst (λ rs. IsFirst (map name_in rs) found) it.3 first))
 
 bytes_key : (name raw : List ℕ) (b : StoredBatch)
     → (is_true (binary (Compare Eq Binary) (Text b.name) (Text name)) && (is_true (binary (Compare Eq Binary) (Blob b.raw) (Blob raw)) && true)) ≡ is_batch_with name raw b

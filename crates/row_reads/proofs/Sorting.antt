@@ -144,7 +144,7 @@ least_of rank zs (y ∷ ys) same up found some =
     let least : All (λ z. rank y ≤ rank z) zs = All-permutation (λ z. rank y ≤ rank z) (y ∷ ys) zs (IsPermutation-sym zs (y ∷ ys) same) (λ k d low. up 0 k d (omega arith) low) in
     subst (IsLeastBy rank zs) (sym some) (within, least)
 
-first_of_one : {Y : Type 0} (decode : Row → Y) (all : List Row) (found : Option Y) → IsFirst (map decode (take 1 all)) found → IsFirst (map decode all) found
+pub first_of_one : {Y : Type 0} (decode : Row → Y) (all : List Row) (found : Option Y) → IsFirst (map decode (take 1 all)) found → IsFirst (map decode all) found
 first_of_one decode [] found first = first
 first_of_one decode (r ∷ all) found first = first
 

@@ -9,6 +9,7 @@ use Rattle.job_core.specs.declared.rows.KeptReply.{KeptReply}
 use Rattle.job_core.specs.declared.facts.Lot.{Lot}
 use Rattle.sql_rows.specs.Decoding.{flag_in, number_in}
 use Rattle.row_reads.specs.declared.batches.BatchHead.{BatchHead}
+use Rattle.row_reads.specs.declared.batches.BatchTold.{BatchTold}
 use Rattle.row_reads.specs.declared.lots.LotRow.{LotRow}
 
 abbrev pub text_in : Value → List ℕ
@@ -29,8 +30,9 @@ reply_in row = record { ask = blob_in (column row 0); status = number_in (column
 abbrev pub id_in : Row → ℕ
 id_in row = number_in (column row 0)
 
+-- the name behind an id
 abbrev pub name_in : Row → List ℕ
-name_in row = text_in (column row 0)
+name_in row = text_in (column row 1)
 
 -- the counters of a batch, from column 3 on
 abbrev pub totals_in : Row → BatchTotals
@@ -47,6 +49,9 @@ totals_in row = record {
 
 abbrev pub head_in : Row → BatchHead
 head_in row = record { id = number_in (column row 0); product = text_in (column row 1); is_closed = flag_in (column row 2); totals = totals_in row }
+
+abbrev pub told_in : Row → BatchTold
+told_in row = record { id = number_in (column row 0); product = text_in (column row 1); is_closed = flag_in (column row 2) }
 
 abbrev pub lot_in : Row → Lot
 lot_in row = record { name = text_in (column row 0); product = text_in (column row 1); first = number_in (column row 2); count = number_in (column row 3) }

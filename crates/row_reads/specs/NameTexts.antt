@@ -1,6 +1,10 @@
 -- The texts of the statements that read what has a name, and what they ask.
-use Rattle.std.specs.Prelude.{List, ℕ, [], ◌∷◌, codes}
-use Rattle.sqlite.specs.Term.{Term, col}
+use Rattle.std.specs.Prelude.{List, ℕ, pos, [], ◌∷◌, codes}
+use Rattle.sqlite.specs.Collation.TheVariants.{Binary}
+use Rattle.sqlite.specs.declared.types.Value.TheVariants.{Int}
+use Rattle.sqlite.specs.Term.{Term, col, lit, op2}
+use Rattle.sqlite_sql.specs.declared.ops.BinaryOp.TheVariants.{Compare}
+use Rattle.sqlite_sql.specs.declared.ops.CompareOp.TheVariants.{Le}
 use Rattle.sql_base.specs.Queries.{is_equal}
 
 -- ---- replies
@@ -28,10 +32,15 @@ abbrev pub by_batch_name : List Term
 by_batch_name = is_equal (col 1 2) (col 0 0) ∷ []
 
 abbrev pub batch_name_text : List ℕ
-batch_name_text = codes "SELECT name FROM batch WHERE id = ?1"
+batch_name_text = codes "SELECT id, name FROM batch WHERE ?1 <= id AND (id = ?1) = 1 ORDER BY id LIMIT 1"
 
+-- behind the id
 abbrev pub batch_name_columns : List Term
 batch_name_columns = col 1 2 ∷ []
+
+-- the id is at least the first parameter, and it is the first parameter
+abbrev pub by_id_in_order : List Term
+by_id_in_order = op2 (Compare Le Binary) (col 0 0) (col 1 0) ∷ is_equal (is_equal (col 1 0) (col 0 0)) (lit (Int (pos 1))) ∷ []
 
 -- the id is the first parameter
 abbrev pub by_id : List Term
@@ -42,6 +51,12 @@ batch_head_text = codes "SELECT id, product, closed, waiting, running, failed, w
 
 abbrev pub head_columns : List Term
 head_columns = col 1 0 ∷ col 1 3 ∷ col 1 5 ∷ col 1 6 ∷ col 1 7 ∷ col 1 8 ∷ col 1 9 ∷ col 1 10 ∷ col 1 11 ∷ col 1 12 ∷ []
+
+abbrev pub batch_told_text : List ℕ
+batch_told_text = codes "SELECT id, product, closed FROM batch WHERE name = ?1"
+
+abbrev pub told_columns : List Term
+told_columns = col 1 0 ∷ col 1 3 ∷ col 1 5 ∷ []
 
 abbrev pub batch_has_text : List ℕ
 batch_has_text = codes "SELECT id FROM batch WHERE name = ?1 AND raw = ?2"

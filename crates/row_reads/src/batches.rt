@@ -3,10 +3,10 @@ ghost use Rattle.std.specs.Prelude.{◌≡◌, ◌<◌, ◌^◌, false, filter, 
 ghost use Rattle.std.specs.Prelude.{IfOk, IfSome, IsPermutation};
 ghost use Rattle.std.specs.List.{list_any};
 ghost use Rattle.sqlite.specs.Held.{state};
-ghost use Rattle.row_reads.specs.Decoding.{IsFirst, head_in, totals_in};
+ghost use Rattle.row_reads.specs.Decoding.{IsFirst, head_in, told_in, totals_in};
 ghost use Rattle.row_reads.specs.Extremes.{IsGreatest};
 ghost use Rattle.row_reads.specs.Reads.{Looks, TellsRows};
-ghost use Rattle.row_reads.specs.Telling.{AreCounts, IsHead, head_of};
+ghost use Rattle.row_reads.specs.Telling.{AreCounts, IsHead, IsTold, head_of, told_of};
 ghost use Rattle.table_rows.specs.Keys.{is_batch, is_batch_for, is_batch_named, is_batch_with};
 ghost use Rattle.table_rows.specs.Tables.{PassesOnce, StoredBatch};
 
@@ -17,6 +17,14 @@ use sqlite::types::ValueRef;
 use sqlite::{Alter, Connection, Error, Row};
 use std::alloc::Global;
 use store_data::Name;
+
+/// A batch without its bytes and its counters.
+#[derive(Clone, Copy)]
+pub struct BatchTold {
+    pub id: u64,
+    pub product: Name,
+    pub is_closed: bool,
+}
 
 /// A batch without its bytes.
 #[derive(Clone, Copy)]
@@ -74,6 +82,30 @@ fn head_in(row: &Row) -> Result<BatchHead, Error>
     })
 }
 
+fn told_in(row: &Row) -> Result<BatchTold, Error>
+    ensures value { IfOk result (λ told. told ≡ told_in row.now) }
+    ensures ranged { IfOk result IsTold }
+{
+    let id = number_at(row, 0)?;
+    let product = name_at(row, 1)?;
+    let is_closed: bool = row.get(2)?;
+    Ok(BatchTold {
+        id,
+        product,
+        is_closed,
+    })
+}
+
+fn first_told(rows: &[Row]) -> Result<Option<BatchTold>, Error>
+    ensures value { IfOk result (λ found. IsFirst (map told_in rows.now) found) }
+    ensures ranged { IfOk result (λ found. IfSome found IsTold) }
+{
+    match rows.first() {
+        None => Ok(None),
+        Some(row) => Ok(Some(told_in(row)?)),
+    }
+}
+
 fn first_head(rows: &[Row]) -> Result<Option<BatchHead>, Error>
     ensures value { IfOk result (λ found. IsFirst (map head_in rows.now) found) }
     ensures ranged { IfOk result (λ found. IfSome found IsHead) }
@@ -115,7 +147,8 @@ pub fn batch_id<S: Alter>(conn: &mut Connection<S>, name: &Name) -> Result<Optio
     first_id(rows.as_slice())
 }
 
-/// The name of the batch with this id.
+/// The name of the batch with this id. An equality with the id alone would read the row whole, with
+/// its bytes; so an index answers.
 pub fn batch_name<S: Alter>(conn: &mut Connection<S>, id: u64) -> Result<Option<Name>, Error>
     requires idle { conn.old.in_transaction ≡ false }
     requires id { id < 2 ^ 63 }
@@ -125,8 +158,34 @@ pub fn batch_name<S: Alter>(conn: &mut Connection<S>, id: u64) -> Result<Option<
     ensures looks { Looks (state S.Store conn.old) (state S.Store conn.new) }
     ensures idle { conn.new.in_transaction ≡ false }
 {
-    let rows = rows_of(conn, "SELECT name FROM batch WHERE id = ?1", &[int(id)])?;
+    let rows = rows_of(
+        conn,
+        "SELECT id, name FROM batch WHERE ?1 <= id AND (id = ?1) = 1 ORDER BY id LIMIT 1",
+        &[int(id)],
+    )?;
     first_name(rows.as_slice())
+}
+
+/// The batch of this name, without its bytes and its counters: an index alone answers, so that the
+/// bytes are not read.
+pub fn batch_told<S: Alter>(
+    conn: &mut Connection<S>,
+    name: &Name,
+) -> Result<Option<BatchTold>, Error>
+    requires { conn.old.in_transaction ≡ false }
+    ensures found { TellsRows (state S.Store conn.old) (state S.Store conn.new) result
+        (λ t found. PassesOnce (is_batch_named name.now) t.batches
+        → found ≡ option_map told_of (find (is_batch_named name.now) t.batches)) }
+    ensures ranged { IfOk result (λ found. IfSome found IsTold) }
+    ensures looks { Looks (state S.Store conn.old) (state S.Store conn.new) }
+    ensures idle { conn.new.in_transaction ≡ false }
+{
+    let rows = rows_of(
+        conn,
+        "SELECT id, product, closed FROM batch WHERE name = ?1",
+        &[ValueRef::Text(name.bytes())],
+    )?;
+    first_told(rows.as_slice())
 }
 
 /// The batch of this name, without its bytes.

@@ -13,7 +13,10 @@ mod replies;
 mod sessions;
 mod values;
 
-pub use batches::{BatchHead, batch_has, batch_head, batch_id, batch_name, batches_of, last_batch};
+pub use batches::{
+    BatchHead, BatchTold, batch_has, batch_head, batch_id, batch_name, batch_told, batches_of,
+    last_batch,
+};
 pub use blanks::is_charged;
 pub use groupings::{GroupingAt, grouping_count, groupings_of};
 pub use lots::{LotRow, all_lots, lot, lot_count, lot_of, lots_of, overlaps};

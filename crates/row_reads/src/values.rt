@@ -83,10 +83,11 @@ pub(crate) fn first_id(rows: &[Row]) -> Result<Option<u64>, Error>
     }
 }
 
+// The name behind an id.
 fn name_in(row: &Row) -> Result<Name, Error>
     ensures { IfOk result (λ name. name ≡ name_in row.now) }
 {
-    name_at(row, 0)
+    name_at(row, 1)
 }
 
 // The name in the first answered row, if there is one.

@@ -1,7 +1,7 @@
 -- What each UPDATE does to the rows.
 use Rattle.std.proofs.Common.{◌≡◌, ℕ, ℤ, pos, [], ◌∷◌, map, take, drop, ◌==◌, ◌&&◌, bytes_eq, true, List, Ok, refl, ap, ◌∙◌}
 use Rattle.sqlite.specs.declared.types.Value.{Value}
-use Rattle.sqlite.specs.declared.types.Value.TheVariants.{Int, Null, Text}
+use Rattle.sqlite.specs.declared.types.Value.TheVariants.{Blob, Int, Null, Text}
 use Rattle.sqlite.specs.Cast.{cast, cast_row}
 use Rattle.sqlite.specs.Kind.TheVariants.{Integer}
 use Rattle.sqlite.specs.Order.{Row}
@@ -23,8 +23,9 @@ use Rattle.sql_rows.specs.Image.{Moves, by_rowid, filled, unnumbered}
 use Rattle.sql_rows.proofs.Changing.{rows_set, unnumbered_set}
 use Rattle.sql_rows.proofs.Filling.{refilled}
 use Rattle.row_writes.specs.Texts.{by_id, set_session_columns, set_session_text}
-use Rattle.row_writes.specs.Changes.{by_first_column, by_place, by_second_column, set_closed_columns, set_closed_text, set_end_columns, set_end_text, set_lot_columns, set_lot_text, set_record_columns, set_record_text, set_totals_columns, set_totals_text}
-use Rattle.row_writes.proofs.ChangeMeanings.{set_closed_means, set_end_means, set_lot_means, set_record_means, set_totals_means}
+use Rattle.row_writes.specs.Raw.{raw_set, with_raw_set}
+use Rattle.row_writes.specs.Changes.{by_first_column, by_place, by_second_column, set_closed_columns, set_closed_text, set_end_columns, set_end_text, set_lot_columns, set_lot_text, set_raw_columns, set_raw_text, set_record_columns, set_record_text, set_totals_columns, set_totals_text}
+use Rattle.row_writes.proofs.ChangeMeanings.{set_closed_means, set_end_means, set_lot_means, set_raw_means, set_record_means, set_totals_means}
 use Rattle.row_writes.proofs.Meanings.{set_session_means}
 
 -- an integer under which a row is put back is the rowid that it had
@@ -144,6 +145,34 @@ module _ (name : List ℕ) where
       change (λ r. kept_id _) t.batches old new it (λ b. one_test (same_text b.name name)) closed_put in
       refilled (take 3 (filled t)) (drop 4 (filled t)) batch_table refl refl t (with_closed_set name t) old new
       (by_rowid batch_table (map batch_row t.batches)) (by_rowid batch_table (map batch_row (map (closed_set name) t.batches))) refl refl refl refl it.kept it.others moves image
+
+module _ (id : ℕ) (raw : List ℕ) where
+  abbrev pub set_raw_values : Row
+  set_raw_values = number id ∷ Blob raw ∷ []
+
+  raw_put : (b : StoredBatch) → cast_row batch_table (drop 1 (shown set_raw_columns set_raw_values (batch_row b))) ≡ batch_row (record b { raw = raw })
+  raw_put b =
+      rw (
+        cast_int (pos b.id),
+        cast_null,
+        cast_int (pos (flag b.closed)),
+        cast_int (pos b.waiting),
+        cast_int (pos b.running),
+        cast_int (pos b.failed),
+        cast_int (pos b.withdrawn),
+        cast_int (pos b.good),
+        cast_int (pos b.sessions),
+        cast_int (pos b.spoiled),
+      ) refl
+
+  pub raw_changed : (old new : State) (count : ℕ) → Executes set_raw_text set_raw_values old new (Ok count) → Moves (with_raw_set id raw) old.now new.now
+  raw_changed old new count ran t image =
+      let it = updated set_raw_text set_raw_values old new our_schema image.ours 3 batch_table by_id set_raw_columns set_raw_means.0 set_raw_means.1 refl (none_acts 5) count ran in
+      let change = λ (b : StoredBatch). let b2 : StoredBatch = record b { raw = raw } in b2 in
+      let moves = rows_set batch_table batch_row (passes by_id set_raw_values) (shown set_raw_columns set_raw_values) (λ b. b.id == id) (λ r n is. is)
+      change (λ r. kept_id _) t.batches old new it (λ b. one_test (same_int b.id id)) raw_put in
+      refilled (take 3 (filled t)) (drop 4 (filled t)) batch_table refl refl t (with_raw_set id raw t) old new
+      (by_rowid batch_table (map batch_row t.batches)) (by_rowid batch_table (map batch_row (map (raw_set id raw) t.batches))) refl refl refl refl it.kept it.others moves image
 
 module _ (batch place : ℕ) (state : RecordState) (spoiled remakes : ℕ) where
   abbrev pub set_record_values : Row

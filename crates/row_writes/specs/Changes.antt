@@ -35,6 +35,13 @@ abbrev pub set_closed_columns : List Term
 set_closed_columns =
     col 1 0 ∷ col 1 0 ∷ lit Null ∷ col 1 2 ∷ col 1 3 ∷ col 1 4 ∷ lit (Int (pos 1)) ∷ col 1 6 ∷ col 1 7 ∷ col 1 8 ∷ col 1 9 ∷ col 1 10 ∷ col 1 11 ∷ col 1 12 ∷ []
 
+abbrev pub set_raw_text : List ℕ
+set_raw_text = codes "UPDATE batch SET raw = ?2 WHERE id = ?1"
+
+abbrev pub set_raw_columns : List Term
+set_raw_columns =
+    col 1 0 ∷ col 1 0 ∷ lit Null ∷ col 1 2 ∷ col 1 3 ∷ col 0 1 ∷ col 1 5 ∷ col 1 6 ∷ col 1 7 ∷ col 1 8 ∷ col 1 9 ∷ col 1 10 ∷ col 1 11 ∷ col 1 12 ∷ []
+
 abbrev pub set_record_text : List ℕ
 set_record_text = codes "UPDATE record SET state = ?3, spoiled = ?4, remakes = ?5 WHERE batch = ?1 AND place = ?2"
 

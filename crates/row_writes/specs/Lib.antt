@@ -1,3 +1,4 @@
 pub mod BatchTexts
 pub mod Texts
 pub mod Changes
+pub mod Raw

@@ -4,6 +4,7 @@ ghost use Rattle.sqlite.specs.Held.{state};
 ghost use Rattle.sqlite.specs.State.{Survives};
 ghost use Rattle.sql_rows.specs.Encoding.{record_code};
 ghost use Rattle.sql_rows.specs.Writes.{WritesRows};
+ghost use Rattle.row_writes.specs.Raw.{with_raw_set};
 ghost use Rattle.table_rows.specs.Tables.{with_closed_set, with_end_set, with_lot_set};
 ghost use Rattle.table_rows.specs.Tables.{with_record_set, with_totals_set};
 
@@ -78,6 +79,25 @@ pub fn set_totals<S: Alter>(
             int(totals.sessions),
             int(totals.spoiled),
         ],
+    )
+}
+
+/// Sets a batch's bytes.
+pub fn set_raw<S: Alter>(
+    tx: &mut Transaction<'_, S>,
+    batch: u64,
+    raw: &[u8],
+) -> Result<usize, Error>
+    requires { batch < 2 ^ 63 }
+    ensures same_reference { tx.new.conn.ghost_name ≡ tx.old.conn.ghost_name }
+    ensures wrote { WritesRows (with_raw_set batch raw.now) (state S.Store tx.old.conn.now)
+        (state S.Store tx.new.conn.now) result }
+    ensures survives { Survives (state S.Store tx.old.conn.now) (state S.Store tx.new.conn.now)
+        (λ _. ⊥) }
+{
+    tx.execute(
+        "UPDATE batch SET raw = ?2 WHERE id = ?1",
+        &[int(batch), ValueRef::Blob(raw)],
     )
 }
 

@@ -3,3 +3,4 @@ pub mod Changing
 pub mod SameRows
 pub mod Newly
 pub mod OneImage
+pub mod OneId

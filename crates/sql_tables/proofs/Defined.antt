@@ -5,9 +5,9 @@ use Rattle.sqlite.specs.Listing.{understood}
 use Rattle.sqlite_tied.specs.Compute.{everything}
 use Rattle.sql_base.specs.Columns.{no_schema}
 use Rattle.sql_base.specs.Making.{Defines, DefinesIndex}
-use Rattle.sql_tables.specs.Opening.{with_running, with_version, with_product, with_lot, with_batch, with_record, with_grouping, with_session, with_word, with_blank, with_remake, with_reply, with_mark}
-use Rattle.sql_tables.specs.Tables.{grouping_place_at, grouping_table, our_schema, session_running_at, session_table, version_at, product_at, lot_at, batch_at, record_at, grouping_at, session_at, word_at, blank_at, remake_at, reply_at, mark_at}
-use Rattle.sql_tables.specs.Texts.{version_text, product_text, lot_text, batch_text, record_text, grouping_text, session_text, word_text, blank_text, remake_text, reply_text, mark_text, session_running_text, grouping_place_text}
+use Rattle.sql_tables.specs.Opening.{with_running, with_version, with_product, with_lot, with_batch, with_record, with_grouping, with_session, with_word, with_blank, with_remake, with_reply, with_mark, with_place, with_stands, with_told}
+use Rattle.sql_tables.specs.Tables.{batch_named_at, batch_table, batch_told_at, grouping_place_at, grouping_table, our_schema, session_running_at, session_stands_at, session_table, version_at, product_at, lot_at, batch_at, record_at, grouping_at, session_at, word_at, blank_at, remake_at, reply_at, mark_at}
+use Rattle.sql_tables.specs.Texts.{version_text, product_text, lot_text, batch_text, record_text, grouping_text, session_text, word_text, blank_text, remake_text, reply_text, mark_text, session_running_text, grouping_place_text, session_stands_text, batch_told_text, batch_named_text}
 
 pub version_defined : Defines version_text no_schema (version_at 0)
 unfolding understood everything
@@ -65,5 +65,17 @@ pub place_defined : DefinesIndex grouping_place_text with_running 5 grouping_tab
 unfolding understood everything
 place_defined = record { command = refl; text = refl; plain = (refl, refl); listed = refl; index_is = refl }
 
-pub all_made : indexed with_running grouping_table (grouping_place_at 0) ≡ our_schema
+pub stands_defined : DefinesIndex session_stands_text with_place 6 session_table (session_stands_at 0)
+unfolding understood everything
+stands_defined = record { command = refl; text = refl; plain = (refl, refl); listed = refl; index_is = refl }
+
+pub told_defined : DefinesIndex batch_told_text with_stands 3 batch_table (batch_told_at 0)
+unfolding understood everything
+told_defined = record { command = refl; text = refl; plain = (refl, refl); listed = refl; index_is = refl }
+
+pub named_defined : DefinesIndex batch_named_text with_told 3 batch_table (batch_named_at 0)
+unfolding understood everything
+named_defined = record { command = refl; text = refl; plain = (refl, refl); listed = refl; index_is = refl }
+
+pub all_made : indexed with_told batch_table (batch_named_at 0) ≡ our_schema
 all_made = refl

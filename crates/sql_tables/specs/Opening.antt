@@ -7,7 +7,7 @@ use Rattle.sqlite.specs.Order.{Row}
 use Rattle.sqlite.specs.Schema.{Schema}
 use Rattle.sqlite.specs.declared.types.Value.TheVariants.{Int, Null}
 use Rattle.sql_base.specs.Columns.{no_schema}
-use Rattle.sql_tables.specs.Tables.{batch_at, blank_at, grouping_at, lot_at, mark_at, our_schema, product_at, record_at, remake_at, reply_at, session_at, session_running_at, session_table, version_at, word_at}
+use Rattle.sql_tables.specs.Tables.{batch_at, batch_table, batch_told_at, blank_at, grouping_at, grouping_place_at, grouping_table, lot_at, mark_at, our_schema, product_at, record_at, remake_at, reply_at, session_at, session_running_at, session_stands_at, session_table, version_at, word_at}
 
 -- the database has these tables, and no row in them
 pub record IsEmptyAt (schema : Schema) (db : Database) : Type 0 where
@@ -56,6 +56,15 @@ with_mark = created with_reply (mark_at 0)
 
 abbrev pub with_running : Schema
 with_running = indexed with_mark session_table (session_running_at 0)
+
+abbrev pub with_place : Schema
+with_place = indexed with_running grouping_table (grouping_place_at 0)
+
+abbrev pub with_stands : Schema
+with_stands = indexed with_place session_table (session_stands_at 0)
+
+abbrev pub with_told : Schema
+with_told = indexed with_stands batch_table (batch_told_at 0)
 
 -- the row of `version` with its rowid, which is the id, so that the column of the id is NULL
 abbrev pub version_row : Row

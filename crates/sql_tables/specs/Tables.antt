@@ -244,12 +244,22 @@ reply_table = reply_at 19
 abbrev pub mark_table : Table
 mark_table = mark_at 21
 
--- which session of a machine runs, and which rows a record has: no rule, but speed
+-- which session of a machine runs, which rows a record has, how the sessions of a batch stand, and what a batch tells without its
+-- bytes: no rule, but speed
 abbrev pub session_running_at : ℕ → Index
 session_running_at tree = record { name = codes "session_running"; tree = tree; table = 12; columns = 2 ∷ 6 ∷ []; order = plain; is_unique = false }
 
 abbrev pub grouping_place_at : ℕ → Index
 grouping_place_at tree = record { name = codes "grouping_place"; tree = tree; table = 10; columns = 1 ∷ 3 ∷ []; order = plain; is_unique = false }
+
+abbrev pub session_stands_at : ℕ → Index
+session_stands_at tree = record { name = codes "session_stands"; tree = tree; table = 12; columns = 3 ∷ 6 ∷ []; order = plain; is_unique = false }
+
+abbrev pub batch_told_at : ℕ → Index
+batch_told_at tree = record { name = codes "batch_told"; tree = tree; table = 5; columns = 2 ∷ 3 ∷ 5 ∷ []; order = plain; is_unique = false }
+
+abbrev pub batch_named_at : ℕ → Index
+batch_named_at tree = record { name = codes "batch_named"; tree = tree; table = 5; columns = 0 ∷ 2 ∷ []; order = plain; is_unique = false }
 
 abbrev pub our_schema : Schema
 our_schema = record {
@@ -266,6 +276,6 @@ our_schema = record {
       ∷ automatic remake_table 0 (1 ∷ 2 ∷ 3 ∷ []) 18
       ∷ automatic reply_table 0 (1 ∷ 2 ∷ []) 20
       ∷ automatic mark_table 0 (1 ∷ []) 22
-      ∷ session_running_at 23 ∷ grouping_place_at 24 ∷ [];
+      ∷ session_running_at 23 ∷ grouping_place_at 24 ∷ session_stands_at 25 ∷ batch_told_at 26 ∷ batch_named_at 27 ∷ [];
   views = [];
 }

@@ -43,5 +43,14 @@ session_running_text = codes "CREATE INDEX session_running ON session (machine, 
 abbrev pub grouping_place_text : List ℕ
 grouping_place_text = codes "CREATE INDEX grouping_place ON grouping2 (batch, place)"
 
+abbrev pub session_stands_text : List ℕ
+session_stands_text = codes "CREATE INDEX session_stands ON session (batch, state)"
+
+abbrev pub batch_told_text : List ℕ
+batch_told_text = codes "CREATE INDEX batch_told ON batch (name, product, closed)"
+
+abbrev pub batch_named_text : List ℕ
+batch_named_text = codes "CREATE INDEX batch_named ON batch (id, name)"
+
 abbrev pub add_version_text : List ℕ
 add_version_text = codes "INSERT INTO version (id, number) VALUES (1, 3)"

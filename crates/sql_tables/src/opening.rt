@@ -5,7 +5,7 @@ ghost use Rattle.sqlite.specs.State.{HasCleanDisk, Survives};
 ghost use Rattle.sql_base.specs.Columns.{no_schema};
 ghost use Rattle.sql_base.specs.Ends.{Ends, IsKept, IsLeft, Wrote};
 ghost use Rattle.sql_tables.specs.Opening.{AddsVersion, Completes, Grows};
-ghost use Rattle.sql_tables.specs.Opening.{MakesAll, with_batch, with_mark, with_word};
+ghost use Rattle.sql_tables.specs.Opening.{MakesAll, with_batch, with_mark, with_told, with_word};
 ghost use Rattle.sql_tables.specs.Tables.{our_schema};
 
 use sql_base::{is_empty, make};
@@ -138,11 +138,11 @@ fn add_version<S: Alter>(tx: &mut Transaction<'_, S>) -> Result<usize, Error>
     tx.execute("INSERT INTO version (id, number) VALUES (1, 3)", &[])
 }
 
-// Makes the indices and tells the version, in an open transaction.
-fn complete<S: Alter>(tx: &mut Transaction<'_, S>) -> Result<usize, Error>
+// Makes the indices but the last, in an open transaction.
+fn make_indices<S: Alter>(tx: &mut Transaction<'_, S>) -> Result<usize, Error>
     ensures same_reference { tx.new.conn.ghost_name ≡ tx.old.conn.ghost_name }
     ensures made { HasCleanDisk (state S.Store tx.new.conn.now)
-        → Wrote Completes (state S.Store tx.old.conn.now)
+        → Wrote (Grows with_mark with_told) (state S.Store tx.old.conn.now)
         (state S.Store tx.new.conn.now) result }
     ensures survives { Survives (state S.Store tx.old.conn.now) (state S.Store tx.new.conn.now)
         (λ _. ⊥) }
@@ -155,6 +155,24 @@ fn complete<S: Alter>(tx: &mut Transaction<'_, S>) -> Result<usize, Error>
         tx,
         "CREATE INDEX grouping_place ON grouping2 (batch, place)",
     )?;
+    make(tx, "CREATE INDEX session_stands ON session (batch, state)")?;
+    make(
+        tx,
+        "CREATE INDEX batch_told ON batch (name, product, closed)",
+    )
+}
+
+// Makes the indices and tells the version, in an open transaction.
+fn complete<S: Alter>(tx: &mut Transaction<'_, S>) -> Result<usize, Error>
+    ensures same_reference { tx.new.conn.ghost_name ≡ tx.old.conn.ghost_name }
+    ensures made { HasCleanDisk (state S.Store tx.new.conn.now)
+        → Wrote Completes (state S.Store tx.old.conn.now)
+        (state S.Store tx.new.conn.now) result }
+    ensures survives { Survives (state S.Store tx.old.conn.now) (state S.Store tx.new.conn.now)
+        (λ _. ⊥) }
+{
+    make_indices(tx)?;
+    make(tx, "CREATE INDEX batch_named ON batch (id, name)")?;
     add_version(tx)
 }
 

@@ -12,12 +12,12 @@ use Rattle.job_core.specs.Facts.{Facts}
 use Rattle.job_core.specs.Rows.{segment_row, segment_row_of}
 use Rattle.job_core.specs.States.{plan_for, product_named}
 use Rattle.job_core.proofs.Lists.{unmapped}
-use Rattle.row_reads.specs.declared.batches.BatchHead.{BatchHead}
+use Rattle.row_reads.specs.declared.batches.BatchTold.{BatchTold}
 use Rattle.row_reads.specs.declared.groupings.GroupingAt.{GroupingAt}
 use Rattle.row_reads.specs.declared.records.RecordAt.{RecordAt}
 use Rattle.row_reads.specs.CardDecoding.{grouping_at, line_of, record_at}
 use Rattle.row_reads.specs.Extremes.{AreSorted}
-use Rattle.row_reads.specs.Telling.{head_of}
+use Rattle.row_reads.specs.Telling.{told_of}
 use Rattle.rows_of_facts.specs.Image.{stored_batches, stored_groupings, stored_records}
 use Rattle.sql_base.proofs.Selecting.{map_map}
 use Rattle.table_rows.specs.Keys.{is_batch_named, is_grouping_at, is_record_named}
@@ -30,15 +30,15 @@ use Rattle.store_reads.proofs.Found.{found_some}
 use Rattle.store_reads.proofs.Ordered.{told_in_order}
 
 module _ (f : Facts) (b : List ℕ) where
-  pub no_product : None ≡ option_map head_of (find (is_batch_named b) (stored_batches f)) → None ≡ product_in f b
-  no_product none = rw (unmapped head_of (find (is_batch_named b) (stored_batches f)) (sym none)) refl
+  pub no_product : None ≡ option_map told_of (find (is_batch_named b) (stored_batches f)) → None ≡ product_in f b
+  no_product none = rw (unmapped told_of (find (is_batch_named b) (stored_batches f)) (sym none)) refl
 
-  pub product_told : (h : BatchHead) → Some h ≡ option_map head_of (find (is_batch_named b) (stored_batches f)) → (found : Option Product) → found ≡ product_named f.products h.product
+  pub product_told : (h : BatchTold) → Some h ≡ option_map told_of (find (is_batch_named b) (stored_batches f)) → (found : Option Product) → found ≡ product_named f.products h.product
       → option_map (λ (p : Product). let e : BatchProduct = record { id = h.id; product = p } in e) found ≡ product_in f b
   product_told h h_is found is =
-      let row = found_some head_of (find (is_batch_named b) (stored_batches f)) h h_is in
+      let row = found_some told_of (find (is_batch_named b) (stored_batches f)) h h_is in
       ap (option_map (λ (p : Product). let e : BatchProduct = record { id = h.id; product = p } in e)) is
-      ∙ ap (λ (k : BatchHead). option_map (λ (p : Product). let e : BatchProduct = record { id = k.id; product = p } in e) (product_named f.products k.product)) row.2
+      ∙ ap (λ (k : BatchTold). option_map (λ (p : Product). let e : BatchProduct = record { id = k.id; product = p } in e) (product_named f.products k.product)) row.2
       ∙ sym (ap (option_and_then (product_under f)) row.1)
 
 both_left : (x y : Bool) → (x && y) ≡ true → x ≡ true

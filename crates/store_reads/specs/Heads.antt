@@ -3,10 +3,11 @@ use Rattle.std.specs.Prelude.{◌==◌, ◌&&◌, Bool, true, Option, Some, None
 use Rattle.job_core.specs.declared.rows.BatchRow.{BatchRow}
 use Rattle.job_core.specs.declared.rows.BatchTotals.{BatchTotals}
 use Rattle.row_reads.specs.declared.batches.BatchHead.{BatchHead}
+use Rattle.row_reads.specs.declared.batches.BatchTold.{BatchTold}
 use Rattle.rows_answer.specs.Telling.{no_totals}
 
-abbrev pub row_of : BatchHead → BatchRow
-row_of h = record { product = h.product; is_closed = h.is_closed }
+abbrev pub row_of : BatchTold → BatchRow
+row_of b = record { product = b.product; is_closed = b.is_closed }
 
 -- a name that no batch has has none
 abbrev pub totals_in : Option BatchHead → BatchTotals

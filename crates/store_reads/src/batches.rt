@@ -9,21 +9,21 @@ ghost use Rattle.store_reads.specs.Heads.{is_over_in, row_of, totals_in};
 ghost use Rattle.store_reads.specs.Tells.{Tells};
 
 use job_core::{BatchRow, BatchSize, BatchTotals};
-use row_reads::{BatchHead, batch_head, grouping_count};
+use row_reads::{BatchHead, BatchTold, batch_head, batch_told, grouping_count};
 use rows_answer::{batches_by_name, batches_by_rows, totals_by_rows};
 use sqlite::{Alter, Connection, Error};
 use store_data::Name;
 
 // ---- what is told of what is read
 
-fn row_of(found: Option<BatchHead>) -> Option<BatchRow>
+fn row_of(found: Option<BatchTold>) -> Option<BatchRow>
     ensures { result ≡ option_map row_of found }
 {
     match found {
         None => None,
-        Some(head) => Some(BatchRow {
-            product: head.product,
-            is_closed: head.is_closed,
+        Some(told) => Some(BatchRow {
+            product: told.product,
+            is_closed: told.is_closed,
         }),
     }
 }
@@ -69,7 +69,7 @@ pub fn batch<S: Alter>(conn: &mut Connection<S>, name: &Name) -> Result<Option<B
 {
     batches_by_name();
     batches_by_rows();
-    let found = batch_head(conn, name)?;
+    let found = batch_told(conn, name)?;
     Ok(row_of(found))
 }
 

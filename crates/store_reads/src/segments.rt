@@ -11,7 +11,7 @@ ghost use Rattle.store_reads.specs.Tells.{Tells};
 
 use crate::plans::{rows_told, segment_in};
 use job_core::SegmentRow;
-use row_reads::{batch_head, groupings_of, record_named};
+use row_reads::{batch_told, groupings_of, record_named};
 use rows_answer::{batches_by_name, groupings_by_place, plans_by_rows, records_by_name};
 use sqlite::{Alter, Connection, Error};
 use store_data::{Name, Product, Row};
@@ -46,11 +46,11 @@ fn product_in<S: Alter>(
     ensures idle { conn.new.in_transaction ≡ false }
 {
     batches_by_name();
-    let Some(head) = batch_head(conn, batch)? else {
+    let Some(told) = batch_told(conn, batch)? else {
         return Ok(None);
     };
-    let found = row_reads::product(conn, &head.product)?;
-    Ok(with_id(head.id, found))
+    let found = row_reads::product(conn, &told.product)?;
+    Ok(with_id(told.id, found))
 }
 
 // The rows of the record of this name in the batch with this id, if it is there.

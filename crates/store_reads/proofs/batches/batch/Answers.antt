@@ -1,7 +1,7 @@
 use Rattle.std.proofs.Common.{sym, ap, ◌∙◌}
 use Rattle.std.specs.Prelude.{find, option_map}
 use Rattle.sqlite.specs.Held.{state}
-use Rattle.row_reads.specs.Telling.{head_of}
+use Rattle.row_reads.specs.Telling.{told_of}
 use Rattle.table_rows.specs.Keys.{is_batch_named}
 use Rattle.rows_answer.proofs.Finding.{option_map-map}
 use Rattle.rows_of_facts.specs.Image.{stored_batches}
@@ -12,7 +12,7 @@ use Rattle.store_reads.proofs.batches.batch.Goals as goal
 pub returns-clause-value : goal.returns-clause-value
 returns-clause-value g c =
     let name = c.args.name.now in
-    shown (state g.S.Store c.args.conn.now) (state g.S.Store c.batch_head.new.conn) _ _ c.in_ok-found.ensures.found
+    shown (state g.S.Store c.args.conn.now) (state g.S.Store c.batch_told.new.conn) _ _ c.in_ok-found.ensures.found
     (λ d sound is.
-    c.row_of.ensures ∙ ap (option_map row_of) (is (c.batches_by_name.ensures.once d.facts name sound.facts)) ∙ option_map-map row_of head_of (find (is_batch_named name) (stored_batches d.facts))
+    c.row_of.ensures ∙ ap (option_map row_of) (is (c.batches_by_name.ensures.once d.facts name sound.facts)) ∙ option_map-map row_of told_of (find (is_batch_named name) (stored_batches d.facts))
     ∙ sym (c.batches_by_rows.ensures.row d.facts name))

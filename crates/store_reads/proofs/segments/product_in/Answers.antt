@@ -7,16 +7,16 @@ use Rattle.store_reads.proofs.segments.product_in.Goals as goal
 pub returns-in_default-clause-value : goal.returns-in_default-clause-value
 returns-in_default-clause-value g c =
     let b = c.args.batch.now in
-    shown (state g.S.Store c.args.conn.now) (state g.S.Store c.batch_head.new.conn) _ _ (rw c.in_default.is at c.in_ok-head.ensures.found)
+    shown (state g.S.Store c.args.conn.now) (state g.S.Store c.batch_told.new.conn) _ _ (rw c.in_default.is at c.in_ok-told.ensures.found)
     (λ d sound is. no_product d.facts b (is (c.batches_by_name.ensures.once d.facts b sound.facts)))
 
 pub returns-clause-value : goal.returns-clause-value
 returns-clause-value g c =
     let b = c.args.batch.now in
     let old = state g.S.Store c.args.conn.now in
-    let mid = state g.S.Store c.batch_head.new.conn in
+    let mid = state g.S.Store c.batch_told.new.conn in
     let new = state g.S.Store c.product.new.conn in
-    shown_then old mid new _ _ _ c.batch_head.ensures.looks c.product.ensures.looks
-    (shown old mid _ _ (rw c.in-Some.is at c.in_ok-head.ensures.found) (λ d sound is. is (c.batches_by_name.ensures.once d.facts b sound.facts)))
+    shown_then old mid new _ _ _ c.batch_told.ensures.looks c.product.ensures.looks
+    (shown old mid _ _ (rw c.in-Some.is at c.in_ok-told.ensures.found) (λ d sound is. is (c.batches_by_name.ensures.once d.facts b sound.facts)))
     (shown mid new _ _ c.in_ok-found.ensures.found (λ d sound is. is sound.facts.named.products.once))
-    (λ d sound one two. c.with_id.ensures ∙ product_told d.facts b c.in-Some.head one c.in_ok-found.found two)
+    (λ d sound one two. c.with_id.ensures ∙ product_told d.facts b c.in-Some.told one c.in_ok-found.found two)

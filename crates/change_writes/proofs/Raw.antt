@@ -1,0 +1,36 @@
+-- A batch that was put in without its bytes, and has them in the end.
+use Rattle.std.proofs.Common.{◌≡◌, ◌==◌, ℕ, true, false, List, [], ◌∷◌, length, map, refl, subst, arith}
+use Rattle.std.proofs.lemmas.Bool.Decides.{nat_tests}
+use Rattle.std.specs.List.{AllByRecursion}
+use Rattle.sqlite.specs.Effect.{Database}
+use Rattle.store_data.specs.Groups.{first_appearances}
+use Rattle.store_data.specs.declared.row.Row.{Row}
+use Rattle.sql_rows.specs.Image.{IsImage, Moves}
+use Rattle.sql_rows.proofs.OneId.{others_differ}
+use Rattle.table_rows.specs.After.{batch_rows_after, new_batch}
+use Rattle.table_rows.specs.Tables.{StoredBatch, Tables}
+use Rattle.row_writes.specs.Raw.{raw_set, with_raw_set}
+
+itself : (n : ℕ) → (n == n) ≡ true
+itself n = grind (arith, nat_tests)
+
+-- batches with other ids stay
+stay : (id : ℕ) (raw : List ℕ) (bs : List StoredBatch) → AllByRecursion (λ (b : StoredBatch). (b.id == id) ≡ false) bs → map (raw_set id raw) bs ≡ bs
+stay id raw [] differ = refl
+stay id raw (b ∷ bs) differ = rw (differ.0, stay id raw bs differ.1) refl
+
+module _ (id : ℕ) (name code raw : List ℕ) (rows : List Row) where
+  abbrev count : ℕ
+  count = length (first_appearances (map (λ (row : Row). row.rec) rows))
+
+  set_last : (bs : List StoredBatch) → AllByRecursion (λ (b : StoredBatch). (b.id == id) ≡ false) bs
+      → map (raw_set id raw) (new_batch id name code [] count ∷ bs) ≡ new_batch id name code raw count ∷ bs
+  set_last bs differ = rw (itself id, stay id raw bs differ) refl
+
+  -- its bytes were set, and no other batch has its id: so it is as if it had been put in with them
+  pub bytes_last : (a b c : Database) → Moves (batch_rows_after id name code [] rows) a b → Moves (with_raw_set id raw) b c → Moves (batch_rows_after id name code raw rows) a c
+  bytes_last a b c first then t image =
+      let bare = first t image in
+      let differ = others_differ (new_batch id name code [] count) t.batches b.trees bare.each.1.1.1.0 in
+      let whole : Tables = batch_rows_after id name code raw rows t in
+      subst (λ bs. IsImage (record whole { batches = bs }) c) (set_last t.batches differ) (then (batch_rows_after id name code [] rows t) bare)

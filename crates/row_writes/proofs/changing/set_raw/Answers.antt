@@ -1,0 +1,11 @@
+use Rattle.sql_base.proofs.Ending.{wrote}
+use Rattle.sql_rows.specs.Image.{Moves}
+use Rattle.row_writes.specs.Raw.{with_raw_set}
+use Rattle.row_writes.proofs.Setting.{raw_changed}
+use Rattle.row_writes.proofs.changing.set_raw.Goals as goal
+
+pub returns-clause-wrote : goal.returns-clause-wrote
+returns-clause-wrote g c clean =
+    let a = c.args in
+    wrote g.S.Store (Moves (with_raw_set a.batch a.raw.now)) a.tx.now.conn.now c.execute.new.self.conn.now _ _ _ (raw_changed a.batch a.raw.now _ _) c.execute.result c.execute.ensures.ended
+    (rw (c.int.ensures) at (c.execute.ensures.runs clean))
