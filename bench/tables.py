@@ -180,14 +180,14 @@ class Theirs:
 
     def segment(self, batch: str, record: str) -> None:
         """The segment of a command is planned from the rows of its record."""
-        head = self.read("batch_head", batch)[0]
-        self.read("product", head[1])
-        place = self.read("record_named", head[0], record)[0][0]
-        self.read("groupings", head[0], place)
+        told = self.read("batch_told", batch)[0]
+        self.read("product", told[1])
+        place = self.read("record_named", told[0], record)[0][0]
+        self.read("groupings", told[0], place)
 
     def session(self, session: int) -> tuple[str, str]:
         row = self.read("session", session)[0]
-        batch = self.read("batch_name", row[1])[0][0]
+        batch = self.read("batch_name", row[1])[0][1]
         return batch, self.read("record_at", row[1], row[2])[0][1]
 
     def passes(self, head: tuple, record: tuple, was: int, stands: int, opened: int) -> None:
@@ -201,12 +201,12 @@ class Theirs:
 
     def open(self, client: str, batch: str, blank: int) -> None:
         self.arrives(client, 1)
-        head = self.read("batch_head", batch)[0]
+        told = self.read("batch_told", batch)[0]
         self.read("running", client)
         self.read("lots")
         self.read("charged", blank)
         self.read("batch_id", batch)
-        name = self.read("waiting", head[0])[0][1]
+        name = self.read("waiting", told[0])[0][1]
         self.read("last_session")
         self.segment(batch, name)
         number = self.read("last_session")
@@ -254,7 +254,7 @@ class Theirs:
     def take(self, number: int, batch: str, raw: bytes, records: int, rows: list[tuple]) -> None:
         """An import. Its rows are made before."""
         self.arrives("office", number)
-        self.read("batch_head", batch)
+        self.read("batch_told", batch)
         self.read("product", "P1")
         self.read("last_batch")
         last = self.read("last_batch")
@@ -262,9 +262,10 @@ class Theirs:
         new = last[0][0] + 1
 
         def writes() -> None:
-            self.write("add_batch", new, batch, "P1", raw, records)
+            self.write("add_batch", new, batch, "P1", b"", records)
             self.write_many("add_record", ((new, place, f"R{place}") for place in range(records)))
             self.write_many("add_grouping", ((new, *row) for row in rows))
+            self.write("set_raw", new, raw)
 
         told = {"batch": batch, "records": records, "result": "created", "rows": len(rows)}
         self.commit(writes, "office", number, f"/batch/{batch}/P1".encode() + b"\0" + raw, told)

@@ -1,0 +1,103 @@
+"""Verdicts on a file: that of auditor.py, and that of the program, which is `persod report --db FILE --batch NAME` on a copy."""
+import concurrent.futures
+import pathlib
+import shutil
+import sqlite3
+import subprocess
+import tempfile
+from collections import Counter
+from typing import Any, NamedTuple
+
+from auditor import DAMAGED, OTHER_TABLES, TAKEN, verdict
+from schema import version_of
+
+BATCH = "B1"
+# A file may have lost the batch that is asked for: then it was taken, and the report is refused.
+BATCH_UNKNOWN = "56"
+SECONDS = 120
+
+
+class Case(NamedTuple):
+    """A file, what is to be told of it, and, where it matters, a sentence of auditor.py that it has to break."""
+
+    name: str
+    path: pathlib.Path
+    wanted: str
+    sentence: str | None = None
+
+
+def held(path: pathlib.Path) -> Any:
+    """What a file holds: the rows of our tables whatever their version and order, or else the text that makes the file again, or its bytes."""
+    conn = sqlite3.connect(path)
+    conn.text_factory = bytes
+    try:
+        version = conn.execute("SELECT count(*) FROM sqlite_schema").fetchone() and version_of_text(path)
+        if version is None:
+            return list(sqlite3.connect(path).iterdump())
+        names = [name.decode() for name, in conn.execute("SELECT name FROM sqlite_schema WHERE type = 'table'")]
+        rows = {name.replace("grouping2", "grouping"): sorted(conn.execute(f"SELECT * FROM {name}")) for name in names if name != "version"}
+        return {"mark": [], **rows}
+    except sqlite3.DatabaseError:
+        return path.read_bytes()
+    finally:
+        conn.close()
+
+
+def version_of_text(path: pathlib.Path) -> int | None:
+    conn = sqlite3.connect(path)
+    try:
+        return version_of(conn)
+    finally:
+        conn.close()
+
+
+def report(program: str, path: pathlib.Path) -> str:
+    """What the program tells of a file that it may change: `taken`, the number of a refusal, or what came in its place."""
+    run = subprocess.run([program, "report", "--db", str(path), "--batch", BATCH], capture_output=True, timeout=SECONDS)
+    told = run.stderr.decode(errors="replace")
+    refused = told.removeprefix("refused ").removesuffix("\n")
+    if (run.returncode, told) == (0, "") or (run.returncode, refused) == (1, BATCH_UNKNOWN):
+        return TAKEN
+    if (run.returncode, run.stdout) == (1, b"") and refused in (OTHER_TABLES, DAMAGED):
+        return refused
+    return f"status {run.returncode}, {told!r}"
+
+
+def by_program(program: str, path: pathlib.Path) -> str:
+    """What the program tells, and whether the copy holds afterwards what it held before, in our own tables where it was taken."""
+    with tempfile.TemporaryDirectory() as folder:
+        copy = pathlib.Path(folder) / "copy.db"
+        for end in ("", "-wal"):
+            if (its := path.with_name(path.name + end)).exists():
+                shutil.copyfile(its, copy.with_name(copy.name + end))
+        before = held(copy)
+        told = report(program, copy)
+        if held(copy) != before:
+            return f"{told}, but the file holds something else"
+        if told == TAKEN and (again := verdict(copy)).told != TAKEN:
+            return f"{told}, and left as {again.told} {again.why}"
+        if told == TAKEN and version_of_text(copy) != 3:
+            return f"{told}, and left in an earlier version"
+    return told
+
+
+def difference(case: Case, program: str | None) -> str | None:
+    """How the verdicts on a file are other than wanted, if they are."""
+    found = verdict(case.path)
+    if found.told != case.wanted:
+        return f"{case.wanted} is wanted, and auditor.py says {found.told} {found.why}"
+    if case.sentence and case.sentence not in found.sentences:
+        return f"{case.sentence} is to find something, and it is {', '.join(found.sentences)} that does"
+    told = by_program(program, case.path) if program else found.told
+    return f"{case.wanted} is wanted, and the program says {told}" if told != case.wanted else None
+
+
+def judge_all(what: str, cases: list[Case], program: str | None) -> bool:
+    """Prints what differs, and how many there are of each verdict; tells whether nothing differs."""
+    with concurrent.futures.ThreadPoolExecutor() as pool:
+        found = {case.name: told for case, told in zip(cases, pool.map(lambda case: difference(case, program), cases)) if told}
+    for name, told in found.items():
+        print(f"{name}: {told}")
+    counts = ", ".join(f"{count} {told}" for told, count in Counter(case.wanted for case in cases).most_common())
+    print(f"{what}: {len(cases)} files ({counts}), {len(found)} of them with another verdict" + ("" if program else "; no program was asked"))
+    return not found

@@ -1,0 +1,177 @@
+#!/usr/bin/env python3
+"""Makes files by plain SQL: sound ones in each version and in several orders, after VACUUM and .dump, and some whose tables aren't ours.
+
+    bench/audit/sound_files.py [PROGRAM]
+
+judges each by auditor.py, and by PROGRAM where it is given, which is `persod`: a file that is taken has to hold what it held before, now in the
+tables of version 3, and one that is refused stays. The status is 1 where a verdict is another than wanted.
+"""
+import pathlib
+import random
+import shutil
+import sqlite3
+import subprocess
+import sys
+import tempfile
+from typing import Callable, Iterator, NamedTuple
+
+from auditor import OTHER_TABLES, TAKEN
+from contents import FOR_VERSION, WORKED, WORKED_ROWS, Rows, rows
+from judging import Case, judge_all
+from schema import INDICES, VERSIONS, Table, other_text_of, tables_of, text_of
+
+
+class Shape(NamedTuple):
+    """How a file is made: its version, the order and the spelling of its tables, gaps in their numbers, its indices, and its journal."""
+
+    version: int = 3
+    order: str = "document"
+    text: Callable[[Table], str] = text_of
+    has_gaps: bool = False
+    indices: tuple[str, ...] = ()
+    is_logged: bool = False
+
+
+def mixed(tables: list[Table]) -> list[Table]:
+    return random.Random(7).sample(tables, len(tables))
+
+
+ORDERS: dict[str, Callable[[list[Table]], list[Table]]] = {
+    "document": lambda tables: tables,
+    "backward": lambda tables: tables[::-1],
+    "mixed": mixed,
+    # As where tables of an earlier version were made anew behind the others.
+    "renewed": lambda tables: sorted(tables, key=lambda it: it.name in ("version", "grouping", "grouping2", "mark")),
+}
+OURS = tuple(f"CREATE INDEX {name} ON {columns}" for name, columns in INDICES.items())
+FURTHER = "CREATE INDEX by_serial ON blank (lot, serial)"
+
+
+def in_version(made: Rows, version: int) -> Rows:
+    """The rows as an earlier version has them; version 1 has no marks."""
+    its = dict(made, version=[(1, version)])
+    if version < 3 and "grouping2" in its:
+        its["grouping"] = its.pop("grouping2")
+    return its if version > 1 else {name: rows for name, rows in its.items() if name != "mark"}
+
+
+def fill(conn: sqlite3.Connection, made: Rows) -> None:
+    for name, its in made.items():
+        if its:
+            conn.executemany(f"INSERT INTO {name} VALUES ({', '.join('?' * len(its[0]))})", its)
+
+
+def make(path: pathlib.Path, made: Rows, shape: Shape = Shape()) -> None:
+    """Makes a file of these rows."""
+    path.unlink(missing_ok=True)
+    conn = sqlite3.connect(path, isolation_level=None)
+    conn.execute("PRAGMA synchronous = OFF")
+    conn.execute(f"PRAGMA journal_mode = {'WAL' if shape.is_logged else 'DELETE'}")
+    conn.execute("BEGIN")
+    tables = ORDERS[shape.order](tables_of(shape.version))
+    for number, table in enumerate(tables):
+        if shape.has_gaps:
+            conn.execute(f"CREATE TABLE gap{number} (x INTEGER) STRICT")
+        conn.execute(shape.text(table))
+    if shape.has_gaps:
+        for number in range(len(tables)):
+            conn.execute(f"DROP TABLE gap{number}")
+    for index in shape.indices:
+        conn.execute(index)
+    fill(conn, in_version(made, shape.version))
+    conn.execute("COMMIT")
+    conn.close()
+
+
+def change(path: pathlib.Path, *statements: str) -> None:
+    conn = sqlite3.connect(path, isolation_level=None)
+    for statement in statements:
+        conn.execute(statement)
+    conn.close()
+
+
+def dumped(path: pathlib.Path, to: pathlib.Path) -> None:
+    """A new file of the text that `.dump` gives."""
+    if shell := shutil.which("sqlite3"):
+        text = subprocess.run([shell, str(path), ".dump"], check=True, capture_output=True).stdout.decode()
+    else:
+        conn = sqlite3.connect(path)
+        text = "\n".join(conn.iterdump())
+        conn.close()
+    conn = sqlite3.connect(to)
+    conn.executescript(text)
+    conn.close()
+
+
+# The cases.
+
+
+def shapes(version: int) -> dict[str, Shape]:
+    ours = OURS if version == 3 else ()
+    return {
+        **{f"in the order {order}": Shape(version, order) for order in ORDERS},
+        "with our indices": Shape(version, indices=ours),
+        "with a further plain index": Shape(version, indices=(*ours, FURTHER)),
+        "with gaps in the numbers of the tables": Shape(version, "mixed", has_gaps=True),
+        "with gaps and a further plain index": Shape(version, "backward", has_gaps=True, indices=(FURTHER,)),
+        "spelt in another way": Shape(version, text=other_text_of),
+        "with a log": Shape(version, indices=ours, is_logged=True),
+    }
+
+
+OTHERS = {
+    "a further UNIQUE index": "CREATE UNIQUE INDEX one_sw ON word (session, place, sw)",
+    "a view": "CREATE VIEW cards AS SELECT serial FROM session",
+    "a trigger": "CREATE TRIGGER late AFTER INSERT ON word BEGIN DELETE FROM remake; END",
+    "a column more": "ALTER TABLE lot ADD COLUMN note TEXT NOT NULL DEFAULT ''",
+    "a table more": "CREATE TABLE note (id INTEGER NOT NULL PRIMARY KEY) STRICT",
+    "statistics": "ANALYZE",
+}
+
+
+def sound_cases(folder: pathlib.Path, name: str, made: Rows, version: int) -> Iterator[Case]:
+    for told, shape in shapes(version).items():
+        path = folder / f"{name}-{version}-{told}.db".replace(" ", "-")
+        make(path, made, shape)
+        yield Case(f"{name}, version {version}, {told}", path, TAKEN)
+        if shape.has_gaps:
+            shutil.copyfile(path, vacuumed := path.with_suffix(".vacuum.db"))
+            change(vacuumed, "VACUUM")
+            yield Case(f"{name}, version {version}, {told}, after VACUUM", vacuumed, TAKEN)
+            dumped(path, again := path.with_suffix(".dump.db"))
+            yield Case(f"{name}, version {version}, {told}, after .dump", again, TAKEN)
+
+
+def other_cases(folder: pathlib.Path, name: str, made: Rows, version: int) -> Iterator[Case]:
+    for told, statement in OTHERS.items():
+        path = folder / f"{name}-{version}-with-{told}.db".replace(" ", "-")
+        make(path, made, Shape(version))
+        change(path, statement)
+        yield Case(f"{name}, version {version}, with {told}", path, OTHER_TABLES)
+
+
+def cases(folder: pathlib.Path) -> Iterator[Case]:
+    assert rows(WORKED) == WORKED_ROWS
+    for version in VERSIONS:
+        yield from sound_cases(folder, "worked", WORKED_ROWS, version)
+        yield from sound_cases(folder, "rich", rows(FOR_VERSION[version]), version)
+        yield from other_cases(folder, "worked", WORKED_ROWS, version)
+    for name, text in (("no file", None), ("an empty file", b""), ("a file of other bytes", b"no database\n" * 100)):
+        path = folder / f"{name}.db".replace(" ", "-")
+        if text is not None:
+            path.write_bytes(text)
+        yield Case(name, path, OTHER_TABLES)
+    make(path := folder / "no-tables.db", {}, Shape())
+    change(path, *(f"DROP TABLE {table.name}" for table in tables_of(3)[::-1]))
+    yield Case("a database without tables", path, OTHER_TABLES)
+
+
+def main() -> None:
+    program = sys.argv[1] if len(sys.argv) > 1 else None
+    with tempfile.TemporaryDirectory() as folder:
+        is_right = judge_all("sound files", list(cases(pathlib.Path(folder))), program)
+    sys.exit(not is_right)
+
+
+if __name__ == "__main__":
+    main()

@@ -1,0 +1,11 @@
+-- What is made of a database of our tables.
+use Rattle.sqlite.specs.Effect.{Database, IsDatabase}
+use Rattle.sql_order.specs.Alike.{HasJust}
+use Rattle.sql_order.specs.Versions.{schema_of}
+use Rattle.sql_order.specs.declared.versions.Version.{Version}
+use Rattle.sql_rows.specs.Image.{IsImage}
+use Rattle.table_rows.specs.Tables.{Tables}
+
+-- one that has just the tables of this version gets our own, with these rows
+abbrev pub Remakes : Version → Tables → Database → Database → Type 0
+Remakes version t old new = IsDatabase old → HasJust old.schema (schema_of version) → IsImage t new
