@@ -2,7 +2,7 @@
 ghost use Rattle.std.specs.Prelude.{IfOk, IsTrue};
 ghost use Rattle.sqlite_disk.specs.Memory.{memory_is_usable};
 
-use sqlite::{Alter, Connection, FileStore, Files, Options};
+use sqlite::{Connection, FileStore, Files, Options};
 use sqlite_disk::{Crash, Disk, Fuse, Memory};
 use std::alloc::Global;
 use std::io;
@@ -29,21 +29,6 @@ pub(crate) struct Ended {
     pub(crate) lefts: Vec<Left>,
 }
 
-/// Files that a connection stands on.
-pub(crate) trait Disks {
-    type Store: Alter + Drop;
-
-    /// Opens files that hold this. Errors: what is left of them, where they stop.
-    fn open(
-        alloc: Global,
-        left: &Left,
-        stop: Stop,
-    ) -> Result<Connection<Self::Store>, io::Result<Ended>>;
-
-    /// Closes the files.
-    fn close(alloc: Global, conn: Connection<Self::Store>) -> io::Result<Ended>;
-}
-
 /// Files of nothing.
 pub(crate) fn nothing(alloc: Global) -> Left {
     Left {
@@ -51,10 +36,6 @@ pub(crate) fn nothing(alloc: Global) -> Left {
         db: Vec::new(alloc),
     }
 }
-
-/// Files in memory.
-#[derive(Clone, Copy)]
-pub(crate) struct InMemory;
 
 // The log is copied into the database a few times in a run, and the cache has room for all pages.
 const OPTIONS: Options = Options {
@@ -64,33 +45,31 @@ const OPTIONS: Options = Options {
     seed: 1,
 };
 
-impl Disks for InMemory {
-    type Store = FileStore<Fuse<Memory>>;
-
-    fn open(
-        alloc: Global,
-        left: &Left,
-        stop: Stop,
-    ) -> Result<Connection<FileStore<Fuse<Memory>>>, io::Result<Ended>> {
-        let (log, db) = match (holding(alloc, &left.log), holding(alloc, &left.db)) {
-            (Ok(log), Ok(db)) => (log, db),
-            (Err(error), _) | (_, Err(error)) => return Err(Err(error)),
-        };
-        let files = Files {
-            log: Fuse::new(log, stop.log),
-            db: Fuse::new(db, stop.db),
-        };
-        match Connection::open_files(alloc, files, OPTIONS) {
-            Ok(conn) => Ok(conn),
-            Err((_, left)) => Err(ended(alloc, false, left.into_files())),
-        }
+/// Opens files that hold this. Errors: what is left of them, where they stop.
+pub(crate) fn open(
+    alloc: Global,
+    left: &Left,
+    stop: Stop,
+) -> Result<Connection<FileStore<Fuse<Memory>>>, io::Result<Ended>> {
+    let (log, db) = match (holding(alloc, &left.log), holding(alloc, &left.db)) {
+        (Ok(log), Ok(db)) => (log, db),
+        (Err(error), _) | (_, Err(error)) => return Err(Err(error)),
+    };
+    let files = Files {
+        log: Fuse::new(log, stop.log),
+        db: Fuse::new(db, stop.db),
+    };
+    match Connection::open_files(alloc, files, OPTIONS) {
+        Ok(conn) => Ok(conn),
+        Err((_, left)) => Err(after_end(alloc, false, left.into_files())),
     }
+}
 
-    fn close(alloc: Global, conn: Connection<FileStore<Fuse<Memory>>>) -> io::Result<Ended> {
-        match conn.close_files() {
-            Ok(files) => ended(alloc, true, files),
-            Err((_, store)) => ended(alloc, false, store.close()),
-        }
+/// Closes the files.
+pub(crate) fn close(alloc: Global, conn: Connection<FileStore<Fuse<Memory>>>) -> io::Result<Ended> {
+    match conn.close_files() {
+        Ok(files) => after_end(alloc, true, files),
+        Err((_, store)) => after_end(alloc, false, store.close()),
     }
 }
 
@@ -104,17 +83,17 @@ fn holding(alloc: Global, bytes: &[u8]) -> io::Result<Memory>
     Ok(memory)
 }
 
-fn ended(alloc: Global, is_closed: bool, mut files: Files<Fuse<Memory>>) -> io::Result<Ended> {
+fn after_end(alloc: Global, is_closed: bool, mut files: Files<Fuse<Memory>>) -> io::Result<Ended> {
     let mut lefts = Vec::new(alloc);
-    lefts.push(left(alloc, &files)?)?;
+    lefts.push(held(alloc, &files)?)?;
     files.log.crash();
-    lefts.push(left(alloc, &files)?)?;
+    lefts.push(held(alloc, &files)?)?;
     files.db.crash();
-    lefts.push(left(alloc, &files)?)?;
+    lefts.push(held(alloc, &files)?)?;
     Ok(Ended { is_closed, lefts })
 }
 
-fn left(alloc: Global, files: &Files<Fuse<Memory>>) -> io::Result<Left> {
+fn held(alloc: Global, files: &Files<Fuse<Memory>>) -> io::Result<Left> {
     Ok(Left {
         log: files.log.inner().bytes().to_vec(alloc)?,
         db: files.db.inner().bytes().to_vec(alloc)?,

@@ -4,8 +4,7 @@ ghost use Rattle.job_core.specs.Requests.{IsArrival};
 
 use crate::exchanges::{Exchange, arrival, at_last, check_told, told};
 use crate::stories::{
-    CLOSING, KNOWN, LATE_RESET, MADE_AGAIN, RELEASES, Story, TAKEN, TURNED_DOWN,
-    WITHDRAWAL, WORDS,
+    CLOSING, KNOWN, LATE_RESET, MADE_AGAIN, RELEASES, Story, TAKEN, TURNED_DOWN, WITHDRAWAL, WORDS,
 };
 use arrivals::Kept;
 use job_core::{Arrival, JobStore, StoreFault};

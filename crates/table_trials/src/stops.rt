@@ -2,7 +2,7 @@
 //!
 //! The arrival that meets the stop is told that the device failed, and so is each behind it. What is left of the files is opened again,
 //! also where power was lost: its rows are those from before that arrival, or those from after it.
-use crate::disks::{Disks, Ended, InMemory, Left, Stop, nothing};
+use crate::disks::{Ended, Left, Stop, close, nothing, open};
 use crate::exchanges::{Exchange, arrival, check_told, told};
 use crate::stories::{MADE_AGAIN, NUMBER_RELEASED, RELEASE, SET_UP};
 use job_core::{JobStore, StoreFault};
@@ -28,10 +28,11 @@ struct Run {
     rows: Vec<String>,
 }
 
-// How many steps were made before the stop, and what is left of the files.
+// How many steps were made before the stop, the rows behind them where these are all, and what is left of the files.
 #[derive(Drop)]
-struct Sent {
+struct Stopped {
     steps: usize,
+    rows: String,
     ended: Ended,
 }
 
@@ -119,116 +120,137 @@ fn store_over<S: Alter>(alloc: Global, conn: Connection<S>) -> Result<SqlStore<S
     }
 }
 
-// Sends so many exchanges of a run to new files with this stop.
-fn sent<D: Disks>(
+// Makes the steps of a run over an empty database. Answers how many are told as they must be, and the rows behind them if these are all.
+fn steps_over<S: Alter + Drop>(
+    rt: &impl Abort,
+    alloc: Global,
+    exchanges: &[Exchange],
+    conn: Connection<S>,
+) -> Result<(usize, String, Connection<S>), Fail> {
+    let mut rows = String::new(alloc);
+    let mut store = match store_over(alloc, conn) {
+        Ok(store) => store,
+        Err(conn) => return Ok((0, rows, conn)),
+    };
+    let told = told_before_stop(rt, alloc, &mut store, exchanges)?;
+    let mut conn = store.close();
+    if told == exchanges.len() {
+        rows = rows_of(alloc, &mut conn)?;
+    }
+    Ok((told.saturating_add(1), rows, conn))
+}
+
+// Makes the steps of a run over new files with this stop.
+fn steps_before_stop(
     rt: &impl Abort,
     alloc: Global,
     exchanges: &[Exchange],
     stop: Stop,
-) -> Result<Sent, Fail> {
-    let conn = match D::open(alloc, &nothing(alloc), stop) {
-        Ok(conn) => conn,
-        Err(ended) => {
-            return Ok(Sent {
-                steps: 0,
-                ended: ended?,
-            });
+) -> Result<Stopped, Fail> {
+    match open(alloc, &nothing(alloc), stop) {
+        Ok(conn) => {
+            let (steps, rows, conn) = steps_over(rt, alloc, exchanges, conn)?;
+            let ended = close(alloc, conn)?;
+            Ok(Stopped { steps, rows, ended })
         }
-    };
-    match store_over(alloc, conn) {
-        Ok(mut store) => {
-            let told = told_before_stop(rt, alloc, &mut store, exchanges)?;
-            Ok(Sent {
-                steps: told.saturating_add(1),
-                ended: D::close(alloc, store.close())?,
-            })
-        }
-        Err(conn) => Ok(Sent {
+        Err(ended) => Ok(Stopped {
             steps: 0,
-            ended: D::close(alloc, conn)?,
+            rows: String::new(alloc),
+            ended: ended?,
         }),
     }
 }
 
-// Opens what is left of files, and gives its rows.
-fn opened<D: Disks>(alloc: Global, left: &Left) -> Result<(Connection<D::Store>, String), Fail> {
-    let Ok(mut conn) = D::open(alloc, left, NO_STOP) else {
-        return Err(Fail::new("what is left isn't opened"));
-    };
-    let rows = rows_of(alloc, &mut conn)?;
-    Ok((conn, rows))
-}
-
-// The run, with its rows, where nothing stops it.
-fn whole_run<D: Disks>(rt: &impl Abort, alloc: Global) -> Result<Run, Fail> {
-    let exchanges = exchanges(alloc)?;
-    let mut rows = Vec::new(alloc);
-    rows.push(String::new(alloc))?;
-    for count in 0..=exchanges.len() {
-        let some = exchanges.get(..count).unwrap_or(&[]);
-        let Sent { steps, ended } = sent::<D>(rt, alloc, some, NO_STOP)?;
-        assert!(rt; steps > count && ended.is_closed);
-        for left in ended.lefts.iter().take(1) {
-            let (_, its) = opened::<D>(alloc, left)?;
-            rows.push(its)?;
-        }
-    }
-    Ok(Run { exchanges, rows })
-}
-
-// How many steps have these rows, where so many were told: these, or one more.
-fn steps_of(run: &Run, told: usize, rows: &String) -> Option<usize> {
-    let near = run.rows.get(told..).unwrap_or(&[]);
-    let behind = near.iter().take(2).position(|its| its == rows)?;
-    Some(told.saturating_add(behind))
-}
-
-// Sends the whole run to what these steps have left. At the end the rows are those of a run without a stop.
-fn check_again<S: Alter + Drop>(
+// How many steps have the rows of a database, where so many were told: these, or one more.
+fn steps_of<S: Alter>(
     rt: &impl Abort,
     alloc: Global,
     run: &Run,
-    steps: usize,
-    conn: Connection<S>,
+    told: usize,
+    conn: &mut Connection<S>,
+) -> Result<usize, Fail> {
+    let rows = rows_of(alloc, conn)?;
+    let near = run.rows.get(told..).unwrap_or(&[]);
+    let behind = near.iter().take(2).position(|its| *its == rows);
+    assert!(rt; behind.is_some(), "behind {told} steps: {rows}");
+    Ok(told.saturating_add(behind.unwrap_or(0)))
+}
+
+// A database has the rows of the steps that were told, or of one more. Then, if that is asked for, the whole run is sent to it, and at the
+// end its rows are those of a run without a stop.
+fn check_over<S: Alter + Drop>(
+    rt: &impl Abort,
+    alloc: Global,
+    run: &Run,
+    told: usize,
+    sends_again: bool,
+    mut conn: Connection<S>,
 ) -> Result<(), Fail> {
+    let steps = steps_of(rt, alloc, run, told, &mut conn)?;
+    if !sends_again {
+        return Ok(());
+    }
     let Ok(mut store) = store_over(alloc, conn) else {
         assert!(rt; steps > 0);
         return Ok(());
     };
     check_told_again(rt, alloc, &mut store, run, steps)?;
     let mut conn = store.close();
-    assert_eq!(rt; Some(&rows_of(alloc, &mut conn)?), run.rows.last());
+    let last = run.rows.len().saturating_sub(1);
+    assert_eq!(rt; steps_of(rt, alloc, run, last, &mut conn)?, last);
     Ok(())
 }
 
-// Sends a run to files with this stop, and looks at what is left. Answers whether the run met the stop.
-fn has_met<D: Disks>(rt: &impl Abort, alloc: Global, run: &Run, stop: Stop) -> Result<bool, Fail> {
-    let exchanges = run.exchanges.as_slice();
-    let Sent { steps, ended } = sent::<D>(rt, alloc, exchanges, stop)?;
-    assert_eq!(rt; ended.lefts.len(), 3);
-    for (place, left) in ended.lefts.iter().enumerate() {
-        let (conn, rows) = opened::<D>(alloc, left)?;
-        let Some(steps) = steps_of(run, steps, &rows) else {
-            assert!(rt; false, "behind {steps} steps: {rows}");
-            return Ok(true);
-        };
-        if place == 0 {
-            check_again(rt, alloc, run, steps, conn)?;
-        }
+// What is left of files is opened again.
+fn check_left(
+    rt: &impl Abort,
+    alloc: Global,
+    run: &Run,
+    told: usize,
+    sends_again: bool,
+    left: &Left,
+) -> Result<(), Fail> {
+    match open(alloc, left, NO_STOP) {
+        Ok(conn) => check_over(rt, alloc, run, told, sends_again, conn),
+        Err(_) => Err(Fail::new("what is left isn't opened")),
     }
-    Ok(steps <= exchanges.len() || !ended.is_closed)
+}
+
+// The run, with its rows, where nothing stops it.
+fn whole_run(rt: &impl Abort, alloc: Global) -> Result<Run, Fail> {
+    let exchanges = exchanges(alloc)?;
+    let mut rows = Vec::new(alloc);
+    rows.push(String::new(alloc))?;
+    for count in 0..=exchanges.len() {
+        let some = exchanges.get(..count).unwrap_or(&[]);
+        let made = steps_before_stop(rt, alloc, some, NO_STOP)?;
+        assert!(rt; made.steps > count && made.ended.is_closed);
+        rows.push(made.rows)?;
+    }
+    Ok(Run { exchanges, rows })
+}
+
+// Makes the steps of a run over files with this stop, and looks at what is left. The whole run is sent again to what stands there, where
+// no power was lost. Answers whether the run met the stop.
+fn has_met(rt: &impl Abort, alloc: Global, run: &Run, stop: Stop) -> Result<bool, Fail> {
+    let exchanges = run.exchanges.as_slice();
+    let made = steps_before_stop(rt, alloc, exchanges, stop)?;
+    for (place, left) in made.ended.lefts.iter().enumerate() {
+        check_left(rt, alloc, run, made.steps, place == 0, left)?;
+    }
+    Ok(made.steps <= exchanges.len() || !made.ended.is_closed)
 }
 
 // A stop at each call, until a run meets none.
-fn check_stops<D: Disks>(rt: &impl Abort, alloc: Global, is_log: bool) -> Result<(), Fail> {
-    let run = whole_run::<D>(rt, alloc)?;
+fn check_stops(rt: &impl Abort, alloc: Global, is_log: bool) -> Result<(), Fail> {
+    let run = whole_run(rt, alloc)?;
     for calls in 0..MANY_CALLS {
         let (log, db) = if is_log {
             (calls, MANY_CALLS)
         } else {
             (MANY_CALLS, calls)
         };
-        if !has_met::<D>(rt, alloc, &run, Stop { log, db })? {
+        if !has_met(rt, alloc, &run, Stop { log, db })? {
             assert!(rt; calls > 0);
             return Ok(());
         }
@@ -240,12 +262,12 @@ fn check_stops<D: Disks>(rt: &impl Abort, alloc: Global, is_log: bool) -> Result
 fn a_stop_at_each_call_of_the_log_leaves_all_of_an_arrival_or_nothing(
     rt: HostRuntime,
 ) -> Result<(), Fail> {
-    check_stops::<InMemory>(&rt, rt.alloc(), true)
+    check_stops(&rt, rt.alloc(), true)
 }
 
 #[test]
 fn a_stop_at_each_call_of_the_database_leaves_all_of_an_arrival_or_nothing(
     rt: HostRuntime,
 ) -> Result<(), Fail> {
-    check_stops::<InMemory>(&rt, rt.alloc(), false)
+    check_stops(&rt, rt.alloc(), false)
 }
