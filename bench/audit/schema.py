@@ -169,12 +169,14 @@ def references_of(conn: sqlite3.Connection, name: str) -> tuple[Reference, ...] 
 
 
 def indexed_of(conn: sqlite3.Connection, name: str) -> tuple[tuple[str, ...], ...] | None:
-    """The keys that have an index, in the order in which they are declared; none where one was made beside the table."""
-    indices = conn.execute('SELECT name, "unique", origin FROM pragma_index_list(?)', (name,)).fetchall()
-    if any(is_unique and origin == "c" for _, is_unique, origin in indices):
+    """The keys that have an index, in the order in which they are declared; none where an index beside the table isn't a plain one."""
+    indices = conn.execute('SELECT name, "unique" OR partial, origin FROM pragma_index_list(?)', (name,)).fetchall()
+    columns = {index: tuple(column for column, in conn.execute("SELECT name FROM pragma_index_info(?) ORDER BY seqno", (index,)))
+               for index, *_ in indices}
+    if any((is_special or None in columns[index]) and origin == "c" for index, is_special, origin in indices):
         return None
     declared = sorted((index for index, _, origin in indices if origin != "c"), key=lambda index: int(index.rpartition("_")[2]))
-    return tuple(tuple(column for column, in conn.execute("SELECT name FROM pragma_index_info(?) ORDER BY seqno", (index,))) for index in declared)
+    return tuple(columns[index] for index in declared)
 
 
 def found_table(conn: sqlite3.Connection, name: str, text: str) -> Table | None:
@@ -191,6 +193,8 @@ def found_table(conn: sqlite3.Connection, name: str, text: str) -> Table | None:
 
 def version_of(conn: sqlite3.Connection) -> int | None:
     """The version whose tables these are, and no others; plain indices and the order of the tables say nothing."""
+    if conn.execute("PRAGMA encoding").fetchone() != ("UTF-8",) or conn.execute("PRAGMA auto_vacuum").fetchone() != (0,):
+        return None
     listed = conn.execute("SELECT name, type, wr, strict FROM pragma_table_list WHERE schema = 'main' AND name <> 'sqlite_schema'").fetchall()
     texts = dict(conn.execute("SELECT name, sql FROM sqlite_schema WHERE type = 'table'"))
     if (any((kind, without_rowid, strict) != ("table", 0, 1) for _, kind, without_rowid, strict in listed)

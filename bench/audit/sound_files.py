@@ -22,14 +22,14 @@ from schema import INDICES, VERSIONS, Table, other_text_of, tables_of, text_of
 
 
 class Shape(NamedTuple):
-    """How a file is made: its version, the order and the spelling of its tables, gaps in their numbers, its indices, and its journal."""
+    """How a file is made: its version, the order and the spelling of its tables, gaps in their numbers, its indices, and a pragma before all."""
 
     version: int = 3
     order: str = "document"
     text: Callable[[Table], str] = text_of
     has_gaps: bool = False
     indices: tuple[str, ...] = ()
-    is_logged: bool = False
+    pragma: str = "journal_mode = DELETE"
 
 
 def mixed(tables: list[Table]) -> list[Table]:
@@ -66,7 +66,7 @@ def make(path: pathlib.Path, made: Rows, shape: Shape = Shape()) -> None:
     path.unlink(missing_ok=True)
     conn = sqlite3.connect(path, isolation_level=None)
     conn.execute("PRAGMA synchronous = OFF")
-    conn.execute(f"PRAGMA journal_mode = {'WAL' if shape.is_logged else 'DELETE'}")
+    conn.execute(f"PRAGMA {shape.pragma}")
     conn.execute("BEGIN")
     tables = ORDERS[shape.order](tables_of(shape.version))
     for number, table in enumerate(tables):
@@ -115,12 +115,16 @@ def shapes(version: int) -> dict[str, Shape]:
         "with gaps in the numbers of the tables": Shape(version, "mixed", has_gaps=True),
         "with gaps and a further plain index": Shape(version, "backward", has_gaps=True, indices=(FURTHER,)),
         "spelt in another way": Shape(version, text=other_text_of),
-        "with a log": Shape(version, indices=ours, is_logged=True),
+        "with a log": Shape(version, indices=ours, pragma="journal_mode = WAL"),
+        "in small pages": Shape(version, indices=ours, pragma="page_size = 512"),
+        "in large pages": Shape(version, indices=ours, pragma="page_size = 65536"),
     }
 
 
 OTHERS = {
     "a further UNIQUE index": "CREATE UNIQUE INDEX one_sw ON word (session, place, sw)",
+    "an index with a condition": "CREATE INDEX good ON session (serial) WHERE state = 1",
+    "an index over an expression": "CREATE INDEX halves ON session (serial / 2)",
     "a view": "CREATE VIEW cards AS SELECT serial FROM session",
     "a trigger": "CREATE TRIGGER late AFTER INSERT ON word BEGIN DELETE FROM remake; END",
     "a column more": "ALTER TABLE lot ADD COLUMN note TEXT NOT NULL DEFAULT ''",
@@ -148,6 +152,10 @@ def other_cases(folder: pathlib.Path, name: str, made: Rows, version: int) -> It
         make(path, made, Shape(version))
         change(path, statement)
         yield Case(f"{name}, version {version}, with {told}", path, OTHER_TABLES)
+    for told, pragma in (("in UTF-16", "encoding = 'UTF-16'"), ("with auto-vacuum", "auto_vacuum = FULL")):
+        path = folder / f"{name}-{version}-{told}.db".replace(" ", "-")
+        make(path, made, Shape(version, pragma=pragma))
+        yield Case(f"{name}, version {version}, {told}", path, OTHER_TABLES)
 
 
 def cases(folder: pathlib.Path) -> Iterator[Case]:

@@ -6,9 +6,8 @@ use Rattle.std.proofs.lemmas.Bool.Decides.{nat_tests}
 use Rattle.std.proofs.lemmas.List.{length-map}
 use Rattle.std.proofs.lemmas.List.Elements.{All-append, All-filter, All-head, All-map, All-nil, All-tail}
 use Rattle.std.proofs.lemmas.List.Folds.{find_at}
-use Rattle.std.proofs.lemmas.List.FromFn.{get_or-range_with_len}
-use Rattle.std.proofs.lemmas.List.Sums.{passes_at_first, position_or_len_is}
-use Rattle.std.proofs.lemmas.Option.{slice_get-get_or, slice_get_within}
+use Rattle.std.proofs.lemmas.List.Sums.{passes_at_first}
+use Rattle.std.proofs.lemmas.Option.{slice_get_within}
 use Rattle.job_core.specs.Facts.{Batch}
 use Rattle.job_core.specs.Sound.{AreApart, AreNamedOnce, IsBatch, IsName}
 use Rattle.table_rows.specs.Tables.{StoredBatch, StoredGrouping, StoredLot, StoredRecord, StoredSession, StoredWord, Tables}
@@ -16,14 +15,15 @@ use Rattle.rows_of_facts.proofs.Lists.{flat_map_same}
 use Rattle.facts_of_rows.specs.Decided.{batch_of_row}
 use Rattle.table_rows.specs.Keys.{is_batch, is_grouping_of, is_record_of}
 use Rattle.audit_laws.specs.Audited.{IsAudited, IsAuditedRecord, IsAuditedSession, file_groupings, file_keys, file_records, file_rows, grouping_of, is_session_of, key_of}
-use Rattle.audit_rows.specs.Audit.{AreBlanks, AreCards, AreNumbered, AreReplies, AreSorted, IsIdOf}
+use Rattle.audit_rows.specs.Audit.{AreBlanks, AreCards, AreNumbered, AreReplies, IsIdOf}
 use Rattle.rows_answer.proofs.Finding.{AllPairs-from_map}
-use Rattle.audit_rows.specs.Order.{AreReady}
-use Rattle.audit_rows.specs.Sessions.{IsAuditedFile}
-use Rattle.audit_rows.proofs.OrderLemmas.{first_rising}
-use Rattle.audit_rows.proofs.Pieces.{All-passed, by_owner, filter-map, map-flat_map, own_piece}
+use Rattle.ordered_rows.specs.Order.{AreReady, AreSorted}
+use Rattle.audit_cards.specs.Sessions.{IsAuditedFile}
+use Rattle.ordered_rows.proofs.IdLemmas.{id_at}
+use Rattle.ordered_rows.proofs.OrderLemmas.{first_rising}
+use Rattle.ordered_rows.proofs.Pieces.{All-passed, by_owner, filter-map, map-flat_map, own_piece}
 use Rattle.audit_rows.proofs.NamedLemmas.{lots_in_range, named_once, once_named}
-use Rattle.audit_rows.proofs.SameLists.{All-unmapped, get_or-map}
+use Rattle.ordered_rows.proofs.SameLists.{All-unmapped, get_or-map}
 
 some_batch : StoredBatch
 some_batch = record { id = 0; name = []; product = []; raw = []; closed = false; waiting = 0; running = 0; failed = 0; withdrawn = 0; good = 0; sessions = 0; spoiled = 0 }
@@ -39,29 +39,17 @@ names_are (b ∷ bs) = ap (λ ns. b.name ∷ ns) (names_are bs)
 module _ (t : Tables) (ids : map (λ (b : StoredBatch). b.id) t.batches ≡ range_with_len 1 (length t.batches)) where
   -- ---- ids
 
-  id_at : (i : ℕ) (d : StoredBatch) → i < length t.batches → (get_or t.batches i d).id ≡ 1 + i
-  id_at i d within =
-      sym (get_or-map (λ (b : StoredBatch). b.id) t.batches i d 0 within) ∙ ap (λ xs. get_or xs i 0) ids ∙ get_or-range_with_len 1 (length t.batches) i 0 within
-
-  pub found_batch : (i : ℕ) (d : StoredBatch) → i < length t.batches → find (is_batch (get_or t.batches i d).id) t.batches ≡ Some (get_or t.batches i d)
-  found_batch i d within =
-      let id : ℕ = (get_or t.batches i d).id in
-      let id_is : (get_or t.batches i d).id ≡ 1 + i = id_at i d within in
-      let place : position_or_len (is_batch id) t.batches ≡ i =
-      position_or_len_is (is_batch id) t.batches i d (omega arith) (λ k before. let other = id_at k d (omega arith) in grind (arith, nat_tests)) (λ inside. grind (arith, nat_tests)) in
-      find_at (is_batch id) t.batches ∙ ap (slice_get t.batches) place ∙ slice_get-get_or t.batches i d within
-
   id_found : (id : ℕ) (b : StoredBatch) → find (is_batch id) t.batches ≡ Some b → IsIdOf (length t.batches) id
   id_found id b found =
       let at : ℕ = position_or_len (is_batch id) t.batches in
       let within : at < length t.batches = slice_get_within t.batches at b (sym (find_at (is_batch id) t.batches) ∙ found) in
       let passes = passes_at_first (is_batch id) t.batches b within in
-      let id_is = id_at at b within in
+      let id_is = id_at t ids at b within in
       let same : (get_or t.batches at b).id ≡ id = grind (arith, nat_tests) in
       (omega arith, omega arith)
 
   own_ids : All (λ (b : StoredBatch). IsIdOf (length t.batches) b.id) t.batches
-  own_ids = λ i d within. let id_is = id_at i d within in (omega arith, omega arith)
+  own_ids = λ i d within. let id_is = id_at t ids i d within in (omega arith, omega arith)
 
   -- what holds at each batch of its rows, where each row has a batch
   each_row : {X : Type 0} (n : X → ℕ) (P : X → Type 0) (xs : List X) → All (λ x. IsIdOf (length t.batches) (n x)) xs
@@ -70,7 +58,7 @@ module _ (t : Tables) (ids : map (λ (b : StoredBatch). b.id) t.batches ≡ rang
       let range = in_range k d within in
       let i : ℕ = n (get_or xs k d) - 1 in
       let here : i < length t.batches = omega arith in
-      let id_is = id_at i some_batch here in
+      let id_is = id_at t ids i some_batch here in
       let same : (n (get_or xs k d) == (get_or t.batches i some_batch).id) ≡ true = grind (arith, nat_tests) in
       All-passed (λ x. n x == (get_or t.batches i some_batch).id) P xs (each i some_batch here) k d within same
 
@@ -202,15 +190,3 @@ module _ (t : Tables) (a : IsAudited t) where
 
   pub replies_of : AreReplies t.replies t.marks
   replies_of = record { kept = a.kept; kept_once = a.kept_once; marks_are = a.marks; marked_once = a.marked_once; above = a.above }
-
--- ---- batches, one after the other
-
-pub found_here : (t : Tables) → map (λ (b : StoredBatch). b.id) t.batches ≡ range_with_len 1 (length t.batches) → (i : ℕ) (b : StoredBatch) → i < length t.batches → b ≡ get_or t.batches i b
-    → find (is_batch b.id) t.batches ≡ Some b
-found_here t ids i b within is =
-    subst (λ (x : StoredBatch). find (is_batch x.id) t.batches ≡ Some x) (sym is) (found_batch t ids i b within)
-
-pub found_among : (t : Tables) → map (λ (b : StoredBatch). b.id) t.batches ≡ range_with_len 1 (length t.batches) → (batches : List StoredBatch) → batches ≡ t.batches
-    → (i : ℕ) (b : StoredBatch) → i < length batches → b ≡ get_or batches i b → find (is_batch b.id) t.batches ≡ Some b
-found_among t ids batches same i b within is =
-    found_here t ids i b (subst (λ (bs : List StoredBatch). i < length bs) same within) (is ∙ ap (λ (bs : List StoredBatch). get_or bs i b) same)

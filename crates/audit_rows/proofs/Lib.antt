@@ -1,17 +1,3 @@
-pub mod CursorLemmas
-pub mod CardLemmas
-pub mod RangeLemmas
-pub mod OrderLemmas
-pub mod ByRecordLemmas
-pub mod LotLemmas
-pub mod SessionLemmas
-pub mod RecordLemmas
-pub mod SameLists
-pub mod Consuming
-pub mod Pieces
-pub mod RowLemmas
-pub mod FileLemmas
-pub mod BatchLemmas
 pub mod NamedLemmas
 pub mod AuditLemmas
 pub mod SortedLemmas

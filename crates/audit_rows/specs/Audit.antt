@@ -1,20 +1,21 @@
 -- The parts of the audit.
-use Rattle.std.specs.Prelude.{◌≡◌, ◌≢◌, ◌≤◌, ◌<◌, ◌+◌, ℕ, true, false, not, List, All, AllPairs, IsPermutation, IsTrue, bytes_eq, count_by, flat_map, length, map}
+use Rattle.std.specs.Prelude.{◌≡◌, ◌≢◌, ◌≤◌, ◌<◌, ◌+◌, ◌^◌, ℕ, true, false, not, List, All, AllPairs, IsPermutation, IsTrue, bytes_eq, count_by, flat_map, length, map}
 use Rattle.std.specs.List.{range_with_len}
-use Rattle.std.specs.List.Sorted.{IsNonDecreasingBy}
 use Rattle.store_data.specs.declared.row.Product.{Product}
+use Rattle.job_core.specs.declared.facts.Lot.{Lot}
 use Rattle.job_core.specs.Contents.{Entry, IsEntry, IsMark, Mark, is_above, is_of_number}
-use Rattle.job_core.specs.Sound.{AreLots, AreProducts}
+use Rattle.job_core.specs.Sound.{AreLots, AreProducts, IsName}
 use Rattle.table_rows.specs.Tables.{StoredBatch, StoredBlank, StoredGrouping, StoredLot, StoredRecord, StoredSession, Tables}
 use Rattle.table_rows.specs.Keys.{is_running_on}
-use Rattle.audit_laws.specs.Audited.{AreInOrder, IsAuditedBlank, IsAuditedLot, opened_rows, placed_words, turns_of}
-use Rattle.audit_rows.specs.Order.{lots_of}
+use Rattle.audit_laws.specs.Audited.{IsAuditedBlank, IsAuditedLot, opened_rows, placed_words, turns_of}
+use Rattle.ordered_rows.specs.Order.{lots_of}
 
--- the rows stand in order: lots by their first serials, and blanks by theirs
-pub record AreSorted (t : Tables) : Type 0 where
-  pub in_order : AreInOrder t
-  pub lots : IsNonDecreasingBy (λ (l : StoredLot). l.lot.first) t.lots
-  pub blanks : IsNonDecreasingBy (λ (b : StoredBlank). b.serial) t.blanks
+-- a lot has a name, and its serials are in range
+pub record IsRanged (l : Lot) : Type 0 where
+  pub named : IsName l.name
+  pub least : 1 ≤ l.count
+  pub most : l.count ≤ 1000000
+  pub range : l.first + l.count ≤ 10 ^ 18
 
 -- it is one of so many ids, which begin at 1
 abbrev pub IsIdOf : ℕ → ℕ → Type 0

@@ -1,5 +1,1 @@
-pub mod Cards
-pub mod Order
-pub mod Sessions
-pub mod Files
 pub mod Audit

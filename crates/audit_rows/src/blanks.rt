@@ -9,10 +9,10 @@ ghost use Rattle.table_rows.specs.Tables.{StoredSession as SessionValue};
 ghost use Rattle.facts_of_rows.specs.Decided.{discarded_rows};
 ghost use Rattle.audit_laws.specs.Audited.{IsAuditedBlank, IsAuditedLot, opened_rows};
 ghost use Rattle.audit_rows.specs.Audit.{AreBlanks};
-ghost use Rattle.audit_rows.specs.Order.{AreReady, lots_of};
+ghost use Rattle.ordered_rows.specs.Order.{AreReady, lots_of};
 
-use crate::lots::lot_of;
 use crate::once::are_once;
+use ordered_rows::lot_of;
 use std::alloc::{AllocError, Global};
 use stored_rows::{StoredBlank, StoredLot, StoredSession, Tables};
 

@@ -3,7 +3,7 @@ ghost use Rattle.std.specs.Prelude.{◌≡◌, ◌↔◌, ℕ, All, IsTrue, leng
 ghost use Rattle.std.specs.List.{range_with_len};
 ghost use Rattle.audit_rows.specs.Audit.{IsIdOf};
 
-use crate::ranges::Ranged;
+use ordered_rows::Ranged;
 use stored_rows::{StoredBatch, StoredSession};
 
 /// Rows with an id.
@@ -28,15 +28,6 @@ impl Counted for StoredSession {
 
     fn id(&self) -> u64 {
         self.id
-    }
-}
-
-/// Sessions name their batch.
-impl Ranged for StoredSession {
-    ghost number = { λ session. session.batch };
-
-    fn number(&self) -> u64 {
-        self.batch
     }
 }
 

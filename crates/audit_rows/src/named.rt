@@ -5,10 +5,11 @@ ghost use Rattle.job_core.specs.Sound.{AreLots, AreProducts, IsLot, IsName};
 ghost use Rattle.job_core.specs.States.{product_named};
 ghost use Rattle.table_rows.specs.Tables.{StoredLot as LotValue};
 ghost use Rattle.store_data.specs.declared.row.Product.{Product as ProductValue};
-ghost use Rattle.audit_rows.specs.Order.{IsRanged, lots_of};
+ghost use Rattle.ordered_rows.specs.Order.{lots_of};
+ghost use Rattle.audit_rows.specs.Audit.{IsRanged};
 
-use crate::names::{is_name, product_named};
 use crate::once::{Apart, are_apart};
+use ordered_rows::{is_name, product_named};
 use stored_rows::{StoredBatch, StoredLot, StoredProduct};
 
 /// Serials end below it.

@@ -6,9 +6,9 @@ ghost use Rattle.job_core.specs.Contents.{mark_of};
 ghost use Rattle.job_core.specs.Sound.{IsName};
 ghost use Rattle.audit_rows.specs.Audit.{AreMarked, AreReplies};
 
-use crate::names::is_name;
 use crate::once::{are_once, set_of};
 use indexmap::IndexSet;
+use ordered_rows::is_name;
 use std::alloc::{AllocError, Global};
 use store_data::Name;
 use stored_rows::{StoredMark, StoredReply, Tables};

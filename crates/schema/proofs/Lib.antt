@@ -1,3 +1,4 @@
 pub mod Taking
 pub mod Link
 pub mod Founding
+mod Adopting

@@ -1,17 +1,23 @@
 //! A store begins, and ends.
-ghost use Rattle.std.specs.Prelude.{◌≡◌, ◌≢◌, ◌⊎◌, false, IfErr, IfOk, IsTrue};
+ghost use Rattle.std.specs.Prelude.{◌≡◌, ◌≢◌, ◌⊎◌, false, IfErr, IfOk, IsTrue, MatchResult};
 ghost use Rattle.sqlite.specs.Held.{state};
-ghost use Rattle.sqlite.specs.State.{HasCleanDisk};
-ghost use Rattle.job_core.specs.Contents.{AreSame, Contents, no_contents};
+ghost use Rattle.sqlite.specs.State.{HasCleanDisk, Survives};
+ghost use Rattle.job_core.specs.Contents.{AreSame, AreSound, Contents, no_contents};
+ghost use Rattle.rows_of_facts.specs.Image.{image};
 ghost use Rattle.sql_base.specs.Columns.{no_schema};
-ghost use Rattle.sql_base.specs.Ends.{IsKept};
+ghost use Rattle.sql_base.specs.Ends.{IsKept, IsLeft};
+ghost use Rattle.sql_order.specs.declared.versions.Version.{Version};
+ghost use Rattle.order_tables.specs.Holding.{HoldsRows, HoldsSoundRows, IsOfVersion};
+ghost use Rattle.adoption.specs.Adopts.{Adopts};
 ghost use Rattle.schema.specs.Link.{link};
 ghost use Rattle.schema.specs.Stores.{connection, stands_for};
 
 use crate::faults::{Counts, fault_of};
 use crate::store::SqlStore;
+use adoption::{AdoptFault, adopt};
 use facts_of_rows::same_rows_same_contents;
 use job_core::StoreFault;
+use order_tables::{held_rows_are_one, rows_are_held_in_any_order};
 use sqlite::{Alter, Connection};
 use std::alloc::Global;
 use store_commits::{CreateFault, create};
@@ -19,14 +25,18 @@ use store_commits::{CreateFault, create};
 /// Why no store was made over a database.
 #[derive(Clone, Copy, Debug, PartialEq, Eq)]
 pub enum OpenFault {
-    /// It has tables that are not ours, as SQLite's own of an empty database are not: refusal 81.
+    /// Its tables are not as they must be, none where a store begins, and ours where one goes on:
+    /// refusal 81.
     NotOurs,
+    /// Its tables are ours, and their rows are those of no sound contents: refusal 82.
+    Damaged,
     /// The store's own fault.
     Store { fault: StoreFault },
 }
 
 fn told(fault: CreateFault) -> OpenFault
-    ensures { result ≡ OpenFault.NotOurs → fault ≡ CreateFault.NotEmpty }
+    ensures not_ours { result ≡ OpenFault.NotOurs → fault ≡ CreateFault.NotEmpty }
+    ensures unread { result ≢ OpenFault.Damaged }
 {
     match fault {
         CreateFault::NotEmpty => OpenFault::NotOurs,
@@ -36,9 +46,22 @@ fn told(fault: CreateFault) -> OpenFault
     }
 }
 
+fn refusal(fault: AdoptFault) -> OpenFault
+    ensures not_ours { result ≡ OpenFault.NotOurs → fault ≡ AdoptFault.NotOurs }
+    ensures damaged { result ≡ OpenFault.Damaged → fault ≡ AdoptFault.Damaged }
+{
+    match fault {
+        AdoptFault::NotOurs => OpenFault::NotOurs,
+        AdoptFault::Damaged => OpenFault::Damaged,
+        AdoptFault::Sqlite { error } => OpenFault::Store {
+            fault: fault_of(error),
+        },
+    }
+}
+
 impl<S: Alter> SqlStore<S> {
-    /// A store without facts, in an empty database. Any other is refused and stays as it is, and its
-    /// connection is handed back. A crash leaves what it could leave before, or empty contents.
+    /// A store without facts, in an empty database. Any other is refused and stays as it is, and
+    /// its connection is handed back. A crash leaves what it could leave before, or empty contents.
     pub fn create(
         alloc: Global,
         mut conn: Connection<S>,
@@ -54,8 +77,10 @@ impl<S: Alter> SqlStore<S> {
             → (d : Contents) → (stands_for S.Store store).may_leave d → AreSame d no_contents) }
         ensures refused { IfErr result (λ e. e.1 ≡ OpenFault.NotOurs
             → (state S.Store conn).now.schema ≢ no_schema) }
+        ensures unread { IfErr result (λ e. e.1 ≢ OpenFault.Damaged) }
         ensures kept { IfErr result (λ e. HasCleanDisk (state S.Store e.0)
-            → IsTrue (state S.Store conn).is_open → IsKept (state S.Store conn) (state S.Store e.0)) }
+            → IsTrue (state S.Store conn).is_open
+            → IsKept (state S.Store conn) (state S.Store e.0)) }
         ensures idle { IfErr result (λ e. e.0.in_transaction ≡ false) }
         ensures late { IfErr result (λ e. HasCleanDisk (state S.Store e.0) → (d : Contents)
             → (link (state S.Store e.0) 0 0).may_leave d
@@ -72,6 +97,62 @@ impl<S: Alter> SqlStore<S> {
                 })
             }
             Err(fault) => Err((conn, told(fault))),
+        }
+    }
+
+    /// A store over a database whose tables, of any version and in any order, hold the rows of
+    /// sound contents: it has these, in our own tables. Any other is refused and stays as it is, and
+    /// its connection is handed back. A crash leaves what it could leave before, or the same
+    /// contents.
+    pub fn adopt(
+        alloc: Global,
+        mut conn: Connection<S>,
+    ) -> Result<SqlStore<S>, (Connection<S>, OpenFault)>
+        requires { conn.in_transaction ≡ false }
+        ensures taken { IfOk result (λ store. HasCleanDisk (state S.Store (connection store))
+            → (v : Version) × HoldsSoundRows v (state S.Store conn).now) }
+        ensures holds { IfOk result (λ store. HasCleanDisk (state S.Store (connection store))
+            → (v : Version) (c : Contents) → AreSound c
+            → HoldsRows v (image c) (state S.Store conn).now
+            → (stands_for S.Store store).holds c) }
+        ensures crash { IfOk result (λ store. HasCleanDisk (state S.Store (connection store))
+            → (v : Version) (c d : Contents) → AreSound c
+            → HoldsRows v (image c) (state S.Store conn).now
+            → (stands_for S.Store store).may_leave d → AreSame d c) }
+        ensures counts { IfOk result (λ store. ((stands_for S.Store store).failed ≡ 0)
+            × ((stands_for S.Store store).full ≡ 0)) }
+        ensures not_ours { IfErr result (λ e. HasCleanDisk (state S.Store e.0)
+            → e.1 ≡ OpenFault.NotOurs
+            → (v : Version) → ¬ IsOfVersion v (state S.Store conn).now) }
+        ensures damaged { IfErr result (λ e. HasCleanDisk (state S.Store e.0)
+            → e.1 ≡ OpenFault.Damaged
+            → ((v : Version) × IsOfVersion v (state S.Store conn).now)
+            × ((v : Version) → ¬ HoldsSoundRows v (state S.Store conn).now)) }
+        ensures kept { IfErr result (λ e. HasCleanDisk (state S.Store e.0)
+            → IsKept (state S.Store conn) (state S.Store e.0)) }
+        ensures idle { IfErr result (λ e. e.0.in_transaction ≡ false) }
+        ensures late { IfErr result (λ e. HasCleanDisk (state S.Store e.0) → (d : Contents)
+            → (link (state S.Store e.0) 0 0).may_leave d
+            → (link (state S.Store conn) 0 0).may_leave d
+            ⊎ ((v : Version) × HoldsRows v (image d) (state S.Store conn).now)) }
+        ensures survives { MatchResult result (λ store. Survives (state S.Store conn)
+            (state S.Store (connection store)) (IsLeft Adopts (state S.Store conn)))
+            (λ e. Survives (state S.Store conn) (state S.Store e.0)
+            (IsLeft Adopts (state S.Store conn))) }
+    {
+        same_rows_same_contents();
+        held_rows_are_one();
+        rows_are_held_in_any_order();
+        match adopt(alloc, &mut conn) {
+            Ok(()) => {
+                let counts = Counts { failed: 0, full: 0 };
+                Ok(SqlStore {
+                    alloc,
+                    conn,
+                    counts,
+                })
+            }
+            Err(fault) => Err((conn, refusal(fault))),
         }
     }
 }

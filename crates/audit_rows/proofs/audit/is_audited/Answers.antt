@@ -1,17 +1,14 @@
-use Rattle.std.proofs.Common.{◌∙◌, List, subst, sym}
+use Rattle.std.proofs.Common.{◌∙◌, sym}
 use Rattle.std.proofs.lemmas.Bool.{false≢true}
-use Rattle.table_rows.specs.Tables.{StoredSession}
-use Rattle.audit_rows.specs.Sessions.{AreByRecord}
 use Rattle.audit_rows.proofs.AuditLemmas.{audited, blanks_of, cards_of, files_of, machines_named, numbered_of, ready_of, replies_of}
-use Rattle.audit_rows.proofs.SameLists.{told_as}
-use Rattle.audit_rows.proofs.SessionLemmas.{refused}
+use Rattle.ordered_rows.proofs.Told.{refused, told_as}
 use Rattle.audit_rows.proofs.audit.is_audited.Goals as goal
 
 pub returns-then-not-are_numbered : goal.returns-then-not-are_numbered
 returns-then-not-are_numbered c = refused (λ a. false≢true (sym c.if-not-are_numbered.true ∙ c.are_numbered.ensures.1 (numbered_of c.args.tables.now a)))
 
-pub has_files-requires-clause-ready : goal.has_files-requires-clause-ready
-has_files-requires-clause-ready c = ready_of c.args.tables.now c.requires (c.are_numbered.ensures.0 c.if-not-are_numbered.false)
+pub has_files-requires : goal.has_files-requires
+has_files-requires c = ready_of c.args.tables.now c.requires (c.are_numbered.ensures.0 c.if-not-are_numbered.false)
 
 pub returns-then-not-files : goal.returns-then-not-files
 returns-then-not-files c = refused (λ a. false≢true (sym c.if-not-files.true ∙ c.in_ok-files.ensures.1 (files_of c.args.tables.now a)))
@@ -21,10 +18,6 @@ returns-then-not-cards c = refused (λ a. false≢true (sym c.if-not-cards.true 
 
 pub returns-then-not-blanks : goal.returns-then-not-blanks
 returns-then-not-blanks c = refused (λ a. false≢true (sym c.if-not-blanks.true ∙ c.in_ok-blanks.ensures.1 (blanks_of c.args.tables.now a)))
-
-pub has_files-requires-clause-sessions : goal.has_files-requires-clause-sessions
-has_files-requires-clause-sessions c =
-    subst (λ (xs : List StoredSession). AreByRecord c.args.tables.now.sessions xs) (sym c.deref.ensures.value) c.in_ok-by_record.ensures
 
 pub are_cards-requires-clause-ready : goal.are_cards-requires-clause-ready
 are_cards-requires-clause-ready c = ready_of c.args.tables.now c.requires (c.are_numbered.ensures.0 c.if-not-are_numbered.false)

@@ -1,7 +1,6 @@
 use Rattle.std.proofs.Common.{◌∙◌, sym}
 use Rattle.std.proofs.lemmas.Bool.{false≢true}
-use Rattle.audit_rows.proofs.SameLists.{told_as}
-use Rattle.audit_rows.proofs.SessionLemmas.{refused}
+use Rattle.ordered_rows.proofs.Told.{refused, told_as}
 use Rattle.audit_rows.proofs.replies.are_kept.Goals as goal
 
 pub returns-then-not-are_marks : goal.returns-then-not-are_marks

@@ -1,7 +1,7 @@
 use Rattle.std.proofs.Common.{◌≡◌, ◌∙◌, List, ℕ, false, subst, sym}
 use Rattle.std.specs.Prelude.{AllPairs, IfSome, bytes_eq}
 use Rattle.audit_rows.proofs.ReplyLemmas.{marks_once, once_marks}
-use Rattle.audit_rows.proofs.SessionLemmas.{refused}
+use Rattle.ordered_rows.proofs.Told.{refused}
 use Rattle.audit_rows.proofs.replies.are_marked.Goals as goal
 
 pub returns-in-None : goal.returns-in-None

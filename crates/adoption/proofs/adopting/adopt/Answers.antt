@@ -1,0 +1,23 @@
+use Rattle.std.proofs.Common.{arith, subst}
+use Rattle.sqlite.specs.Held.{state}
+use Rattle.sqlite.specs.State.{HasCleanDisk}
+use Rattle.table_audit.specs.Telling.{Tells}
+use Rattle.adoption.proofs.Taken.{left_taken, taken}
+use Rattle.adoption.proofs.adopting.adopt.Goals as goal
+
+pub returns-in-Unsound-clause-damaged : goal.returns-in-Unsound-clause-damaged
+returns-in-Unsound-clause-damaged g c clean same = subst (λ f. Tells f (state g.S.Store c.args.conn.now).now) c.in-Unsound.is (c.in_ok-audit.ensures.told clean)
+
+pub returns-in-Sound-clause-ok : goal.returns-in-Sound-clause-ok
+returns-in-Sound-clause-ok g c clean =
+    let old = state g.S.Store c.args.conn.now in
+    let mid = state g.S.Store c.audit.new.conn in
+    let early : HasCleanDisk mid = omega (arith, c.settle.ensures.crash.clean) in
+    taken c.rows_are_held_in_any_order.ensures c.in-Sound.version c.in-Sound.tables old mid (state g.S.Store c.settle.new.conn) c.in_ok-audit.ensures.kept
+    (λ read. subst (λ f. Tells f old.now) c.in-Sound.is (c.in_ok-audit.ensures.told read)) c.settle.result early (c.settle.ensures.ok clean)
+
+pub returns-in-Sound-clause-crash : goal.returns-in-Sound-clause-crash
+returns-in-Sound-clause-crash g c =
+    let old = state g.S.Store c.args.conn.now in
+    left_taken c.rows_are_held_in_any_order.ensures c.in-Sound.version c.in-Sound.tables old (state g.S.Store c.audit.new.conn) (state g.S.Store c.settle.new.conn) c.in_ok-audit.ensures.kept
+    (λ read. subst (λ f. Tells f old.now) c.in-Sound.is (c.in_ok-audit.ensures.told read)) c.in_ok-audit.ensures.survives c.settle.ensures.crash

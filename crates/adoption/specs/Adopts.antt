@@ -1,0 +1,27 @@
+-- What is taken, and what is made of it.
+use Rattle.std.specs.Prelude.{◌≢◌}
+use Rattle.sqlite.specs.Effect.{Database}
+use Rattle.job_core.specs.Contents.{AreSound, Contents}
+use Rattle.table_rows.specs.Tables.{Tables}
+use Rattle.rows_of_facts.specs.Image.{image}
+use Rattle.sql_order.specs.declared.versions.Version.{Version}
+use Rattle.sql_rows.specs.Image.{IsImage}
+use Rattle.order_tables.specs.Holding.{HoldsRows}
+use Rattle.adoption.specs.declared.faults.AdoptFault.{AdoptFault}
+use Rattle.adoption.specs.declared.faults.AdoptFault.TheVariants as fault
+
+-- rows that stand in the tables of this version come to stand in our own
+abbrev pub Settles : Version → Tables → Database → Database → Type 0
+Settles v t old new = HoldsRows v t old → IsImage t new
+
+-- the rows of sound contents, in the tables of some version, come to stand in our own
+pub record Adopts (old new : Database) : Type 0 where
+  pub version : Version
+  pub contents : Contents
+  pub sound : AreSound contents
+  pub held : HoldsRows version (image contents) old
+  pub stands : IsImage (image contents) new
+
+-- it tells nothing of the database
+abbrev pub IsOther : AdoptFault → Type 0
+IsOther e = (e ≢ fault.NotOurs) × (e ≢ fault.Damaged)

@@ -1,0 +1,44 @@
+//! A database is taken, or refused.
+ghost use Rattle.std.specs.Prelude.{◌≡◌, false, IfErr, OnErr, OnOk};
+ghost use Rattle.sqlite.specs.Held.{state};
+ghost use Rattle.sqlite.specs.State.{HasCleanDisk, Survives};
+ghost use Rattle.sql_base.specs.Ends.{IsKept, IsLeft};
+ghost use Rattle.sql_order.specs.declared.versions.Version.{Version};
+ghost use Rattle.order_tables.specs.Holding.{HoldsSoundRows, IsOfVersion};
+ghost use Rattle.adoption.specs.Adopts.{Adopts};
+ghost use Rattle.adoption.specs.Comes.{Comes};
+
+use crate::faults::AdoptFault;
+use crate::settling::settle;
+use order_tables::rows_are_held_in_any_order;
+use sqlite::{Alter, Connection};
+use std::alloc::Global;
+use table_audit::{Found, audit};
+
+/// Takes a database whose tables, of any version, hold the rows of sound contents: they then stand
+/// in our own tables. Any other is refused, and stays as it is. A crash leaves what it could leave
+/// before, or the same contents in our own tables.
+pub fn adopt<S: Alter>(alloc: Global, conn: &mut Connection<S>) -> Result<(), AdoptFault>
+    requires { conn.old.in_transaction ≡ false }
+    ensures ok { HasCleanDisk (state S.Store conn.new) → OnOk result
+        (Comes Adopts (state S.Store conn.old) (state S.Store conn.new)) }
+    ensures not_ours { HasCleanDisk (state S.Store conn.new) → IfErr result
+        (λ e. e ≡ AdoptFault.NotOurs
+        → (v : Version) → ¬ IsOfVersion v (state S.Store conn.old).now) }
+    ensures damaged { HasCleanDisk (state S.Store conn.new) → IfErr result
+        (λ e. e ≡ AdoptFault.Damaged
+        → ((v : Version) × IsOfVersion v (state S.Store conn.old).now)
+        × ((v : Version) → ¬ HoldsSoundRows v (state S.Store conn.old).now)) }
+    ensures kept { HasCleanDisk (state S.Store conn.new)
+        → OnErr result (IsKept (state S.Store conn.old) (state S.Store conn.new)) }
+    ensures idle { conn.new.in_transaction ≡ false }
+    ensures crash { Survives (state S.Store conn.old) (state S.Store conn.new)
+        (IsLeft Adopts (state S.Store conn.old)) }
+{
+    rows_are_held_in_any_order();
+    match audit(alloc, conn)? {
+        Found::NotOurs => Err(AdoptFault::NotOurs),
+        Found::Unsound => Err(AdoptFault::Damaged),
+        Found::Sound { version, tables } => settle(alloc, conn, version, &tables),
+    }
+}

@@ -1,0 +1,10 @@
+//! A database whose tables hold the rows of sound contents is taken, and no other.
+#![tactic(auto)]
+
+mod adopting;
+mod faults;
+mod ours;
+mod settling;
+
+pub use adopting::adopt;
+pub use faults::AdoptFault;

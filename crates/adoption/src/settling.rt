@@ -1,0 +1,43 @@
+//! Rows that a database holds come to stand in our own tables.
+ghost use Rattle.std.specs.Prelude.{◌≡◌, false, IfErr, OnErr, OnOk};
+ghost use Rattle.sqlite.specs.Held.{state};
+ghost use Rattle.sqlite.specs.State.{HasCleanDisk, Survives};
+ghost use Rattle.sql_base.specs.Ends.{IsKept, IsLeft};
+ghost use Rattle.adoption.specs.Adopts.{IsOther, Settles};
+ghost use Rattle.adoption.specs.Comes.{Comes};
+
+use crate::faults::AdoptFault;
+use crate::ours::can_stay;
+use order_tables::our_rows_are_an_image;
+use sql_order::Version;
+use sqlite::{Alter, Connection};
+use std::alloc::Global;
+use stored_rows::Tables;
+use table_remakes::remake;
+
+/// Tables that stand as our own are made stay as they are. Others are made anew, in one transaction,
+/// and their rows put in. A crash leaves what it could leave before, or all of it.
+pub(crate) fn settle<S: Alter>(
+    alloc: Global,
+    conn: &mut Connection<S>,
+    version: Version,
+    tables: &Tables,
+) -> Result<(), AdoptFault>
+    requires idle { conn.old.in_transaction ≡ false }
+    ensures ok { HasCleanDisk (state S.Store conn.new) → OnOk result
+        (Comes (Settles version tables.now) (state S.Store conn.old) (state S.Store conn.new)) }
+    ensures other { IfErr result IsOther }
+    ensures kept { HasCleanDisk (state S.Store conn.new)
+        → OnErr result (IsKept (state S.Store conn.old) (state S.Store conn.new)) }
+    ensures idle { conn.new.in_transaction ≡ false }
+    ensures crash { Survives (state S.Store conn.old) (state S.Store conn.new)
+        (IsLeft (Settles version tables.now) (state S.Store conn.old)) }
+{
+    our_rows_are_an_image();
+    let _settled = conn.is_autocommit();
+    if can_stay(alloc, conn, version)? {
+        return Ok(());
+    }
+    let _live = conn.schema();
+    Ok(remake(conn, version, tables)?)
+}

@@ -1,0 +1,6 @@
+use Rattle.std.proofs.Common.{All, take}
+use Rattle.audit_cards.specs.Sessions.{IsAuditedWith}
+use Rattle.audit_cards.proofs.batches.are_audited.Given as goal
+
+abbrev pub invariant-loop-place : goal.invariant-loop-place
+invariant-loop-place l = All (IsAuditedWith l.tables) (take l.place l.records)

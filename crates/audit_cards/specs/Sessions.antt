@@ -1,0 +1,91 @@
+-- What a session's row, a record's row and a batch's rows are tested for.
+use Rattle.std.specs.Prelude.{◌≡◌, ◌≤◌, ◌+◌, ℕ, Bool, true, List, All, Some, IsPermutation, count_by, map, filter, find, if◌then◌else◌}
+use Rattle.std.specs.List.Sorted.{IsNonDecreasingBy}
+use Rattle.store_data.specs.declared.row.Product.{Product}
+use Rattle.store_data.specs.declared.row.Row.{Row}
+use Rattle.store_data.specs.RecordFaults.{HavePlan}
+use Rattle.store_data.specs.Sequence.{Plan, plan_of}
+use Rattle.job_core.specs.declared.facts.Lot.{Lot}
+use Rattle.job_core.specs.declared.facts.RecordState.{RecordState}
+use Rattle.job_core.specs.declared.facts.RecordState.TheVariants as rec
+use Rattle.job_core.specs.declared.facts.SessionState.{SessionState}
+use Rattle.job_core.specs.Sound.{IsBatch, IsSoundRecord}
+use Rattle.job_core.specs.States.{is_spoiled, lot_of, product_named, rows_of_record, state_by}
+use Rattle.table_rows.specs.Tables.{StoredBatch, StoredRecord, StoredRemake, StoredSession, Tables}
+use Rattle.facts_of_rows.specs.Decided.{batch_of_row}
+use Rattle.table_rows.specs.Keys.{is_batch, is_grouping_of, is_record_at, is_record_of}
+use Rattle.audit_laws.specs.Audited.{IsAuditedBatch, IsAuditedRecord, IsAuditedSession, file_groupings, file_keys, file_rows, is_session_at, is_session_of, is_withdrawn, key_of}
+use Rattle.ordered_rows.specs.Order.{lots_of}
+
+-- the record at this place of the batch with this id has this plan
+pub record HasPlan (t : Tables) (id place : ℕ) (b : StoredBatch) (plan : Plan) : Type 0 where
+  pub batch_is : find (is_batch id) t.batches ≡ Some b
+  pub rec : StoredRecord
+  pub rec_is : find (is_record_at id place) t.records ≡ Some rec
+  pub product : Product
+  pub product_is : product_named t.products b.product ≡ Some product
+  pub plan_is : plan ≡ plan_of product (rows_of_record (file_rows t b) rec.name)
+
+-- the serial lies in a lot for this product
+abbrev pub IsFor : Tables → ℕ → List ℕ → Type 0
+IsFor t serial product = (lot : Lot) × (lot_of (lots_of t.lots) serial ≡ Some lot) × (lot.product ≡ product)
+
+-- the states of sessions
+abbrev pub states_in : List StoredSession → List SessionState
+states_in sessions = map (λ (s : StoredSession). s.state) sessions
+
+-- the record stands as its sessions' states say
+pub record StandsBy (states : List SessionState) (r : StoredRecord) : Type 0 where
+  pub sound : IsSoundRecord states (is_withdrawn r) r.remakes
+  pub state : r.state ≡ state_by states (is_withdrawn r) r.remakes
+  pub spoiled : r.spoiled ≡ count_by is_spoiled states
+
+-- the sessions by their records, those of each in the order of their ids
+pub record AreByRecord (sessions by_record : List StoredSession) : Type 0 where
+  pub same : IsPermutation sessions by_record
+  pub batches : IsNonDecreasingBy (λ (s : StoredSession). s.batch) by_record
+  pub places : (id : ℕ) → IsNonDecreasingBy (λ (s : StoredSession). s.place) (filter (is_session_of id) by_record)
+  pub stable : (id place : ℕ) → filter (is_session_at id place) by_record ≡ filter (is_session_at id place) sessions
+
+-- a record and each session of it
+abbrev pub IsAuditedWith : Tables → StoredRecord → Type 0
+IsAuditedWith t r = IsAuditedRecord t r × All (IsAuditedSession t) (filter (is_session_at r.batch r.place) t.sessions)
+
+-- a batch with its file, its records, groupings and sessions
+pub record IsAuditedFile (t : Tables) (b : StoredBatch) : Type 0 where
+  pub batch : IsBatch t.products (batch_of_row b)
+  pub records : map key_of (filter (is_record_of b.id) t.records) ≡ file_keys t b
+  pub groupings : filter (is_grouping_of b.id) t.groupings ≡ file_groupings t b
+  pub each_record : All (IsAuditedRecord t) (filter (is_record_of b.id) t.records)
+  pub each_session : All (IsAuditedSession t) (filter (is_session_of b.id) t.sessions)
+  pub counts : IsAuditedBatch t b
+
+-- a record of a batch, with its product, its rows and its sessions
+pub record HasRows (t : Tables) (b : StoredBatch) (product : Product) (rows : List Row) (r : StoredRecord) (own : List StoredSession) : Type 0 where
+  pub batch_is : find (is_batch r.batch) t.batches ≡ Some b
+  pub product_is : product_named t.products b.product ≡ Some product
+  pub rec_is : find (is_record_at r.batch r.place) t.records ≡ Some r
+  pub rows_are : rows ≡ rows_of_record (file_rows t b) r.name
+  pub planned : HavePlan product rows
+  pub own_are : own ≡ filter (is_session_at r.batch r.place) t.sessions
+
+-- how often a record may be spoiled and remade, by how many of its sessions are good or run
+pub record IsSoundCount (cards spoiled : ℕ) (withdrawn : Bool) (remakes : ℕ) : Type 0 where
+  pub one_card : cards ≤ 1
+  pub remade_least : spoiled ≤ remakes + 1
+  pub remade_most : remakes ≤ spoiled
+  pub remade_all : 1 ≤ cards → remakes ≡ spoiled
+  pub withdrawn_none : withdrawn ≡ true → cards ≡ 0
+
+-- the state of a record, by whether a session of it is good, whether one runs, whether it is withdrawn, and whether it failed
+abbrev pub state_by_count : Bool → Bool → Bool → Bool → RecordState
+state_by_count good running withdrawn failed =
+    if good then rec.Good
+    else if running then rec.Running
+    else if withdrawn then rec.Withdrawn
+    else if failed then rec.Failed
+    else rec.Waiting
+
+-- a turn of a record
+abbrev pub turn_of : StoredRecord → ℕ → StoredRemake
+turn_of r turn = record { batch = r.batch; place = r.place; turn = turn }

@@ -1,0 +1,222 @@
+//! Batches, with their files, their records, groupings and sessions.
+ghost use Rattle.std.specs.Prelude.{◌≡◌, ◌↔◌, ◌<◌, IfOk, IfSome, IsTrue, All, Some, None, true, filter, find, map};
+ghost use Rattle.std.specs.List.Sorted.{IsNonDecreasingBy};
+ghost use Rattle.store_data.specs.Name.{is_name};
+ghost use Rattle.store_data.specs.Sequence.{IsProduct};
+ghost use Rattle.job_core.specs.States.{product_named};
+ghost use Rattle.table_rows.specs.Tables.{StoredSession as SessionValue};
+ghost use Rattle.table_rows.specs.Keys.{is_batch, is_grouping_of, is_record_of};
+ghost use Rattle.audit_laws.specs.Audited.{is_session_of, key_of};
+ghost use Rattle.ordered_rows.specs.Order.{AreReady};
+ghost use Rattle.audit_cards.specs.Files.{HasFile, IsFileOf, IsUnread, groupings_in, keys_of};
+ghost use Rattle.audit_cards.specs.Files.{names_in};
+ghost use Rattle.audit_cards.specs.Sessions.{AreByRecord, IsAuditedFile, IsAuditedWith};
+
+use crate::by_record::{SessionRef, sessions_at};
+use crate::counts::counts_by;
+use crate::files::{are_groupings, are_records, names_of};
+use crate::records::is_audited_record;
+use batch_import::{ImportFault, read_batch};
+use ordered_rows::{is_name, product_named, range_of};
+use std::alloc::{AllocError, Global};
+use store_data::{Name, Product, Row, grouped};
+use stored_rows::{StoredBatch, StoredGrouping, StoredRecord, Tables};
+
+// Whether a batch has a name.
+fn is_named(batch: &StoredBatch) -> bool
+    ensures { result ≡ is_name batch.now.name }
+{
+    is_name(&batch.name)
+}
+
+// The product of a batch.
+fn product_for(tables: &Tables, batch: &StoredBatch) -> Option<Product>
+    requires { AreReady tables.now }
+    ensures value { result ≡ product_named tables.now.products batch.now.product }
+    ensures ranged { IfSome result IsProduct }
+{
+    product_named(&tables.products, &batch.product)
+}
+
+// The rows of a batch's records.
+fn records_of<'a>(tables: &'a Tables, batch: &StoredBatch) -> &'a [StoredRecord]
+    requires { AreReady tables.now }
+    ensures { result.now ≡ filter (is_record_of batch.now.id) tables.now.records }
+{
+    range_of(&tables.records, batch.id)
+}
+
+// The rows of a batch's sessions.
+fn sessions_of<'a, 'b>(by_record: &'b [SessionRef<'a>], batch: &StoredBatch) -> &'b [SessionRef<'a>]
+    requires { IsNonDecreasingBy (λ (s : SessionValue). s.batch) by_record.now }
+    ensures { result.now ≡ filter (is_session_of batch.now.id) by_record.now }
+{
+    range_of(by_record, batch.id)
+}
+
+// Whether these are the rows of the records of these names.
+fn has_records(batch: &StoredBatch, records: &[StoredRecord], names: &[Name]) -> bool
+    ensures { IsTrue result ↔ (map key_of records.now ≡ keys_of batch.now.id names.now) }
+{
+    are_records(records, batch.id, names)
+}
+
+// The rows of a batch's groupings.
+fn groupings_of<'a>(tables: &'a Tables, batch: &StoredBatch) -> &'a [StoredGrouping]
+    requires { AreReady tables.now }
+    ensures { result.now ≡ filter (is_grouping_of batch.now.id) tables.now.groupings }
+{
+    range_of(&tables.groupings, batch.id)
+}
+
+// Whether these are the rows of the rows of the batch's file, the records of which have these names.
+fn has_groupings(
+    batch: &StoredBatch,
+    groupings: &[StoredGrouping],
+    rows: &[Row],
+    names: &[Name],
+) -> bool
+    requires { names.now ≡ names_in rows.now }
+    ensures { IsTrue result ↔ (groupings.now ≡ groupings_in batch.now.id rows.now) }
+{
+    are_groupings(groupings, batch.id, rows, names)
+}
+
+// The rows of a batch's file, if it has no fault under its product.
+fn file_rows(
+    alloc: Global,
+    product: &Product,
+    batch: &StoredBatch,
+) -> Result<Option<Vec<Row>>, AllocError>
+    requires { IsProduct product.now }
+    ensures some { IfOk result
+        (λ read. IfSome read (λ rows. IsFileOf product.now batch.now.raw rows.items)) }
+    ensures none { IfOk result
+        (λ read. read ≡ None → IsUnread product.now batch.now.raw) }
+{
+    match read_batch(alloc, batch.raw.as_slice(), product) {
+        Ok(read) => Ok(Some(read.rows)),
+        Err(ImportFault::At(_)) => Ok(None),
+        Err(ImportFault::Memory) => Err(AllocError),
+    }
+}
+
+// Whether each session of a batch is of one of its records.
+fn are_placed(sessions: &[SessionRef<'_>], records: usize) -> bool
+    requires { IsNonDecreasingBy (λ (s : SessionValue). s.place) sessions.now }
+    ensures { IsTrue result ↔ All (λ (s : SessionValue). s.place < records) sessions.now }
+{
+    match sessions.last() {
+        None => true,
+        Some(last) => last.place() < records as u64,
+    }
+}
+
+// Whether each of a batch's records is what its rows and its sessions say, and so are these.
+fn are_audited(
+    alloc: Global,
+    tables: &Tables,
+    batch: &StoredBatch,
+    product: &Product,
+    groups: &[Vec<Row>],
+    records: &[StoredRecord],
+    sessions: &[SessionRef<'_>],
+) -> Result<bool, AllocError>
+    requires ready { AreReady tables.now }
+    requires file { HasFile tables.now batch.now product.now
+        (map (λ group. group.items) groups.now) records.now sessions.now }
+    ensures { IfOk result (λ sound. IsTrue sound ↔ All (IsAuditedWith tables.now) records.now) }
+{
+    for place in 0..records.len() {
+        let own = sessions_at(sessions, place as u64);
+        let (rows, stored) = (&groups[place], &records[place]);
+        if !is_audited_record(alloc, tables, batch, product, rows, stored, own)? {
+            return Ok(false);
+        }
+    }
+    Ok(true)
+}
+
+// Whether a batch with these rows is what they and its sessions say, and so are its records, its
+// groupings and these.
+fn has_file(
+    alloc: Global,
+    tables: &Tables,
+    by_record: &[SessionRef<'_>],
+    batch: &StoredBatch,
+    product: &Product,
+    rows: Vec<Row>,
+) -> Result<bool, AllocError>
+    requires ready { AreReady tables.now }
+    requires sessions { AreByRecord tables.now.sessions by_record.now }
+    requires named { is_name batch.now.name ≡ true }
+    requires batch { find (is_batch batch.now.id) tables.now.batches ≡ Some batch.now }
+    requires product { product_named tables.now.products batch.now.product ≡ Some product.now }
+    requires ranged { IsProduct product.now }
+    requires file { IsFileOf product.now batch.now.raw rows.items }
+    ensures { IfOk result (λ sound. IsTrue sound ↔ IsAuditedFile tables.now batch.now) }
+{
+    let names = names_of(alloc, &rows)?;
+    let records = records_of(tables, batch);
+    if !has_records(batch, records, &names) {
+        return Ok(false);
+    }
+    let groupings = groupings_of(tables, batch);
+    if !has_groupings(batch, groupings, &rows, &names) {
+        return Ok(false);
+    }
+    let sessions = sessions_of(by_record, batch);
+    if !counts_by(batch, records, sessions) {
+        return Ok(false);
+    }
+    if !are_placed(sessions, records.len()) {
+        return Ok(false);
+    }
+    let groups = grouped(alloc, rows)?;
+    are_audited(alloc, tables, batch, product, &groups, records, sessions)
+}
+
+// The same of a batch of this product.
+fn is_audited_under(
+    alloc: Global,
+    tables: &Tables,
+    by_record: &[SessionRef<'_>],
+    batch: &StoredBatch,
+    product: &Product,
+) -> Result<bool, AllocError>
+    requires ready { AreReady tables.now }
+    requires sessions { AreByRecord tables.now.sessions by_record.now }
+    requires named { is_name batch.now.name ≡ true }
+    requires batch { find (is_batch batch.now.id) tables.now.batches ≡ Some batch.now }
+    requires product { product_named tables.now.products batch.now.product ≡ Some product.now }
+    requires ranged { IsProduct product.now }
+    ensures { IfOk result (λ sound. IsTrue sound ↔ IsAuditedFile tables.now batch.now) }
+{
+    let read = file_rows(alloc, product, batch)?;
+    match read {
+        None => Ok(false),
+        Some(rows) => has_file(alloc, tables, by_record, batch, product, rows),
+    }
+}
+
+/// Whether a batch is what its file and its sessions say, and so are its records, its groupings
+/// and these.
+pub(crate) fn is_audited_file(
+    alloc: Global,
+    tables: &Tables,
+    by_record: &[SessionRef<'_>],
+    batch: &StoredBatch,
+) -> Result<bool, AllocError>
+    requires ready { AreReady tables.now }
+    requires sessions { AreByRecord tables.now.sessions by_record.now }
+    requires batch { find (is_batch batch.now.id) tables.now.batches ≡ Some batch.now }
+    ensures { IfOk result (λ sound. IsTrue sound ↔ IsAuditedFile tables.now batch.now) }
+{
+    if !is_named(batch) {
+        return Ok(false);
+    }
+    match product_for(tables, batch) {
+        None => Ok(false),
+        Some(product) => is_audited_under(alloc, tables, by_record, batch, &product),
+    }
+}

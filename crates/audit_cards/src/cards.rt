@@ -1,0 +1,111 @@
+//! Where the words of a session leave its card.
+ghost use Rattle.std.specs.Prelude.{◌≡◌, ◌∷◌, ◌++◌, [], ℕ, List, IfSome, None, Some, slice_get};
+ghost use Rattle.store_data.specs.Cursor.{IsSegmentAt, cursor_at};
+ghost use Rattle.store_data.specs.Sequence.{IsPlan, Plan, commands_of};
+ghost use Rattle.job_core.specs.Facts.{Session};
+ghost use Rattle.job_core.specs.Sound.{AreWords};
+ghost use Rattle.job_core.specs.States.{goes_at, is_tolerant, state_with};
+ghost use Rattle.audit_cards.specs.Cards.{Leaves, status_words};
+
+use job_core::SessionState;
+use store_data::{Class, Cursor, RecordPlan, SegmentView, class};
+use stored_rows::{StoredSession, StoredWord};
+
+/// A card after words of its session.
+#[derive(Clone, Copy)]
+pub(crate) struct Card {
+    /// The cursor after the words that go.
+    pub(crate) cursor: Cursor,
+    /// Whether the last word stopped the session.
+    pub(crate) stops: bool,
+}
+
+// The card before the first word.
+fn new_card() -> Card
+    ensures { (plan : Plan) → Leaves plan [] result.cursor result.stops }
+{
+    Card {
+        cursor: Cursor::start(),
+        stops: false,
+    }
+}
+
+// Whether the command at the cursor is the last of a tolerant segment.
+fn is_tolerant(cursor: &Cursor, segment: &SegmentView<'_>, max: u8) -> bool
+    ensures { (plan : Plan) (k : ℕ) → IsPlan plan → cursor_at plan k ≡ Some cursor.now
+        → IsSegmentAt plan cursor.now segment.now → plan.max ≡ max
+        → result ≡ is_tolerant (slice_get (commands_of plan) k) }
+{
+    let at_end = cursor.at_end(segment, max);
+    segment.tol && at_end
+}
+
+// Whether a word to the command at the cursor goes.
+fn goes(cursor: &Cursor, segment: &SegmentView<'_>, max: u8, sw: u16) -> bool
+    ensures { (plan : Plan) (k : ℕ) → IsPlan plan → cursor_at plan k ≡ Some cursor.now
+        → IsSegmentAt plan cursor.now segment.now → plan.max ≡ max
+        → result ≡ goes_at (commands_of plan) k sw }
+{
+    class(sw, is_tolerant(cursor, segment, max)) == Class::Go
+}
+
+// The card after one more word, where such a session may have it.
+fn after(plan: &RecordPlan<'_>, max: u8, card: &Card, sw: u16) -> Option<Card>
+    requires plan { IsPlan plan.now }
+    requires max { max ≡ plan.now.max }
+    requires card { (words : List ℕ) × Leaves plan.now words card.now.cursor card.now.stops }
+    ensures some { (words : List ℕ) → Leaves plan.now words card.now.cursor card.now.stops
+        → IfSome result (λ next. Leaves plan.now (words ++ sw ∷ []) next.cursor next.stops) }
+    ensures none { (words more : List ℕ) → Leaves plan.now words card.now.cursor card.now.stops
+        → result ≡ None → AreWords (commands_of plan.now) (words ++ sw ∷ more) → ⊥ }
+{
+    if card.stops {
+        return None;
+    }
+    let segment = plan.segment(card.cursor.app, card.cursor.segment)?;
+    let mut cursor = card.cursor;
+    if goes(&cursor, &segment, max, sw) {
+        cursor.step_from(&segment, max);
+        Some(Card {
+            cursor,
+            stops: false,
+        })
+    } else {
+        Some(Card {
+            cursor,
+            stops: true,
+        })
+    }
+}
+
+/// The card after these words; none where they are more than the plan's commands, or one before
+/// the last does not go.
+pub(crate) fn card_after(plan: &RecordPlan<'_>, words: &[StoredWord]) -> Option<Card>
+    ensures some { IfSome result
+        (λ card. Leaves plan.now (status_words words.now) card.cursor card.stops) }
+    ensures none { result ≡ None
+        → AreWords (commands_of plan.now) (status_words words.now) → ⊥ }
+    ensures plan { IsPlan plan.now }
+{
+    let max = plan.max();
+    let mut card = new_card();
+    for word in words {
+        card = after(plan, max, &card, word.sw)?;
+    }
+    Some(card)
+}
+
+/// The state of a session whose words leave its card so.
+pub(crate) fn state_of(plan: &RecordPlan<'_>, card: &Card, session: &StoredSession) -> SessionState
+    requires { IsPlan plan.now }
+    ensures { (s : Session) → Leaves plan.now s.words card.now.cursor card.now.stops
+        → s.ended ≡ session.now.ended → result ≡ state_with (commands_of plan.now) s }
+{
+    if session.ended || card.stops {
+        SessionState::Spoiled
+    } else if plan.segment(card.cursor.app, card.cursor.segment).is_none() {
+        SessionState::Good
+    } else {
+        SessionState::Running
+    }
+}

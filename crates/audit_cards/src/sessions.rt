@@ -1,0 +1,100 @@
+//! Sessions, and what their words say of them.
+ghost use Rattle.std.specs.Prelude.{◌≡◌, ◌↔◌, IsTrue, option_map};
+ghost use Rattle.job_core.specs.Sound.{IsName};
+ghost use Rattle.job_core.specs.States.{lot_of};
+ghost use Rattle.audit_laws.specs.Audited.{IsAuditedSession, words_of};
+ghost use Rattle.audit_cards.specs.Cards.{status_words};
+ghost use Rattle.ordered_rows.specs.Order.{AreReady, lots_of};
+ghost use Rattle.audit_cards.specs.Sessions.{HasPlan, IsFor};
+
+use crate::cards::{card_after, state_of};
+use job_core::SessionState;
+use ordered_rows::{is_name, lot_of, range_of};
+use store_data::{Cursor, RecordPlan};
+use stored_rows::{StoredBatch, StoredLot, StoredSession, StoredWord, Tables};
+
+// Whether the session's card is said to stand at this cursor.
+fn is_at(session: &StoredSession, cursor: &Cursor) -> bool
+    ensures { IsTrue result ↔ (session.now.cursor ≡ cursor.now) }
+{
+    session.app == u64::from(cursor.app)
+        && session.segment == u64::from(cursor.segment)
+        && session.offset == u64::from(cursor.offset)
+        && session.block == u64::from(cursor.block)
+}
+
+/// The session's words, in their order.
+pub(crate) fn words_of<'a>(tables: &'a Tables, session: &StoredSession) -> &'a [StoredWord]
+    requires { AreReady tables.now }
+    ensures { status_words result.now ≡ words_of tables.now.words session.now.id }
+{
+    range_of(&tables.words, session.id)
+}
+
+// Whether the session is said to be of a machine with a name, and to have so many words.
+fn is_sized(session: &StoredSession, words: usize) -> bool
+    ensures { IsTrue result ↔ (IsName session.now.machine × (session.now.words ≡ words)) }
+{
+    is_name(&session.machine) && session.words == words as u64
+}
+
+// Whether the session is said to stand so.
+fn stands(session: &StoredSession, state: SessionState) -> bool
+    ensures { IsTrue result ↔ (session.now.state ≡ state) }
+{
+    session.state == state
+}
+
+// The lot that the session's serial lies in.
+fn lot_for<'a>(tables: &'a Tables, session: &StoredSession) -> Option<&'a StoredLot>
+    requires { AreReady tables.now }
+    ensures { option_map (λ lot. lot.now.lot) result
+        ≡ lot_of (lots_of tables.now.lots) session.now.serial }
+{
+    lot_of(&tables.lots, session.serial)
+}
+
+// Whether the lot is for the product of the batch.
+fn has_product(lot: &StoredLot, batch: &StoredBatch) -> bool
+    ensures { IsTrue result ↔ (lot.now.lot.product ≡ batch.now.product) }
+{
+    lot.product.as_slice() == batch.product.as_slice()
+}
+
+// Whether the session's serial lies in a lot for the product of its batch.
+fn is_for(tables: &Tables, session: &StoredSession, batch: &StoredBatch) -> bool
+    requires { AreReady tables.now }
+    ensures { IsTrue result ↔ IsFor tables.now session.now.serial batch.now.product }
+{
+    match lot_for(tables, session) {
+        None => false,
+        Some(lot) => has_product(lot, batch),
+    }
+}
+
+/// Whether a session of a record of this batch that has this plan is what its words say.
+pub(crate) fn is_audited_session(
+    tables: &Tables,
+    batch: &StoredBatch,
+    plan: &RecordPlan<'_>,
+    session: &StoredSession,
+) -> bool
+    requires ready { AreReady tables.now }
+    requires plan { HasPlan tables.now session.now.batch session.now.place batch.now plan.now }
+    ensures { IsTrue result ↔ IsAuditedSession tables.now session.now }
+{
+    let words = words_of(tables, session);
+    let Some(card) = card_after(plan, words) else {
+        return false;
+    };
+    if !is_sized(session, words.len()) {
+        return false;
+    }
+    if !stands(session, state_of(plan, &card, session)) {
+        return false;
+    }
+    if !is_at(session, &card.cursor) {
+        return false;
+    }
+    is_for(tables, session, batch)
+}

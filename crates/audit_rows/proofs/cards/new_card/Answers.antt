@@ -1,5 +1,0 @@
-use Rattle.audit_rows.proofs.CardLemmas.{Leaves-none}
-use Rattle.audit_rows.proofs.cards.new_card.Goals as goal
-
-pub returns : goal.returns
-returns c = λ plan. Leaves-none plan _ (c.start.ensures plan)

@@ -1,7 +1,0 @@
-use Rattle.audit_laws.specs.Audited.{key_of}
-use Rattle.audit_rows.specs.Files.{keys_of}
-use Rattle.audit_rows.proofs.SameLists.{AreSameBelow}
-use Rattle.audit_rows.proofs.files.are_records.Given as goal
-
-abbrev pub invariant-loop-place : goal.invariant-loop-place
-invariant-loop-place l = AreSameBelow key_of l.records (keys_of l.id l.names) l.place

@@ -1,0 +1,7 @@
+pub mod Told
+pub mod SameLists
+pub mod Pieces
+pub mod RangeLemmas
+pub mod OrderLemmas
+pub mod LotLemmas
+pub mod IdLemmas

@@ -1,0 +1,30 @@
+-- What an answer tells.
+use Rattle.std.proofs.Common.{◌≡◌, Bool, true, false, not, is_some, Option, None, Some, Result, Ok, Err, refl, sym, ◌∙◌}
+use Rattle.std.specs.Prelude.{IfOk, IfSome}
+use Rattle.std.proofs.lemmas.Bool.{false≢true}
+
+-- what is refused
+pub refused : {P : Type 0} → (P → ⊥) → (false ≡ true → P) × (P → false ≡ true)
+refused none = (λ e. absurd (false≢true e), λ p. absurd (none p))
+
+pub granted : {P : Type 0} → P → (true ≡ true → P) × (P → true ≡ true)
+granted p = (λ e. p, λ q. refl)
+
+-- what an insertion tells
+pub was_added : (known added : Bool) → added ≡ not known → added ≡ true → known ≡ false
+was_added true added is passes = sym (sym is ∙ passes)
+was_added false added is passes = refl
+
+pub not_added : (known added : Bool) → added ≡ not known → added ≡ false → known ≡ true
+not_added true added is fails = refl
+not_added false added is fails = sym (sym is ∙ fails)
+
+-- one that is there, or none
+pub there_or_not : {S P : Type 0} (o : Option S) (r : Bool) → r ≡ is_some o → IfSome o (λ s. P) → (o ≡ None → P → ⊥) → (r ≡ true → P) × (P → r ≡ true)
+there_or_not None r is there missing = (λ passes. absurd (false≢true (sym is ∙ passes)), λ p. absurd (missing refl p))
+there_or_not (Some s) r is there missing = (λ passes. there, λ p. is)
+
+-- a told test, of what is just as true
+pub told_as : {E A B : Type 0} (r : Result Bool E) → (A → B) → (B → A) → IfOk r (λ sound. (sound ≡ true → A) × (A → sound ≡ true)) → IfOk r (λ sound. (sound ≡ true → B) × (B → sound ≡ true))
+told_as (Ok sound) to back told = (λ e. to (told.0 e), λ b. told.1 (back b))
+told_as (Err e) to back told = told

@@ -1,0 +1,38 @@
+-- Rows by their keys, and what stands before rows are tested.
+use Rattle.std.specs.Prelude.{◌≡◌, ◌≤◌, ◌+◌, ◌^◌, ℕ, Bool, List, All, AllPairs, length, map, bytes_eq}
+use Rattle.std.specs.List.{range_with_len}
+use Rattle.std.specs.List.Sorted.{IsNonDecreasingBy}
+use Rattle.job_core.specs.declared.facts.Lot.{Lot}
+use Rattle.job_core.specs.Sound.{AreApart, AreProducts}
+use Rattle.table_rows.specs.Tables.{StoredBatch, StoredBlank, StoredGrouping, StoredLot, StoredRecord, StoredWord, Tables}
+use Rattle.audit_laws.specs.Audited.{AreInOrder}
+
+-- its key is this one
+abbrev pub has_key : {X : Type 0} → (X → List ℕ) → List ℕ → X → Bool
+has_key key k x = bytes_eq (key x) k
+
+-- the lots of their rows
+abbrev pub lots_of : List StoredLot → List Lot
+lots_of lots = map (λ (l : StoredLot). l.lot) lots
+
+-- lots by their first serials; none is empty, and no serial lies in two
+pub record AreLotsInOrder (lots : List StoredLot) : Type 0 where
+  pub rising : IsNonDecreasingBy (λ (l : StoredLot). l.lot.first) lots
+  pub some : All (λ (l : StoredLot). 1 ≤ l.lot.count) lots
+  pub range : All (λ (l : StoredLot). l.lot.first + l.lot.count ≤ 10 ^ 18) lots
+  pub apart : AllPairs (λ (l m : StoredLot). AreApart l.lot m.lot) lots
+
+-- rows in order whose cards may be tested
+pub record AreReady (t : Tables) : Type 0 where
+  pub records : IsNonDecreasingBy (λ (r : StoredRecord). r.batch) t.records
+  pub groupings : IsNonDecreasingBy (λ (g : StoredGrouping). g.batch) t.groupings
+  pub words : IsNonDecreasingBy (λ (w : StoredWord). w.session) t.words
+  pub products : AreProducts t.products
+  pub lots : AreLotsInOrder t.lots
+  pub batch_ids : map (λ (b : StoredBatch). b.id) t.batches ≡ range_with_len 1 (length t.batches)
+
+-- the rows stand in order: lots by their first serials, and blanks by theirs
+pub record AreSorted (t : Tables) : Type 0 where
+  pub in_order : AreInOrder t
+  pub lots : IsNonDecreasingBy (λ (l : StoredLot). l.lot.first) t.lots
+  pub blanks : IsNonDecreasingBy (λ (b : StoredBlank). b.serial) t.blanks

@@ -1,0 +1,50 @@
+//! Names, and what stands under them.
+ghost use Rattle.std.specs.Prelude.{◌≡◌, IfSome, bytes_eq};
+ghost use Rattle.store_data.specs.Name.{is_name};
+ghost use Rattle.store_data.specs.Sequence.{IsProduct};
+ghost use Rattle.job_core.specs.Sound.{AreProducts, IsName};
+ghost use Rattle.job_core.specs.States.{product_named};
+
+use store_data::{Name, Product};
+use stored_rows::StoredProduct;
+
+/// Whether these bytes are a name.
+pub fn is_name(bytes: &[u8]) -> bool
+    ensures { result ≡ is_name bytes.now }
+{
+    Name::new(bytes).is_some()
+}
+
+// A product of the table.
+fn product_of(row: &StoredProduct) -> Product
+    requires { IsName row.now.code }
+    ensures { result ≡ row.now }
+{
+    Product {
+        code: Name::new(&row.name).unwrap(),
+        max: row.max,
+        low: row.low,
+        check: row.checked,
+    }
+}
+
+// Whether a product has this name.
+fn has_name(row: &StoredProduct, name: &[u8]) -> bool
+    ensures { result ≡ bytes_eq row.now.code name.now }
+{
+    row.name.as_slice() == name
+}
+
+/// The product of this name.
+pub fn product_named(products: &[StoredProduct], name: &[u8]) -> Option<Product>
+    requires { AreProducts products.now }
+    ensures value { result ≡ product_named products.now name.now }
+    ensures ranged { IfSome result IsProduct }
+{
+    for row in products {
+        if has_name(row, name) {
+            return Some(product_of(row));
+        }
+    }
+    None
+}

@@ -1,0 +1,52 @@
+-- From the rows that a database held to the contents of a store.
+use Rattle.std.proofs.Common.{◌⊎◌, inl, inr, sym, subst}
+use Rattle.sqlite.specs.Effect.{Database}
+use Rattle.sqlite.specs.State.{HasCleanDisk, State, Survives}
+use Rattle.job_core.specs.Contents.{AreSame, AreSound, Contents}
+use Rattle.table_rows.specs.Tables.{HaveSameRows, Tables}
+use Rattle.rows_of_facts.specs.Image.{image}
+use Rattle.sql_base.specs.Ends.{IsLeft}
+use Rattle.sql_order.specs.declared.versions.Version.{Version}
+use Rattle.sql_rows.specs.Image.{IsImage}
+use Rattle.sql_rows.proofs.OneImage.{one_image}
+use Rattle.sql_rows.proofs.SameRows.{same_rows}
+use Rattle.order_tables.specs.Holding.{HoldsRows, HoldsSoundRows}
+use Rattle.adoption.specs.Adopts.{Adopts}
+use Rattle.adoption.specs.Comes.{Comes}
+use Rattle.schema.specs.Link.{link}
+use Rattle.schema.proofs.Link.{RowsLaw, at_trees}
+
+-- a database holds the rows of one image alone
+abbrev pub OneLaw : Type 0
+OneLaw = (v w : Version) (t u : Tables) (db : Database) → HoldsRows v t db → HoldsRows w u db → HaveSameRows t u
+
+-- it holds them in any order
+abbrev pub OrderLaw : Type 0
+OrderLaw = (v : Version) (t u : Tables) (db : Database) → HaveSameRows t u → HoldsRows v u db → HoldsRows v t db
+
+-- whatever contents were held, their image is what came of them
+image_of : OneLaw → (v : Version) (c : Contents) (old new : Database) → HoldsRows v (image c) old → Adopts old new → IsImage (image c) new
+image_of one v c old new held made = same_rows (image c) (image made.contents) new (one v made.version (image c) (image made.contents) old held made.held) made.stands
+
+pub held_before : (old new : State) → Comes Adopts old new → (v : Version) × HoldsSoundRows v old.now
+held_before old new comes = let made = comes.made in (made.version, (made.contents, made.sound, made.held))
+
+pub holds_them : OneLaw → (old new : State) → Comes Adopts old new → (v : Version) (c : Contents) → AreSound c → HoldsRows v (image c) old.now → (link new 0 0).holds c
+holds_them one old new comes v c sound held = (sound, λ live. subst (IsImage (image c)) (sym (comes.shown live)) (image_of one v c old.now comes.db held comes.made))
+
+pub leaves_them : RowsLaw → OneLaw → (old new : State) → Comes Adopts old new → (v : Version) (c d : Contents) → AreSound c → HoldsRows v (image c) old.now → (link new 0 0).may_leave d → AreSame d c
+leaves_them law one old new comes v c d sound held left =
+    let now = image_of one v c old.now comes.db held comes.made in
+    law d c left.0 sound (one_image (image d) (image c) comes.db (at_trees (image d) comes.db left.1 now.ours (comes.only left.1 left.2) left.3) now)
+
+pub left_late : OrderLaw → (old new : State) → Survives old new (IsLeft Adopts old) → HasCleanDisk new → (d : Contents) → (link new 0 0).may_leave d
+    → (link old 0 0).may_leave d ⊎ ((v : Version) × HoldsRows v (image d) old.now)
+left_late order old new survives clean d left =
+    elim (survives.crash clean left.1 left.2) [
+      | inl before ↦ inl (left.0, left.1, before, left.3)
+      | inr it ↦ inr (
+          let made = it.1.1 in
+          let db = it.1.0 in
+          let same = one_image (image d) (image made.contents) db (at_trees (image d) db left.1 made.stands.ours it.1.2 left.3) made.stands in
+          (made.version, order made.version (image d) (image made.contents) old.now same made.held))
+    ]

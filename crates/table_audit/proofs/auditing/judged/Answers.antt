@@ -1,0 +1,9 @@
+use Rattle.std.proofs.Common.{refl}
+use Rattle.audit_rows.proofs.SoundLemmas.{same_through}
+use Rattle.table_audit.proofs.auditing.judged.Goals as goal
+
+pub returns-then-branch : goal.returns-then-branch
+returns-then-branch c =
+    let same = c.in_ok-is_sound.ensures.same in
+    let held = c.in_ok-is_sound.ensures.exact.0 c.if-branch.true in
+    (refl, same, (held.0, held.1, same_through _ _ _ same held.2))

@@ -1,0 +1,25 @@
+-- What an audit tells of a database.
+use Rattle.std.specs.Prelude.{◌≡◌}
+use Rattle.sqlite.specs.Effect.{Database}
+use Rattle.sql_order.specs.declared.versions.Version.{Version}
+use Rattle.job_core.specs.Contents.{AreSound, Contents}
+use Rattle.table_rows.specs.Tables.{HaveSameRows, Tables}
+use Rattle.rows_of_facts.specs.Image.{image}
+use Rattle.order_tables.specs.Holding.{HoldsRows, HoldsSoundRows, IsOfVersion}
+use Rattle.table_audit.specs.declared.auditing.Found.{Found}
+use Rattle.table_audit.specs.declared.auditing.Found.TheVariants.{NotOurs, Sound, Unsound}
+
+-- the rows are those of sound contents
+abbrev pub AreOfSoundContents : Tables → Type 0
+AreOfSoundContents t = (c : Contents) × AreSound c × HaveSameRows t (image c)
+
+abbrev pub Tells : Found → Database → Type 0
+Tells NotOurs db = (v : Version) → ¬ IsOfVersion v db
+Tells Unsound db = ((v : Version) × IsOfVersion v db) × ((v : Version) → ¬ HoldsSoundRows v db)
+Tells (Sound v t) db = HoldsRows v t db × AreOfSoundContents t
+
+-- rows of this version are those of sound contents, or not; where they are, they are told in another order
+abbrev pub Judges : Version → Tables → Found → Type 0
+Judges v t NotOurs = ⊥
+Judges v t Unsound = ¬ AreOfSoundContents t
+Judges v t (Sound w u) = (w ≡ v) × HaveSameRows u t × AreOfSoundContents u

@@ -1,0 +1,6 @@
+//! Whether a database holds the rows of sound contents, in our tables of any version.
+#![tactic(auto)]
+
+mod auditing;
+
+pub use auditing::{Found, audit};
