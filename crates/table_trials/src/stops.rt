@@ -1,7 +1,8 @@
 //! A run over files that fail from some call on: a stop at each call of either file.
 //!
 //! The arrival that meets the stop is told that the device failed, and so is each behind it. What is left of the files is opened again,
-//! also where power was lost: its rows are those from before that arrival, or those from after it.
+//! also where power was lost: its rows are those from before that arrival, or those from after it. Where no power was lost the whole run
+//! comes again, to what was adopted.
 use crate::disks::{Ended, Left, Stop, close, nothing, open};
 use crate::exchanges::{Exchange, arrival, check_told, told};
 use crate::stories::{MADE_AGAIN, NUMBER_RELEASED, RELEASE, SET_UP};
@@ -109,14 +110,25 @@ fn put_rows<S: Alter>(
     Ok(())
 }
 
-// A store over a database: one without facts, where that is empty. Any other is to be taken as it is.
-fn store_over<S: Alter>(alloc: Global, conn: Connection<S>) -> Result<SqlStore<S>, Connection<S>> {
+// A store without facts, over an empty database.
+fn created<S: Alter>(alloc: Global, conn: Connection<S>) -> Result<SqlStore<S>, Connection<S>> {
     if !conn.is_autocommit() {
         return Err(conn);
     }
     match SqlStore::create(alloc, conn) {
         Ok(store) => Ok(store),
         Err((conn, _)) => Err(conn),
+    }
+}
+
+// A store over a database of our tables.
+fn adopted<S: Alter + Drop>(alloc: Global, conn: Connection<S>) -> Result<SqlStore<S>, Fail> {
+    if !conn.is_autocommit() {
+        return Err(Fail::new("a transaction is open"));
+    }
+    match SqlStore::adopt(alloc, conn) {
+        Ok(store) => Ok(store),
+        Err((_, fault)) => Err(Fail::from(fault)),
     }
 }
 
@@ -128,7 +140,7 @@ fn steps_over<S: Alter + Drop>(
     conn: Connection<S>,
 ) -> Result<(usize, String, Connection<S>), Fail> {
     let mut rows = String::new(alloc);
-    let mut store = match store_over(alloc, conn) {
+    let mut store = match created(alloc, conn) {
         Ok(store) => store,
         Err(conn) => return Ok((0, rows, conn)),
     };
@@ -176,8 +188,23 @@ fn steps_of<S: Alter>(
     Ok(told.saturating_add(behind.unwrap_or(0)))
 }
 
-// A database has the rows of the steps that were told, or of one more. Then, if that is asked for, the whole run is sent to it, and at the
-// end its rows are those of a run without a stop.
+// Sends a run again to a store that made so many steps of it. At the end its rows are those of a run without a stop.
+fn check_again<S: Alter + Drop>(
+    rt: &impl Abort,
+    alloc: Global,
+    run: &Run,
+    steps: usize,
+    mut store: SqlStore<S>,
+) -> Result<(), Fail> {
+    check_told_again(rt, alloc, &mut store, run, steps)?;
+    let mut conn = store.close();
+    let last = run.rows.len().saturating_sub(1);
+    assert_eq!(rt; steps_of(rt, alloc, run, last, &mut conn)?, last);
+    Ok(())
+}
+
+// A database has the rows of the steps that were told, or of one more. Then, if that is asked for, an empty one gets our tables, any other
+// is adopted, and the run is sent again.
 fn check_over<S: Alter + Drop>(
     rt: &impl Abort,
     alloc: Global,
@@ -190,15 +217,13 @@ fn check_over<S: Alter + Drop>(
     if !sends_again {
         return Ok(());
     }
-    let Ok(mut store) = store_over(alloc, conn) else {
-        assert!(rt; steps > 0);
-        return Ok(());
-    };
-    check_told_again(rt, alloc, &mut store, run, steps)?;
-    let mut conn = store.close();
-    let last = run.rows.len().saturating_sub(1);
-    assert_eq!(rt; steps_of(rt, alloc, run, last, &mut conn)?, last);
-    Ok(())
+    if steps > 0 {
+        return check_again(rt, alloc, run, steps, adopted(alloc, conn)?);
+    }
+    match created(alloc, conn) {
+        Ok(store) => check_again(rt, alloc, run, steps, store),
+        Err(_) => Err(Fail::new("no tables are made")),
+    }
 }
 
 // What is left of files is opened again.
