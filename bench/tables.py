@@ -259,7 +259,7 @@ class Theirs:
         self.read("last_batch")
         last = self.read("last_batch")
         self.read("product", "P1")
-        new = last[0][0] + 1
+        new = last[0][0] + 1 if last else 1
 
         def writes() -> None:
             self.write("add_batch", new, batch, "P1", b"", records)
@@ -496,10 +496,11 @@ def measure_file(folder: pathlib.Path, file: File) -> None:
     raw += b"\n" * (MOST_FILE - len(raw)) if file.name == "16 MB" else b""
     ours = Ours(folder / "ours.db")
     ours.serve(set_up())
-    took = ours.serve([imported(3, "M", raw)])
     ours.copy(folder / "theirs.db")
     theirs = Theirs(folder / "theirs.db")
     heading(f"milliseconds beside a file of {len(raw)} bytes")
+    rows = grouping_rows(raw)
+    print_millis("its import", in_turn(ours, theirs, [imported(3, "M", raw)], lambda n: theirs.take(3, "M", raw, 1_024, rows), 1))
     opens = [post(f"n{n}", 1, open_body("M", n)) for n in range(file.cards)]
     answers = [post(f"n{n}", 2, answer_body(n + 1, 0)) for n in range(file.cards)]
     print_millis("open, which moves counters", in_turn(ours, theirs, opens, lambda n: theirs.open(f"n{n}", "M", n), file.chunk))
@@ -509,7 +510,6 @@ def measure_file(folder: pathlib.Path, file: File) -> None:
     ours.copy(folder / "after.db")
     test_equal(folder / "after.db", folder / "theirs.db")
     ours.end()
-    print(f"(the import took {took:.2f} s)")
 
 
 def command_of(raw: bytes, card: int) -> str:

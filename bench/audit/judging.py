@@ -28,12 +28,14 @@ class Case(NamedTuple):
 
 def held(path: pathlib.Path) -> Any:
     """What a file holds: the rows of our tables whatever their version and order, or else the text that makes the file again, or its bytes."""
+    if not path.exists():
+        return None
     conn = sqlite3.connect(path)
     conn.text_factory = bytes
     try:
-        version = conn.execute("SELECT count(*) FROM sqlite_schema").fetchone() and version_of_text(path)
-        if version is None:
-            return list(sqlite3.connect(path).iterdump())
+        if version_in(path) is None:
+            conn.text_factory = str
+            return list(conn.iterdump())
         names = [name.decode() for name, in conn.execute("SELECT name FROM sqlite_schema WHERE type = 'table'")]
         rows = {name.replace("grouping2", "grouping"): sorted(conn.execute(f"SELECT * FROM {name}")) for name in names if name != "version"}
         return {"mark": [], **rows}
@@ -43,7 +45,7 @@ def held(path: pathlib.Path) -> Any:
         conn.close()
 
 
-def version_of_text(path: pathlib.Path) -> int | None:
+def version_in(path: pathlib.Path) -> int | None:
     conn = sqlite3.connect(path)
     try:
         return version_of(conn)
@@ -76,7 +78,7 @@ def by_program(program: str, path: pathlib.Path) -> str:
             return f"{told}, but the file holds something else"
         if told == TAKEN and (again := verdict(copy)).told != TAKEN:
             return f"{told}, and left as {again.told} {again.why}"
-        if told == TAKEN and version_of_text(copy) != 3:
+        if told == TAKEN and version_in(copy) != 3:
             return f"{told}, and left in an earlier version"
     return told
 

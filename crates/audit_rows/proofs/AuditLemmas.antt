@@ -1,7 +1,7 @@
 -- The audit by its parts.
-use Rattle.std.proofs.Common.{◌≡◌, ℕ, ◌+◌, ◌-◌, ◌<◌, true, false, List, [], ◌∷◌, length, get_or, map, All, Some, refl, sym, ap, ◌∙◌, subst, arith}
+use Rattle.std.proofs.Common.{◌≡◌, ℕ, ◌-◌, ◌<◌, true, false, List, [], ◌∷◌, length, get_or, map, All, Some, refl, sym, ap, ◌∙◌, subst, arith}
 use Rattle.std.specs.Prelude.{◌==◌, filter, find, flat_map}
-use Rattle.std.specs.List.{enumerate_from, position_or_len, range_with_len, slice_get}
+use Rattle.std.specs.List.{enumerate_from, position_or_len, range_with_len}
 use Rattle.std.proofs.lemmas.Bool.Decides.{nat_tests}
 use Rattle.std.proofs.lemmas.List.{length-map}
 use Rattle.std.proofs.lemmas.List.Elements.{All-append, All-filter, All-head, All-map, All-nil, All-tail}
@@ -23,7 +23,7 @@ use Rattle.ordered_rows.proofs.IdLemmas.{id_at}
 use Rattle.ordered_rows.proofs.OrderLemmas.{first_rising}
 use Rattle.ordered_rows.proofs.Pieces.{All-passed, by_owner, filter-map, map-flat_map, own_piece}
 use Rattle.audit_rows.proofs.NamedLemmas.{lots_in_range, named_once, once_named}
-use Rattle.ordered_rows.proofs.SameLists.{All-unmapped, get_or-map}
+use Rattle.ordered_rows.proofs.SameLists.{All-unmapped}
 
 some_batch : StoredBatch
 some_batch = record { id = 0; name = []; product = []; raw = []; closed = false; waiting = 0; running = 0; failed = 0; withdrawn = 0; good = 0; sessions = 0; spoiled = 0 }
