@@ -1,4 +1,5 @@
-//! The two files of a database, in memory: they stop at some call, and are opened again on what they hold.
+//! The two files of a database, in memory: they stop at some call, and are opened again on what
+//! they hold.
 ghost use Rattle.std.specs.Prelude.{IfOk, IsTrue};
 ghost use Rattle.sqlite_disk.specs.Memory.{memory_is_usable};
 
@@ -21,8 +22,8 @@ pub(crate) struct Stop {
     pub(crate) db: u64,
 }
 
-/// Whether files were closed with no call that failed, and what they hold: as they stand, without what the log had not made durable, and
-/// without what both had not.
+/// Whether files were closed with no call that failed, and what they hold: as they stand, without
+/// what the log had not made durable, and without what both had not.
 #[derive(Drop)]
 pub(crate) struct Ended {
     pub(crate) is_closed: bool,

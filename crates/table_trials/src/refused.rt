@@ -1,5 +1,6 @@
-//! Stories over tables in memory. Each test is right with ample memory, and says the same whichever one allocation is refused: a call
-//! tells its want of memory, leaves all as it was, and answers right when it comes again.
+//! Stories over tables in memory. Each test is right with ample memory, and says the same
+//! whichever one allocation is refused: a call tells its want of memory, leaves all as it was, and
+//! answers right when it comes again.
 ghost use Rattle.job_core.specs.Requests.{IsArrival};
 
 use crate::exchanges::{Exchange, arrival, at_last, check_told, told};
@@ -15,7 +16,8 @@ use std::process::Abort;
 use std::test::Fail;
 use store_data::Name;
 
-// How batch B1 stands, in records, waiting, running, failed, withdrawn, good, sessions and spoiled.
+// How batch B1 stands, in records, waiting, running, failed, withdrawn, good, sessions and
+// spoiled.
 fn batch_of<S: JobStore>(store: &mut S) -> Result<[u64; 8], Fail> {
     let batch = Name::new(b"B1").ok_or("no name")?;
     let t = at_last!(store.batch_totals(&batch))?;
@@ -50,7 +52,8 @@ fn counts_of<S: JobStore>(store: &mut S, arrival: &Arrival) -> Result<[u64; 5], 
     ])
 }
 
-// What an arrival is told. Where memory was refused, all stands as before, and it is told what it should at once.
+// What an arrival is told. Where memory was refused, all stands as before, and it is told what it
+// should at once.
 fn told_at_last<S: JobStore>(
     rt: &impl Abort,
     alloc: Global,
@@ -73,7 +76,7 @@ fn told_at_last<S: JobStore>(
     }
 }
 
-// Each exchange is told at last what it says, and so when it comes again.
+// Each exchange is told at last what it says, and so when it comes again, which changes nothing.
 fn tell<S: JobStore>(
     rt: &impl Abort,
     alloc: Global,
@@ -82,10 +85,10 @@ fn tell<S: JobStore>(
 ) -> Result<(), Fail> {
     for exchange in exchanges {
         let arrival = arrival(alloc, exchange)?;
-        for _ in 0..2 {
-            let kept = told_at_last(rt, alloc, store, &arrival)?;
-            check_told(rt, exchange, &kept);
-        }
+        check_told(rt, exchange, &told_at_last(rt, alloc, store, &arrival)?);
+        let counts = at_last!(counts_of(store, &arrival))?;
+        check_told(rt, exchange, &told_at_last(rt, alloc, store, &arrival)?);
+        assert_eq!(rt; at_last!(counts_of(store, &arrival))?, counts);
     }
     Ok(())
 }

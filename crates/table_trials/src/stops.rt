@@ -1,8 +1,9 @@
 //! A run over files that fail from some call on: a stop at each call of either file.
 //!
-//! The arrival that meets the stop is told that the device failed, and so is each behind it. What is left of the files is opened again,
-//! also where power was lost: its rows are those from before that arrival, or those from after it. Where no power was lost the whole run
-//! comes again, to what was adopted.
+//! The arrival that meets the stop is told that the device failed, and so is each behind it. What
+//! is left of the files is opened again, also where power was lost: its rows are those from before
+//! that arrival, or those from after it. Where no power was lost the whole run comes again, to
+//! what was adopted.
 use crate::disks::{Ended, Left, Stop, close, nothing, open};
 use crate::exchanges::{Exchange, arrival, check_told, told};
 use crate::stories::{MADE_AGAIN, NUMBER_RELEASED, RELEASE, SET_UP};
@@ -21,15 +22,16 @@ const NO_STOP: Stop = Stop {
     db: MANY_CALLS,
 };
 
-// The exchanges of a run, and the rows behind each of its steps. Before the first step there are no tables, the first makes them, and
-// each other is an exchange.
+// The exchanges of a run, and the rows behind each of its steps. Before the first step there are
+// no tables, the first makes them, and each other is an exchange.
 #[derive(Drop)]
 struct Run {
     exchanges: Vec<Exchange>,
     rows: Vec<String>,
 }
 
-// How many steps were made before the stop, the rows behind them where these are all, and what is left of the files.
+// How many steps were made before the stop, the rows behind them where these are all, and what is
+// left of the files.
 #[derive(Drop)]
 struct Stopped {
     steps: usize,
@@ -46,7 +48,8 @@ fn exchanges(alloc: Global) -> Result<Vec<Exchange>, AllocError> {
     Ok(all)
 }
 
-// Sends exchanges to a store. Answers how many are told as they must be; each behind these is told that the device failed.
+// Sends exchanges to a store. Answers how many are told as they must be; each behind these is told
+// that the device failed.
 fn told_before_stop<S: JobStore>(
     rt: &impl Abort,
     alloc: Global,
@@ -67,7 +70,8 @@ fn told_before_stop<S: JobStore>(
     Ok(count)
 }
 
-// Sends a run again to a store that made so many steps of it. Each exchange is told as in a run without a stop, but for released numbers.
+// Sends a run again to a store that made so many steps of it. Each exchange is told as in a run
+// without a stop, but for released numbers.
 fn check_told_again<S: JobStore>(
     rt: &impl Abort,
     alloc: Global,
@@ -132,7 +136,8 @@ fn adopted<S: Alter + Drop>(alloc: Global, conn: Connection<S>) -> Result<SqlSto
     }
 }
 
-// Makes the steps of a run over an empty database. Answers how many are told as they must be, and the rows behind them if these are all.
+// Makes the steps of a run over an empty database. Answers how many are told as they must be, and
+// the rows behind them if these are all.
 fn steps_over<S: Alter + Drop>(
     rt: &impl Abort,
     alloc: Global,
@@ -188,7 +193,8 @@ fn steps_of<S: Alter>(
     Ok(told.saturating_add(behind.unwrap_or(0)))
 }
 
-// Sends a run again to a store that made so many steps of it. At the end its rows are those of a run without a stop.
+// Sends a run again to a store that made so many steps of it. At the end its rows are those of a
+// run without a stop.
 fn check_again<S: Alter + Drop>(
     rt: &impl Abort,
     alloc: Global,
@@ -203,8 +209,8 @@ fn check_again<S: Alter + Drop>(
     Ok(())
 }
 
-// A database has the rows of the steps that were told, or of one more. Then, if that is asked for, an empty one gets our tables, any other
-// is adopted, and the run is sent again.
+// A database has the rows of the steps that were told, or of one more. Then, if that is asked for,
+// an empty one gets our tables, any other is adopted, and the run is sent again.
 fn check_over<S: Alter + Drop>(
     rt: &impl Abort,
     alloc: Global,
@@ -255,8 +261,8 @@ fn whole_run(rt: &impl Abort, alloc: Global) -> Result<Run, Fail> {
     Ok(Run { exchanges, rows })
 }
 
-// Makes the steps of a run over files with this stop, and looks at what is left. The whole run is sent again to what stands there, where
-// no power was lost. Answers whether the run met the stop.
+// Makes the steps of a run over files with this stop, and looks at what is left. The whole run is
+// sent again to what stands there, where no power was lost. Answers whether the run met the stop.
 fn has_met(rt: &impl Abort, alloc: Global, run: &Run, stop: Stop) -> Result<bool, Fail> {
     let exchanges = run.exchanges.as_slice();
     let made = steps_before_stop(rt, alloc, exchanges, stop)?;

@@ -186,7 +186,8 @@ pub(crate) const WITHDRAWAL: Story = Story {
     blanks: [1, 3, 0, 0, 2, 1],
 };
 
-/// A repeat, words out of turn, a number and a session that are others', and a machine that is busy.
+/// A repeat, words out of turn, a number and a session that are others', and a machine that is
+/// busy.
 pub(crate) const TURNED_DOWN: Story = Story {
     stock: &SET_UP,
     exchanges: &[
