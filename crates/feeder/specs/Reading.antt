@@ -1,8 +1,8 @@
 -- How replies are told apart by their texts.
-use Rattle.std.specs.Prelude.{◌≡◌, Option, Some}
+use Rattle.std.specs.Prelude.{◌≡◌, ◌≢◌, ℕ, List, Option, Some, None}
 use Rattle.job_core.specs.declared.reply.Reply.{Reply}
 use Rattle.arrivals.specs.Told.{Told, told_of}
-use Rattle.wire.specs.ReplyText.{IsReply}
+use Rattle.wire.specs.ReplyText.{IsReply, reply_bytes}
 
 -- it finds each reply by its status and its body
 abbrev pub ReadsBack : (Told → Option Reply) → Type 0
@@ -11,3 +11,8 @@ ReadsBack reads = (r : Reply) → IsReply r → reads (told_of r) ≡ Some r
 -- some reading does
 abbrev pub IsReadable : Type 0
 IsReadable = (reads : Told → Option Reply) × ReadsBack reads
+
+-- the reply whose whole text these bytes are, if they are one
+abbrev pub IsRead : List ℕ → Option Reply → Type 0
+IsRead bytes None = (r : Reply) → IsReply r → bytes ≢ reply_bytes r
+IsRead bytes (Some r) = IsReply r × (bytes ≡ reply_bytes r)
