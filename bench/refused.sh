@@ -1,14 +1,13 @@
 #!/usr/bin/env bash
-# Builds the tests of `trials`, and refuses each of their allocations in turn, one in each run of a test. It fails where a run fails, is
-# killed, or takes over 60 seconds, and names those. A word given here picks the tests whose names have it: bench/refused.sh memory::
-# Of the tests of `faults`, which take far more than the others, it refuses some 2000 each, evenly spread.
+# Builds the tests of `trials` and of `table_trials`, and refuses each of their allocations in turn, one in each run of a test. It fails
+# where a run fails, is killed, or takes over 60 seconds, and names those. A word given here picks the tests whose names have it:
+# bench/refused.sh memory:: picks those over lists, and bench/refused.sh refused:: those over tables. Of the tests of `faults`, which take
+# far more than the others, it refuses some 2000 each, evenly spread. It leaves out those of `stops`, whose files in memory fail without it.
 set -euo pipefail
 cd "$(dirname "$0")/.."
-(cd crates/trials && rt test)
 folder=$(mktemp -d)
 trap 'rm -rf "$folder"' EXIT
 export ALLOCATOR=$folder/refused.so
-export PROGRAM=$PWD/crates/trials/out/trials_tests
 cc -O2 -shared -fPIC -o "$ALLOCATOR" bench/refused.c
 ulimit -c 0
 
@@ -28,15 +27,19 @@ runs() {
 export -f run runs
 
 tests=0 total=0
-for test in $("$PROGRAM" --list | sed -n 's/: test$//p' | grep -F -- "${1:-}"); do
-    COUNT=$folder/count run "$test" 0 >/dev/null
-    count=$(cat "$folder/count")
-    step=1
-    case $test in faults::*) step=$((count / 2000 + 1)) ;; esac
-    seq 1 "$step" "$count" | xargs -r -P "$(nproc)" -n 50 bash -c 'runs "$@"' runs "$test" >>"$folder/failed"
-    count=$(seq 1 "$step" "$count" | wc -l)
-    echo "$test: $count"
-    tests=$((tests + 1)) total=$((total + count))
+for crate in trials table_trials; do
+    (cd "crates/$crate" && rt test)
+    export PROGRAM=$PWD/crates/$crate/out/${crate}_tests
+    for test in $("$PROGRAM" --list | sed -n 's/: test$//p' | grep -v '^stops::' | grep -F -- "${1:-}"); do
+        COUNT=$folder/count run "$test" 0 >/dev/null
+        count=$(cat "$folder/count")
+        step=1
+        case $test in faults::*) step=$((count / 2000 + 1)) ;; esac
+        seq 1 "$step" "$count" | xargs -r -P "$(nproc)" -n 50 bash -c 'runs "$@"' runs "$test" >>"$folder/failed"
+        count=$(seq 1 "$step" "$count" | wc -l)
+        echo "$test: $count"
+        tests=$((tests + 1)) total=$((total + count))
+    done
 done
 cat "$folder/failed"
 failed=$(wc -l <"$folder/failed")

@@ -3,7 +3,7 @@
 `Contents` has facts alone; `rows` gives what follows from them. `WORKED` is what the worked exchange of a spoiled and a remade card leaves, and
 its rows stand here a second time, by hand. `RICH` has a session, a record, a blank and a batch in every state.
 """
-from collections import Counter
+from collections import Counter, defaultdict
 from typing import Any, NamedTuple
 
 from batch_files import Commands, Product, by_record, rows_of
@@ -69,7 +69,16 @@ def record_state(states: list[int], is_withdrawn: bool, remakes: int) -> int:
     return IS_FAILED if remakes < states.count(SPOILED) else IS_WAITING
 
 
-def batch_rows(its: Contents, name: str, number: int, made: Rows, commands: dict[tuple[str, str], Commands]) -> None:
+def by_card(sessions: list[Session]) -> dict[tuple[str, str], list[Session]]:
+    """The sessions of each record, by its batch and name."""
+    made: dict[tuple[str, str], list[Session]] = defaultdict(list)
+    for session in sessions:
+        made[session.batch, session.record].append(session)
+    return made
+
+
+def batch_rows(its: Contents, name: str, number: int, made: Rows, commands: dict[tuple[str, str], Commands],
+               sessions: dict[tuple[str, str], list[Session]]) -> None:
     """The rows of `record` and `grouping2` of a batch, and the commands of its records."""
     product, raw = its.batches[name]
     rows = rows_of(raw, its.products[product])
@@ -78,7 +87,7 @@ def batch_rows(its: Contents, name: str, number: int, made: Rows, commands: dict
     made["grouping2"] += [(number, line, places[row.record], *row[1:]) for line, row in enumerate(rows, 2)]
     for record, its_rows in by_record(rows).items():
         commands[name, record] = Commands(its_rows, its.products[product])
-        states = [state_of(it, commands[name, record])[0] for it in its.sessions if (it.batch, it.record) == (name, record)]
+        states = [state_of(it, commands[name, record])[0] for it in sessions.get((name, record), [])]
         remakes = its.remakes[name, record]
         state = record_state(states, (name, record) in its.withdrawn, remakes)
         made["record"].append((number, places[record], record, state, states.count(SPOILED), remakes))
@@ -93,8 +102,9 @@ def rows(its: Contents) -> Rows:
     made["lot"] = [(*lot, sum(lot.first <= serial < lot.first + lot.count for serial in its.discarded)) for lot in its.lots]
     commands: dict[tuple[str, str], Commands] = {}
     numbers = {name: number for number, name in enumerate(its.batches, 1)}
+    sessions_of = by_card(its.sessions)
     for name, number in numbers.items():
-        batch_rows(its, name, number, made, commands)
+        batch_rows(its, name, number, made, commands, sessions_of)
     places = {(batch, name): place for batch, place, name, *_ in made["record"]}
     for number, session in enumerate(its.sessions, 1):
         state, cursor = state_of(session, commands[session.batch, session.record])

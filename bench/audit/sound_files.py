@@ -98,6 +98,7 @@ def dumped(path: pathlib.Path, to: pathlib.Path) -> None:
         conn = sqlite3.connect(path)
         text = "\n".join(conn.iterdump())
         conn.close()
+    to.unlink(missing_ok=True)
     conn = sqlite3.connect(to)
     conn.executescript(text)
     conn.close()

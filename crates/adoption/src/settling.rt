@@ -15,8 +15,8 @@ use std::alloc::Global;
 use stored_rows::Tables;
 use table_remakes::remake;
 
-/// Tables that stand as our own are made stay as they are. Others are made anew, in one transaction,
-/// and their rows put in. A crash leaves what it could leave before, or all of it.
+/// Tables that stand as our own are made stay as they are. Others are made anew, and their rows put
+/// in, in one transaction. A crash leaves what it could leave before, or all of it.
 pub(crate) fn settle<S: Alter>(
     alloc: Global,
     conn: &mut Connection<S>,

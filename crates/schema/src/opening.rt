@@ -101,8 +101,8 @@ impl<S: Alter> SqlStore<S> {
     }
 
     /// A store over a database whose tables, of any version and in any order, hold the rows of
-    /// sound contents: it has these, in our own tables. Any other is refused and stays as it is, and
-    /// its connection is handed back. A crash leaves what it could leave before, or the same
+    /// sound contents: it has these, in our own tables. Any other is refused and stays as it is,
+    /// and its connection is handed back. A crash leaves what it could leave before, or the same
     /// contents.
     pub fn adopt(
         alloc: Global,

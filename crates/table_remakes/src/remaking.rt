@@ -28,9 +28,9 @@ fn write_anew<S: Alter>(
     fill(tx, tables)
 }
 
-/// Drops the tables of a version, makes our own and puts rows in, or does nothing. A row that a table
-/// does not take is an error, and so is a number that is none of SQL's, from 2^63 on. A crash leaves
-/// what it could leave before, or all of it.
+/// Drops the tables of a version, makes our own and puts rows in, or does nothing. A row that a
+/// table does not take is an error, and so is a number that is none of SQL's, from 2^63 on. A crash
+/// leaves what it could leave before, or all of it.
 pub fn remake<S: Alter>(
     conn: &mut Connection<S>,
     version: Version,

@@ -1,0 +1,10 @@
+//! The store in a file: opened, used once, and closed.
+#![tactic(auto)]
+
+mod fault;
+mod file;
+mod opening;
+
+pub use fault::FileFault;
+pub use file::{StoreTask, Wanted, with_store};
+pub use opening::store_over;

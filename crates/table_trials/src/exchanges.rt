@@ -1,0 +1,85 @@
+//! What is asked of a store, and what is told. What is refused memory is asked again.
+ghost use Rattle.std.specs.Prelude.{IfOk};
+ghost use Rattle.job_core.specs.Requests.{IsArrival};
+ghost use Rattle.asks.specs.Asks.{IsInRange};
+
+use arrivals::Kept;
+use asks::{AskFault, Asked, to_ask};
+use case_files::post;
+use heads::{FixedReply, Pieces, Reading, read_message};
+use job_core::{Arrival, JobStore, StoreFault};
+use reply_store::handle;
+use std::alloc::Global;
+use std::process::Abort;
+use std::test::Fail;
+
+/// The target of a message, its body, and the status and the body that are told.
+#[derive(Clone, Copy)]
+pub(crate) struct Exchange(
+    pub(crate) &'static str,
+    pub(crate) &'static str,
+    pub(crate) u16,
+    pub(crate) &'static str,
+);
+
+/// What a call answers, at once or when it comes again.
+macro_rules! at_last {
+    ($call:expr) => {
+        match $call {
+            Err(_) => $call,
+            answer => answer,
+        }
+    };
+}
+
+pub(crate) use at_last;
+
+// What these bytes ask.
+fn asked(alloc: Global, bytes: &[u8]) -> Result<Asked, AskFault>
+    ensures { IfOk result IsInRange }
+{
+    match read_message(alloc, &mut Pieces::new(bytes, 512)) {
+        Reading::Message(message) => to_ask(alloc, message),
+        Reading::Broken => Err(AskFault::Refused(FixedReply::Malformed)),
+        Reading::Refused(why) => Err(AskFault::Refused(why)),
+        Reading::Memory => Err(AskFault::Memory),
+    }
+}
+
+/// The arrival of what is asked.
+pub(crate) fn arrival(alloc: Global, exchange: &Exchange) -> Result<Arrival, Fail>
+    ensures { IfOk result IsArrival }
+{
+    let Exchange(target, body, ..) = *exchange;
+    let bytes = at_last!(post(alloc, target, body.as_bytes()))?;
+    match at_last!(asked(alloc, bytes.as_slice()))? {
+        Asked::Arrival(arrival) => Ok(arrival),
+        Asked::Account(_) => Err(Fail::new("an account")),
+    }
+}
+
+/// What an arrival is told.
+pub(crate) fn told<S: JobStore>(
+    alloc: Global,
+    store: &mut S,
+    arrival: &Arrival,
+) -> Result<Kept, StoreFault>
+    requires { IsArrival arrival.now }
+{
+    let ask = arrival.ask.as_slice();
+    handle(
+        alloc,
+        store,
+        &arrival.client,
+        arrival.number,
+        ask,
+        &arrival.request,
+    )
+}
+
+/// The status and the body are those that an exchange says.
+pub(crate) fn check_told(rt: &impl Abort, exchange: &Exchange, kept: &Kept) {
+    let Exchange(target, asked, status, body) = *exchange;
+    assert_eq!(rt; kept.status, status, "{target} {asked}");
+    assert_eq!(rt; kept.body.as_slice(), body.as_bytes(), "{target} {asked}");
+}

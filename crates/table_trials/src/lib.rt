@@ -1,0 +1,13 @@
+//! Tests of the store over tables: files that stop at each of their calls, and refused memory.
+#![tactic(auto)]
+
+#[cfg(test)]
+mod disks;
+#[cfg(test)]
+mod exchanges;
+#[cfg(test)]
+mod refused;
+#[cfg(test)]
+mod stops;
+#[cfg(test)]
+mod stories;

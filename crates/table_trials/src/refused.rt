@@ -1,0 +1,167 @@
+//! Stories over tables in memory. Each test is right with ample memory, and says the same
+//! whichever one allocation is refused: a call tells its want of memory, leaves all as it was, and
+//! answers right when it comes again.
+ghost use Rattle.job_core.specs.Requests.{IsArrival};
+
+use crate::exchanges::{Exchange, arrival, at_last, check_told, told};
+use crate::stories::{
+    CLOSING, KNOWN, LATE_RESET, MADE_AGAIN, RELEASES, Story, TAKEN, TURNED_DOWN, WITHDRAWAL, WORDS,
+};
+use arrivals::Kept;
+use job_core::{Arrival, JobStore, StoreFault};
+use schema::SqlStore;
+use sqlite::{Connection, MemStore};
+use std::alloc::Global;
+use std::process::Abort;
+use std::test::Fail;
+use store_data::Name;
+
+// How batch B1 stands, in records, waiting, running, failed, withdrawn, good, sessions and
+// spoiled.
+fn batch_of<S: JobStore>(store: &mut S) -> Result<[u64; 8], Fail> {
+    let batch = Name::new(b"B1").ok_or("no name")?;
+    let t = at_last!(store.batch_totals(&batch))?;
+    Ok([
+        t.records,
+        t.waiting,
+        t.running,
+        t.failed,
+        t.withdrawn,
+        t.good,
+        t.sessions,
+        t.spoiled,
+    ])
+}
+
+// How the blanks of product P1 stand, in lots, total, good, running, spoiled and discarded.
+fn blanks_of<S: JobStore>(store: &mut S) -> Result<[u64; 6], Fail> {
+    let product = Name::new(b"P1").ok_or("no name")?;
+    let t = at_last!(store.blank_totals(&product))?;
+    Ok([t.lots, t.total, t.good, t.running, t.spoiled, t.discarded])
+}
+
+// How many products, lots, batches, sessions and replies under the number of an arrival there are.
+fn counts_of<S: JobStore>(store: &mut S, arrival: &Arrival) -> Result<[u64; 5], StoreFault> {
+    let kept = store.kept(&arrival.client, arrival.number)?;
+    Ok([
+        store.product_count()?,
+        store.lot_count()?,
+        store.batch_count()?,
+        store.session_count()?,
+        u64::from(kept.is_some()),
+    ])
+}
+
+// What an arrival is told. Where memory was refused, all stands as before, and it is told what it
+// should at once.
+fn told_at_last<S: JobStore>(
+    rt: &impl Abort,
+    alloc: Global,
+    store: &mut S,
+    arrival: &Arrival,
+) -> Result<Kept, Fail>
+    requires { IsArrival arrival.now }
+{
+    let counts = at_last!(counts_of(store, arrival))?;
+    let (batch, blanks) = (batch_of(store)?, blanks_of(store)?);
+    match told(alloc, store, arrival) {
+        Ok(kept) => Ok(kept),
+        Err(fault) => {
+            assert_eq!(rt; fault, StoreFault::Memory);
+            assert_eq!(rt; counts_of(store, arrival)?, counts);
+            assert_eq!(rt; batch_of(store)?, batch);
+            assert_eq!(rt; blanks_of(store)?, blanks);
+            Ok(told(alloc, store, arrival)?)
+        }
+    }
+}
+
+// Each exchange is told at last what it says, and so when it comes again, which changes nothing.
+fn tell<S: JobStore>(
+    rt: &impl Abort,
+    alloc: Global,
+    store: &mut S,
+    exchanges: &[Exchange],
+) -> Result<(), Fail> {
+    for exchange in exchanges {
+        let arrival = arrival(alloc, exchange)?;
+        check_told(rt, exchange, &told_at_last(rt, alloc, store, &arrival)?);
+        let counts = at_last!(counts_of(store, &arrival))?;
+        check_told(rt, exchange, &told_at_last(rt, alloc, store, &arrival)?);
+        assert_eq!(rt; at_last!(counts_of(store, &arrival))?, counts);
+    }
+    Ok(())
+}
+
+// A story is told to a store without facts, and B1 and the blanks of P1 stand then as it says.
+fn check_over<S: JobStore>(
+    rt: &impl Abort,
+    alloc: Global,
+    store: &mut S,
+    story: &Story,
+) -> Result<(), Fail> {
+    tell(rt, alloc, store, story.stock)?;
+    tell(rt, alloc, store, story.exchanges)?;
+    assert_eq!(rt; batch_of(store)?, story.batch);
+    assert_eq!(rt; blanks_of(store)?, story.blanks);
+    Ok(())
+}
+
+// A store over tables in memory, without facts.
+fn tables(alloc: Global) -> Result<SqlStore<MemStore>, Fail> {
+    let conn = at_last!(Connection::open_in_memory(alloc))?;
+    match SqlStore::create(alloc, conn) {
+        Ok(store) => Ok(store),
+        Err((conn, _)) => Ok(SqlStore::create(alloc, conn).ok().ok_or("no tables")?),
+    }
+}
+
+fn check(rt: &impl Abort, alloc: Global, story: &Story) -> Result<(), Fail> {
+    let mut store = tables(alloc)?;
+    check_over(rt, alloc, &mut store, story)
+}
+
+#[test]
+fn turned_down(rt: HostRuntime) -> Result<(), Fail> {
+    check(&rt, rt.alloc(), &TURNED_DOWN)
+}
+
+#[test]
+fn words(rt: HostRuntime) -> Result<(), Fail> {
+    check(&rt, rt.alloc(), &WORDS)
+}
+
+#[test]
+fn a_card_that_is_made_again(rt: HostRuntime) -> Result<(), Fail> {
+    check(&rt, rt.alloc(), &MADE_AGAIN)
+}
+
+#[test]
+fn a_batch_that_is_closed(rt: HostRuntime) -> Result<(), Fail> {
+    check(&rt, rt.alloc(), &CLOSING)
+}
+
+#[test]
+fn what_is_known(rt: HostRuntime) -> Result<(), Fail> {
+    check(&rt, rt.alloc(), &KNOWN)
+}
+
+#[test]
+fn blanks_and_lots_that_are_taken(rt: HostRuntime) -> Result<(), Fail> {
+    check(&rt, rt.alloc(), &TAKEN)
+}
+
+#[test]
+fn a_late_reset(rt: HostRuntime) -> Result<(), Fail> {
+    check(&rt, rt.alloc(), &LATE_RESET)
+}
+
+#[test]
+fn a_withdrawal(rt: HostRuntime) -> Result<(), Fail> {
+    check(&rt, rt.alloc(), &WITHDRAWAL)
+}
+
+#[test]
+fn released_numbers(rt: HostRuntime) -> Result<(), Fail> {
+    check(&rt, rt.alloc(), &RELEASES)
+}

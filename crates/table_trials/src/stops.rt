@@ -1,0 +1,304 @@
+//! A run over files that fail from some call on: a stop at each call of either file.
+//!
+//! The arrival that meets the stop is told that the device failed, and so is each behind it. What
+//! is left of the files is opened again, also where power was lost: its rows are those from before
+//! that arrival, or those from after it. Where no power was lost the whole run comes again, to
+//! what was adopted.
+use crate::disks::{Ended, Left, Stop, close, nothing, open};
+use crate::exchanges::{Exchange, arrival, check_told, told};
+use crate::stories::{MADE_AGAIN, NUMBER_RELEASED, RELEASE, SET_UP};
+use job_core::{JobStore, StoreFault};
+use schema::SqlStore;
+use sqlite::{Alter, Connection, Error};
+use std::alloc::{AllocError, Global};
+use std::process::Abort;
+use std::test::Fail;
+
+// More calls than a run makes of a file.
+const MANY_CALLS: u64 = 10_000;
+
+const NO_STOP: Stop = Stop {
+    log: MANY_CALLS,
+    db: MANY_CALLS,
+};
+
+// The exchanges of a run, and the rows behind each of its steps. Before the first step there are
+// no tables, the first makes them, and each other is an exchange.
+#[derive(Drop)]
+struct Run {
+    exchanges: Vec<Exchange>,
+    rows: Vec<String>,
+}
+
+// How many steps were made before the stop, the rows behind them where these are all, and what is
+// left of the files.
+#[derive(Drop)]
+struct Stopped {
+    steps: usize,
+    rows: String,
+    ended: Ended,
+}
+
+// The set-up, a release of its numbers, and a card that is spoiled and made again.
+fn exchanges(alloc: Global) -> Result<Vec<Exchange>, AllocError> {
+    let mut all = Vec::new(alloc);
+    for exchanges in [SET_UP.as_slice(), &[RELEASE], MADE_AGAIN.exchanges] {
+        all.extend_from_slice(exchanges)?;
+    }
+    Ok(all)
+}
+
+// Sends exchanges to a store. Answers how many are told as they must be; each behind these is told
+// that the device failed.
+fn told_before_stop<S: JobStore>(
+    rt: &impl Abort,
+    alloc: Global,
+    store: &mut S,
+    exchanges: &[Exchange],
+) -> Result<usize, Fail> {
+    let mut count = 0usize;
+    for (place, exchange) in exchanges.iter().enumerate() {
+        match told(alloc, store, &arrival(alloc, exchange)?) {
+            Ok(kept) => {
+                assert_eq!(rt; count, place);
+                check_told(rt, exchange, &kept);
+                count = count.saturating_add(1);
+            }
+            Err(fault) => assert_eq!(rt; fault, StoreFault::Device, "at {place}"),
+        }
+    }
+    Ok(count)
+}
+
+// Sends a run again to a store that made so many steps of it. Each exchange is told as in a run
+// without a stop, but for released numbers.
+fn check_told_again<S: JobStore>(
+    rt: &impl Abort,
+    alloc: Global,
+    store: &mut S,
+    run: &Run,
+    steps: usize,
+) -> Result<(), Fail> {
+    let is_released = steps > SET_UP.len() + 1;
+    for (place, exchange) in run.exchanges.iter().enumerate() {
+        let mut wanted = *exchange;
+        if is_released && place < SET_UP.len() {
+            wanted = Exchange(wanted.0, wanted.1, 409, NUMBER_RELEASED);
+        }
+        let kept = told(alloc, store, &arrival(alloc, exchange)?)?;
+        check_told(rt, &wanted, &kept);
+    }
+    Ok(())
+}
+
+// The rows of all tables of a database.
+fn rows_of<S: Alter>(alloc: Global, conn: &mut Connection<S>) -> Result<String, Error> {
+    let mut text = String::new(alloc);
+    for table in conn.query_all("SELECT name FROM sqlite_master WHERE type = 'table'", &[])? {
+        let name: String = table.get(0)?;
+        put_rows(alloc, conn, name.as_str(), &mut text)?;
+    }
+    Ok(text)
+}
+
+fn put_rows<S: Alter>(
+    alloc: Global,
+    conn: &mut Connection<S>,
+    table: &str,
+    text: &mut String,
+) -> Result<(), Error> {
+    let query = format!(in alloc; "SELECT * FROM {table}")?;
+    for row in conn.query_all(query.as_str(), &[])? {
+        text.push_str(format!(in alloc; "{table} {row:?}\n")?.as_str())?;
+    }
+    Ok(())
+}
+
+// A store without facts, over an empty database.
+fn created<S: Alter>(alloc: Global, conn: Connection<S>) -> Result<SqlStore<S>, Connection<S>> {
+    if !conn.is_autocommit() {
+        return Err(conn);
+    }
+    match SqlStore::create(alloc, conn) {
+        Ok(store) => Ok(store),
+        Err((conn, _)) => Err(conn),
+    }
+}
+
+// A store over a database of our tables.
+fn adopted<S: Alter + Drop>(alloc: Global, conn: Connection<S>) -> Result<SqlStore<S>, Fail> {
+    if !conn.is_autocommit() {
+        return Err(Fail::new("a transaction is open"));
+    }
+    match SqlStore::adopt(alloc, conn) {
+        Ok(store) => Ok(store),
+        Err((_, fault)) => Err(Fail::from(fault)),
+    }
+}
+
+// Makes the steps of a run over an empty database. Answers how many are told as they must be, and
+// the rows behind them if these are all.
+fn steps_over<S: Alter + Drop>(
+    rt: &impl Abort,
+    alloc: Global,
+    exchanges: &[Exchange],
+    conn: Connection<S>,
+) -> Result<(usize, String, Connection<S>), Fail> {
+    let mut rows = String::new(alloc);
+    let mut store = match created(alloc, conn) {
+        Ok(store) => store,
+        Err(conn) => return Ok((0, rows, conn)),
+    };
+    let told = told_before_stop(rt, alloc, &mut store, exchanges)?;
+    let mut conn = store.close();
+    if told == exchanges.len() {
+        rows = rows_of(alloc, &mut conn)?;
+    }
+    Ok((told.saturating_add(1), rows, conn))
+}
+
+// Makes the steps of a run over new files with this stop.
+fn steps_before_stop(
+    rt: &impl Abort,
+    alloc: Global,
+    exchanges: &[Exchange],
+    stop: Stop,
+) -> Result<Stopped, Fail> {
+    match open(alloc, &nothing(alloc), stop) {
+        Ok(conn) => {
+            let (steps, rows, conn) = steps_over(rt, alloc, exchanges, conn)?;
+            let ended = close(alloc, conn)?;
+            Ok(Stopped { steps, rows, ended })
+        }
+        Err(ended) => Ok(Stopped {
+            steps: 0,
+            rows: String::new(alloc),
+            ended: ended?,
+        }),
+    }
+}
+
+// How many steps have the rows of a database, where so many were told: these, or one more.
+fn steps_of<S: Alter>(
+    rt: &impl Abort,
+    alloc: Global,
+    run: &Run,
+    told: usize,
+    conn: &mut Connection<S>,
+) -> Result<usize, Fail> {
+    let rows = rows_of(alloc, conn)?;
+    let near = run.rows.get(told..).unwrap_or(&[]);
+    let behind = near.iter().take(2).position(|its| *its == rows);
+    assert!(rt; behind.is_some(), "behind {told} steps: {rows}");
+    Ok(told.saturating_add(behind.unwrap_or(0)))
+}
+
+// Sends a run again to a store that made so many steps of it. At the end its rows are those of a
+// run without a stop.
+fn check_again<S: Alter + Drop>(
+    rt: &impl Abort,
+    alloc: Global,
+    run: &Run,
+    steps: usize,
+    mut store: SqlStore<S>,
+) -> Result<(), Fail> {
+    check_told_again(rt, alloc, &mut store, run, steps)?;
+    let mut conn = store.close();
+    let last = run.rows.len().saturating_sub(1);
+    assert_eq!(rt; steps_of(rt, alloc, run, last, &mut conn)?, last);
+    Ok(())
+}
+
+// A database has the rows of the steps that were told, or of one more. Then, if that is asked for,
+// an empty one gets our tables, any other is adopted, and the run is sent again.
+fn check_over<S: Alter + Drop>(
+    rt: &impl Abort,
+    alloc: Global,
+    run: &Run,
+    told: usize,
+    sends_again: bool,
+    mut conn: Connection<S>,
+) -> Result<(), Fail> {
+    let steps = steps_of(rt, alloc, run, told, &mut conn)?;
+    if !sends_again {
+        return Ok(());
+    }
+    if steps > 0 {
+        return check_again(rt, alloc, run, steps, adopted(alloc, conn)?);
+    }
+    match created(alloc, conn) {
+        Ok(store) => check_again(rt, alloc, run, steps, store),
+        Err(_) => Err(Fail::new("no tables are made")),
+    }
+}
+
+// What is left of files is opened again.
+fn check_left(
+    rt: &impl Abort,
+    alloc: Global,
+    run: &Run,
+    told: usize,
+    sends_again: bool,
+    left: &Left,
+) -> Result<(), Fail> {
+    match open(alloc, left, NO_STOP) {
+        Ok(conn) => check_over(rt, alloc, run, told, sends_again, conn),
+        Err(_) => Err(Fail::new("what is left isn't opened")),
+    }
+}
+
+// The run, with its rows, where nothing stops it.
+fn whole_run(rt: &impl Abort, alloc: Global) -> Result<Run, Fail> {
+    let exchanges = exchanges(alloc)?;
+    let mut rows = Vec::new(alloc);
+    rows.push(String::new(alloc))?;
+    for count in 0..=exchanges.len() {
+        let some = exchanges.get(..count).unwrap_or(&[]);
+        let made = steps_before_stop(rt, alloc, some, NO_STOP)?;
+        assert!(rt; made.steps > count && made.ended.is_closed);
+        rows.push(made.rows)?;
+    }
+    Ok(Run { exchanges, rows })
+}
+
+// Makes the steps of a run over files with this stop, and looks at what is left. The whole run is
+// sent again to what stands there, where no power was lost. Answers whether the run met the stop.
+fn has_met(rt: &impl Abort, alloc: Global, run: &Run, stop: Stop) -> Result<bool, Fail> {
+    let exchanges = run.exchanges.as_slice();
+    let made = steps_before_stop(rt, alloc, exchanges, stop)?;
+    for (place, left) in made.ended.lefts.iter().enumerate() {
+        check_left(rt, alloc, run, made.steps, place == 0, left)?;
+    }
+    Ok(made.steps <= exchanges.len() || !made.ended.is_closed)
+}
+
+// A stop at each call, until a run meets none.
+fn check_stops(rt: &impl Abort, alloc: Global, is_log: bool) -> Result<(), Fail> {
+    let run = whole_run(rt, alloc)?;
+    for calls in 0..MANY_CALLS {
+        let (log, db) = if is_log {
+            (calls, MANY_CALLS)
+        } else {
+            (MANY_CALLS, calls)
+        };
+        if !has_met(rt, alloc, &run, Stop { log, db })? {
+            assert!(rt; calls > 0);
+            return Ok(());
+        }
+    }
+    Err(Fail::new("each run met a stop"))
+}
+
+#[test]
+fn a_stop_at_each_call_of_the_log_leaves_all_of_an_arrival_or_nothing(
+    rt: HostRuntime,
+) -> Result<(), Fail> {
+    check_stops(&rt, rt.alloc(), true)
+}
+
+#[test]
+fn a_stop_at_each_call_of_the_database_leaves_all_of_an_arrival_or_nothing(
+    rt: HostRuntime,
+) -> Result<(), Fail> {
+    check_stops(&rt, rt.alloc(), false)
+}
