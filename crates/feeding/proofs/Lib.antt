@@ -1,0 +1,6 @@
+mod Words
+mod Draws
+mod Stands
+mod Going
+mod Runs
+mod Turns

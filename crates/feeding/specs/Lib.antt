@@ -1,0 +1,4 @@
+pub mod Cards
+pub mod Feeds
+pub mod Tries
+pub mod Views

@@ -1,0 +1,135 @@
+//! The cards of a feed, and the lines that are printed of them.
+ghost use Rattle.std.specs.Prelude.{◌≡◌, ◌<◌, ◌^◌, ◌++◌, IfOk, IfSome, OnOk, map, option_map};
+ghost use Rattle.std.specs.Prelude.{string_bytes};
+ghost use Rattle.line_words.specs.Numbers.{status_word};
+ghost use Rattle.wire.specs.Sending.{word_text};
+ghost use Rattle.hex.specs.Hex.{encode_upper};
+ghost use Rattle.feeding.specs.Cards.{all_of, applied_line, card_by, card_line, card_of, end_line, gives};
+ghost use Rattle.feeding.specs.Cards.{next_word};
+ghost use Rattle.feeding.specs.Views.{card_view};
+
+use itoa::Buffer;
+use line_words::{number_within, status_word, words_of};
+use std::alloc::{AllocError, Global};
+
+/// The greatest serial.
+const MOST_SERIAL: u64 = 999_999_999_999_999_999;
+
+/// A card's serial, the words that it gives in turn, and how many of them it has given.
+#[derive(Drop)]
+pub(crate) struct Card {
+    pub(crate) serial: u64,
+    words: Vec<u16>,
+    given: usize,
+}
+
+impl Card {
+    /// A card that gives these words.
+    pub(crate) fn new(serial: u64, words: Vec<u16>) -> Card
+        ensures { card_view result ≡ record { serial = serial; words = words.items; given = 0 } }
+    {
+        Card {
+            serial,
+            words,
+            given: 0,
+        }
+    }
+
+    /// The word that it gives next: 9000 when its words are used up.
+    pub(crate) fn give(&mut self) -> u16
+        ensures word { result ≡ next_word (card_view self.old) }
+        ensures given { card_view self.new ≡ gives (card_view self.old) }
+    {
+        if self.given < self.words.len() {
+            let word = self.words[self.given];
+            self.given += 1;
+            word
+        } else {
+            0x9000
+        }
+    }
+}
+
+/// The card of a line, if it has the form of one. It fails only where memory is refused.
+#[tactic(auto, using(crate::proofs::Words::card_read))]
+pub(crate) fn card_of(alloc: Global, line: &[u8]) -> Result<Option<Card>, AllocError>
+    ensures value { IfOk result (λ card. option_map card_view card ≡ card_of line.now) }
+    ensures serial { IfOk result (λ card. IfSome card (λ c. c.serial < 10 ^ 18)) }
+{
+    let words = words_of(alloc, line)?;
+    let Some((first, rest)) = words.split_first() else {
+        return Ok(None);
+    };
+    let Some(serial) = number_within(first, 0, MOST_SERIAL) else {
+        return Ok(None);
+    };
+    match status_words(alloc, rest)? {
+        Some(words) => Ok(Some(Card::new(serial, words))),
+        None => Ok(None),
+    }
+}
+
+// The words that these spell, if each spells one.
+#[tactic(auto, using(crate::proofs::Words::words_none, crate::proofs::Words::words_more, crate::proofs::Words::words_bad, crate::proofs::Words::words_all))]
+fn status_words(alloc: Global, texts: &[&[u8]]) -> Result<Option<Vec<u16>>, AllocError>
+    ensures { IfOk result (λ words. option_map (λ ws. ws.items) words
+        ≡ all_of (map (λ t. status_word t.now) texts.now)) }
+{
+    let mut words = Vec::new(alloc);
+    for text in texts {
+        let Some(word) = status_word(text) else {
+            return Ok(None);
+        };
+        words.push(word)?;
+    }
+    Ok(Some(words))
+}
+
+/// Adds the line of a command that the card received, with the word that it gave.
+pub(crate) fn push_applied(
+    alloc: Global,
+    text: &mut Vec<u8>,
+    serial: u64,
+    command: &[u8],
+    sw: u16,
+) -> Result<(), AllocError>
+    ensures { OnOk result
+        (text.new.items ≡ text.old.items ++ applied_line serial command.now sw) }
+{
+    let command = hex::encode_upper(alloc, command)?;
+    let word = word_text(alloc, sw)?;
+    let mut told = Vec::from_slice(alloc, command.as_bytes())?;
+    told.push(b' ')?;
+    told.extend_from_slice(word.as_bytes())?;
+    push_line(text, serial, told.as_slice())
+}
+
+// Four hexadecimal digits in upper case.
+fn word_text(alloc: Global, sw: u16) -> Result<String, AllocError>
+    ensures { IfOk result (λ text. string_bytes text ≡ word_text sw) }
+{
+    hex::encode_upper(alloc, sw.to_be_bytes())
+}
+
+/// Adds the line of a card that was put out.
+pub(crate) fn push_end(text: &mut Vec<u8>, serial: u64, good: bool) -> Result<(), AllocError>
+    ensures { OnOk result (text.new.items ≡ text.old.items ++ end_line serial good) }
+{
+    let told = if good {
+        b"good".as_slice()
+    } else {
+        b"rejected".as_slice()
+    };
+    push_line(text, serial, told)
+}
+
+fn push_line(text: &mut Vec<u8>, serial: u64, told: &[u8]) -> Result<(), AllocError>
+    ensures { OnOk result (text.new.items ≡ text.old.items ++ card_line serial told.now) }
+{
+    let mut number = Buffer::new();
+    text.extend_from_slice(number.format(serial).as_bytes())?;
+    text.push(b' ')?;
+    text.extend_from_slice(told)?;
+    text.push(b'\n')?;
+    Ok(())
+}
