@@ -6,7 +6,7 @@ use Rattle.std.specs.Ordering.{int_cmp, is_eq}
 use Rattle.std.specs.Cmp.{int_chain, int_cmp_is}
 use Rattle.std.proofs.lemmas.Bool.{cases_Bool}
 use Rattle.std.proofs.lemmas.Cmp.{tied_itself}
-use Rattle.std.proofs.lemmas.List.Sorted.{All-permutation, IsPermutation-sym, length_permutation}
+use Rattle.std.proofs.lemmas.List.Sorted.{All-permutation, IsPermutation-sym, IsPermutation-trans, length_permutation}
 use Rattle.sqlite.specs.Order.{Row}
 use Rattle.sqlite.specs.State.{Shown, State}
 use Rattle.sqlite.specs.Term.{col}
@@ -129,8 +129,9 @@ told_apart stored rows same rising = record {
         let two : length (filter (has id) (map rowid_alone stored)) ≡ length (filter (has id) stored) = ap length (filter-map (has id) rowid_alone stored) ∙ lengths rowid_alone (filter (has id) stored) in
         subst (λ n. n ≤ 1) (sym one ∙ two) all
 
-pub rowids_apart : (sql : _) (old new : State) (rows : List Row) → Shown sql [] old new rows → (tree : _) → Asks old.now.schema sql tree (col 1 0 ∷ []) → AreRising rows → AreApart (old.now.trees tree)
-rowids_apart sql old new rows h tree asks rising =
+pub rowids_apart : (sql : _) (old new : State) (rows sorted : List Row) → Shown sql [] old new rows → IsPermutation rows sorted → (tree : _) → Asks old.now.schema sql tree (col 1 0 ∷ []) → AreRising sorted → AreApart (old.now.trees tree)
+rowids_apart sql old new rows sorted h same tree asks rising =
     let columns = col 1 0 ∷ [] in
     let got = selected sql [] old new old.now.schema refl tree [] columns asks.names asks.command asks.plain asks.unlisted rows h in
-    told_apart (old.now.trees tree) rows (subst (λ xs. IsPermutation (map (shown columns []) xs) rows) (all_pass (old.now.trees tree)) got) rising
+    let told : IsPermutation (map rowid_alone (old.now.trees tree)) rows = subst (λ xs. IsPermutation (map (shown columns []) xs) rows) (all_pass (old.now.trees tree)) got in
+    told_apart (old.now.trees tree) sorted (IsPermutation-trans _ rows _ told same) rising

@@ -1,5 +1,6 @@
 //! Rowids are read.
-ghost use Rattle.std.specs.Prelude.{◌≡◌, ◌++◌, [], ◌∷◌, false, IfOk, IsTrue, MatchOption};
+ghost use Rattle.std.specs.Prelude.{◌≡◌, ◌++◌, [], ◌∷◌, false, IfOk, IsPermutation, IsTrue};
+ghost use Rattle.std.specs.Prelude.{MatchOption};
 ghost use Rattle.sqlite.specs.Held.{state};
 ghost use Rattle.sqlite.specs.State.{HasCleanDisk, Survives};
 ghost use Rattle.sqlite.specs.Tree.{rowid};
@@ -15,6 +16,7 @@ use crate::values::value_at;
 use sql_base::rows_of;
 use sqlite::types::ValueRef;
 use sqlite::{Alter, Connection, Error, Row};
+use std::alloc::AllocError;
 
 // The integer that a value is.
 fn int_of(value: ValueRef<'_>) -> Option<i64>
@@ -24,6 +26,16 @@ fn int_of(value: ValueRef<'_>) -> Option<i64>
     match value {
         ValueRef::Int(z) => Some(z),
         _ => None,
+    }
+}
+
+// The integer that a value is; 0 where it is none.
+fn int_or_zero(value: ValueRef<'_>) -> i64
+    ensures { result ≡ int_in (owned value.entry) }
+{
+    match value {
+        ValueRef::Int(z) => z,
+        _ => 0,
     }
 }
 
@@ -65,7 +77,17 @@ fn are_rising(rows: &[Row]) -> bool
     }
 }
 
-// Whether the rowids that a text asks for rise. Then those of the table are apart.
+// Sorts rows by their rowids. They are read in the order of an index where one has all that is
+// asked for.
+fn sort_rowids(rows: &mut Vec<Row>) -> Result<(), AllocError>
+    ensures { IsPermutation rows.old.items rows.new.items }
+{
+    rows.sort_by_key(|row: &Row| -> i64 { int_or_zero(value_at(row, 0)) })?;
+    Ok(())
+}
+
+// Whether the rowids that a text asks for rise once they are sorted. Then those of the table are
+// apart.
 fn has_rising<S: Alter>(conn: &mut Connection<S>, sql: &str) -> Result<bool, Error>
     requires { conn.old.in_transaction ≡ false }
     ensures told { HasCleanDisk (state S.Store conn.new) → IfOk result
@@ -77,7 +99,8 @@ fn has_rising<S: Alter>(conn: &mut Connection<S>, sql: &str) -> Result<bool, Err
     ensures idle { conn.new.in_transaction ≡ false }
     ensures survives { Survives (state S.Store conn.old) (state S.Store conn.new) (λ _. ⊥) }
 {
-    let rows = rows_of(conn, sql, &[])?;
+    let mut rows = rows_of(conn, sql, &[])?;
+    sort_rowids(&mut rows)?;
     Ok(are_rising(rows.as_slice()))
 }
 
@@ -176,8 +199,8 @@ fn more_rise<S: Alter>(conn: &mut Connection<S>) -> Result<bool, Error>
     }
 }
 
-/// Whether the rowids of our own tables rise as they are read, so that no two rows of a table have
-/// one. Nothing is changed, and a crash leaves what it could leave before.
+/// Whether the rowids of our own tables rise once they are sorted, so that no two rows of a table
+/// have one. Nothing is changed, and a crash leaves what it could leave before.
 pub fn has_apart_rowids<S: Alter>(conn: &mut Connection<S>) -> Result<bool, Error>
     requires { conn.old.in_transaction ≡ false }
     ensures told { HasCleanDisk (state S.Store conn.new) → IfOk result
