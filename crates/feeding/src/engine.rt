@@ -1,9 +1,11 @@
 //! The engine of `persod feed`.
-ghost use Rattle.std.specs.Prelude.{◌≡◌, ◌≤◌, ◌<◌, ◌^◌, ◌∷◌, ◌++◌, [], List, None, IfOk, option_map};
+ghost use Rattle.std.specs.Prelude.{◌≡◌, ◌≤◌, ◌<◌, ◌^◌, ◌∷◌, ◌++◌, [], List, None};
+ghost use Rattle.std.specs.Prelude.{IfOk, option_map};
 ghost use Rattle.wire.specs.Sending.{IsSendable, sending_of};
 ghost use Rattle.feeder.specs.Table.{asked};
 ghost use Rattle.feeding.specs.Feeds.{at_first, hears};
-ghost use Rattle.feeding.specs.Tries.{FeedEnds, Goes, Heard, IsEnd, IsHeard, IsSettled, IsTold, Try};
+ghost use Rattle.feeding.specs.Tries.{FeedEnds, Goes, Heard, IsEnd, IsHeard, IsSettled};
+ghost use Rattle.feeding.specs.Tries.{IsTold, Try};
 ghost use Rattle.feeding.specs.Views.{AsksUnder, feed_view};
 
 use crate::exchange::Exchange;
@@ -92,12 +94,12 @@ impl From<WriteFailed> for FeedStop {
     }
 }
 
-/// Feeds a machine with the cards of the reader's lines, one after the other: starts it with a boot
-/// that it never had, 1 to 9,999,999,999, sends what its feeder asks, each ask on a connection of its
-/// own, and does what the feeder's acts are. A line is a card's serial and the words that it answers
-/// in turn, `SERIAL SW SW ..`, and 9000 when they are used up. Printed is `SERIAL HEX SW` for each
-/// command that is applied, and `SERIAL good` or `SERIAL rejected` at the end of each card (this
-/// project's profile). A card for which the boot has no numbers left is rejected.
+/// Feeds a machine with the cards of the reader's lines, one after the other: starts it with a
+/// boot that it never had, 1 to 9,999,999,999, sends what its feeder asks, each ask on a connection
+/// of its own, and does what the feeder's acts are. A line is a card's serial and the words that it
+/// answers in turn, `SERIAL SW SW ..`, and 9000 when they are used up. Printed is `SERIAL HEX SW`
+/// for each command that is applied, and `SERIAL good` or `SERIAL rejected` at the end of each card
+/// (this project's profile). A card for which the boot has no numbers left is rejected.
 ///
 /// The input is read whole at first; what is printed is written as it comes, and left to the caller
 /// to flush. Errors: a line of another form, before which all cards were fed; numbers that a later
