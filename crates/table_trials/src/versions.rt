@@ -79,7 +79,6 @@ fn all_rows<S: Alter>(alloc: Global, conn: &mut Connection<S>) -> Result<String,
     Ok(text)
 }
 
-// Rows are the same in whichever order they stand.
 fn sorted(alloc: Global, rows: &str) -> Result<Vec<&str>, AllocError> {
     let mut lines = Vec::new(alloc);
     for line in rows.lines() {
@@ -89,30 +88,37 @@ fn sorted(alloc: Global, rows: &str) -> Result<Vec<&str>, AllocError> {
     Ok(lines)
 }
 
-// The set-up, the releases, and a card that is spoiled and made again are told to a store.
+// Rows are the same, in whichever order they stand.
+fn check_same(rt: &impl Abort, alloc: Global, found: &str, wanted: &str) -> Result<(), AllocError> {
+    assert_eq!(rt; sorted(alloc, found)?, sorted(alloc, wanted)?);
+    Ok(())
+}
+
+// Exchanges are told to a store.
 fn tell<S: JobStore>(
     rt: &impl Abort,
     alloc: Global,
     store: &mut S,
-    releases: &[Exchange],
+    exchanges: &[Exchange],
 ) -> Result<(), Fail> {
-    for exchanges in [SET_UP.as_slice(), releases, MADE_AGAIN.exchanges] {
-        for exchange in exchanges {
-            let arrival = arrival(alloc, exchange)?;
-            check_told(rt, exchange, &at_last!(told(alloc, store, &arrival))?);
-        }
+    for exchange in exchanges {
+        let arrival = arrival(alloc, exchange)?;
+        check_told(rt, exchange, &at_last!(told(alloc, store, &arrival))?);
     }
     Ok(())
 }
 
-// Tables of a version, from a store without facts. Answers their rows in our own tables too.
+// Tables of a version, from a store without facts that is told the set-up, the releases, and a card
+// that is spoiled and made again. Answers their rows in our own tables too.
 fn turned<S: Alter + Drop>(
     rt: &impl Abort,
     alloc: Global,
     version: &Version,
     mut store: SqlStore<S>,
 ) -> Result<(String, Connection<S>), Fail> {
+    tell(rt, alloc, &mut store, &SET_UP)?;
     tell(rt, alloc, &mut store, version.releases)?;
+    tell(rt, alloc, &mut store, MADE_AGAIN.exchanges)?;
     let mut conn = store.close();
     let rows = at_last!(all_rows(alloc, &mut conn))?;
     for text in version.texts {
@@ -200,7 +206,7 @@ fn has_met(
         let again = over_files(rt, alloc, None, left, NO_STOP)?;
         assert!(rt; again.ended.is_closed);
         let found = again.rows.ok_or("what is left isn't adopted")?;
-        assert_eq!(rt; sorted(alloc, found.as_str())?, sorted(alloc, rows)?);
+        check_same(rt, alloc, found.as_str(), rows)?;
     }
     Ok(stopped.rows.is_none() || !stopped.ended.is_closed)
 }
@@ -255,8 +261,7 @@ fn check_memory<S: Alter + Drop>(
     };
     let mut conn = store.close();
     let found = at_last!(all_rows(alloc, &mut conn))?;
-    let found = at_last!(sorted(alloc, found.as_str()))?;
-    assert_eq!(rt; found, at_last!(sorted(alloc, rows.as_str()))?);
+    at_last!(check_same(rt, alloc, found.as_str(), rows.as_str()))?;
     Ok(())
 }
 
