@@ -2,7 +2,8 @@
 # Builds the tests of `trials` and of `table_trials`, and refuses each of their allocations in turn, one in each run of a test. It fails
 # where a run fails, is killed, or takes over 60 seconds, and names those. A word given here picks the tests whose names have it:
 # bench/refused.sh memory:: picks those over lists, and bench/refused.sh refused:: those over tables. Of the tests of `faults`, which take
-# far more than the others, it refuses some 2000 each, evenly spread. It leaves out those of `stops`, whose files in memory fail without it.
+# far more than the others, it refuses some 2000 each, evenly spread. It leaves out those of files that stop at each
+# call, which fail without it.
 set -euo pipefail
 cd "$(dirname "$0")/.."
 folder=$(mktemp -d)
@@ -30,7 +31,7 @@ tests=0 total=0
 for crate in trials table_trials; do
     (cd "crates/$crate" && rt test)
     export PROGRAM=$PWD/crates/$crate/out/${crate}_tests
-    for test in $("$PROGRAM" --list | sed -n 's/: test$//p' | grep -v '^stops::' | grep -F -- "${1:-}"); do
+    for test in $("$PROGRAM" --list | sed -n 's/: test$//p' | grep -v '::a_stop_at_each_call_' | grep -F -- "${1:-}"); do
         COUNT=$folder/count run "$test" 0 >/dev/null
         count=$(cat "$folder/count")
         step=1

@@ -1,4 +1,5 @@
-//! Tests of the store over tables: files that stop at each of their calls, and refused memory.
+//! Tests of the store over tables: files that stop at each of their calls, refused
+//! memory, and tables of earlier versions.
 #![tactic(auto)]
 
 #[cfg(test)]
@@ -11,3 +12,5 @@ mod refused;
 mod stops;
 #[cfg(test)]
 mod stories;
+#[cfg(test)]
+mod versions;

@@ -108,7 +108,7 @@ fn check_over<S: JobStore>(
 }
 
 // A store over tables in memory, without facts.
-fn tables(alloc: Global) -> Result<SqlStore<MemStore>, Fail> {
+pub(crate) fn tables(alloc: Global) -> Result<SqlStore<MemStore>, Fail> {
     let conn = at_last!(Connection::open_in_memory(alloc))?;
     match SqlStore::create(alloc, conn) {
         Ok(store) => Ok(store),

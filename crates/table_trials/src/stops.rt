@@ -15,9 +15,9 @@ use std::process::Abort;
 use std::test::Fail;
 
 // More calls than a run makes of a file.
-const MANY_CALLS: u64 = 10_000;
+pub(crate) const MANY_CALLS: u64 = 10_000;
 
-const NO_STOP: Stop = Stop {
+pub(crate) const NO_STOP: Stop = Stop {
     log: MANY_CALLS,
     db: MANY_CALLS,
 };
@@ -92,7 +92,7 @@ fn check_told_again<S: JobStore>(
 }
 
 // The rows of all tables of a database.
-fn rows_of<S: Alter>(alloc: Global, conn: &mut Connection<S>) -> Result<String, Error> {
+pub(crate) fn rows_of<S: Alter>(alloc: Global, conn: &mut Connection<S>) -> Result<String, Error> {
     let mut text = String::new(alloc);
     for table in conn.query_all("SELECT name FROM sqlite_master WHERE type = 'table'", &[])? {
         let name: String = table.get(0)?;
@@ -101,7 +101,7 @@ fn rows_of<S: Alter>(alloc: Global, conn: &mut Connection<S>) -> Result<String, 
     Ok(text)
 }
 
-fn put_rows<S: Alter>(
+pub(crate) fn put_rows<S: Alter>(
     alloc: Global,
     conn: &mut Connection<S>,
     table: &str,
@@ -115,7 +115,10 @@ fn put_rows<S: Alter>(
 }
 
 // A store without facts, over an empty database.
-fn created<S: Alter>(alloc: Global, conn: Connection<S>) -> Result<SqlStore<S>, Connection<S>> {
+pub(crate) fn created<S: Alter>(
+    alloc: Global,
+    conn: Connection<S>,
+) -> Result<SqlStore<S>, Connection<S>> {
     if !conn.is_autocommit() {
         return Err(conn);
     }
@@ -126,7 +129,10 @@ fn created<S: Alter>(alloc: Global, conn: Connection<S>) -> Result<SqlStore<S>, 
 }
 
 // A store over a database of our tables.
-fn adopted<S: Alter + Drop>(alloc: Global, conn: Connection<S>) -> Result<SqlStore<S>, Fail> {
+pub(crate) fn adopted<S: Alter + Drop>(
+    alloc: Global,
+    conn: Connection<S>,
+) -> Result<SqlStore<S>, Fail> {
     if !conn.is_autocommit() {
         return Err(Fail::new("a transaction is open"));
     }

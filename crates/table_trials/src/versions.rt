@@ -1,0 +1,290 @@
+//! Tables of earlier versions are adopted: files that stop at each call of their making anew, and
+//! refused memory.
+//!
+//! The rows and the schema of what is adopted are those of the same exchanges in our own tables.
+//! The tests over tables in memory say the same whichever one allocation is refused.
+use crate::disks::{Ended, Left, Stop, close, nothing, open};
+use crate::exchanges::{Exchange, arrival, at_last, check_told, told};
+use crate::refused::tables;
+use crate::stops::{MANY_CALLS, NO_STOP, adopted, created, put_rows, rows_of};
+use crate::stories::{MADE_AGAIN, RELEASE, SET_UP};
+use job_core::{JobStore, StoreFault};
+use schema::{OpenFault, SqlStore};
+use sqlite::{Alter, Connection, Error};
+use std::alloc::{AllocError, Global};
+use std::process::Abort;
+use std::test::Fail;
+
+// A version: the releases that its office asked for, and what turns our own tables into its.
+#[derive(Clone, Copy)]
+struct Version {
+    releases: &'static [Exchange],
+    texts: &'static [&'static str],
+}
+
+const GROUPING: &str = "CREATE TABLE grouping (batch INTEGER NOT NULL, line INTEGER NOT NULL, \
+    place INTEGER NOT NULL, aid BLOB NOT NULL, rank INTEGER NOT NULL CHECK (rank BETWEEN 1 AND \
+    999), enc INTEGER NOT NULL CHECK (enc BETWEEN 0 AND 1), tol INTEGER NOT NULL CHECK (tol \
+    BETWEEN 0 AND 1), coded BLOB NOT NULL, PRIMARY KEY (batch, line), FOREIGN KEY (batch, place) \
+    REFERENCES record (batch, place)) STRICT";
+
+const GROUPINGS: &str = "INSERT INTO grouping SELECT * FROM grouping2";
+
+// It knows two marks of encipherment, and no released numbers.
+const ONE: Version = Version {
+    releases: &[],
+    texts: &[
+        GROUPING,
+        GROUPINGS,
+        "DROP TABLE grouping2",
+        "DROP TABLE mark",
+        "DROP TABLE version",
+        "CREATE TABLE version (id INTEGER NOT NULL PRIMARY KEY CHECK (id = 1), number INTEGER \
+        NOT NULL CHECK (number = 1)) STRICT",
+        "INSERT INTO version (id, number) VALUES (1, 1)",
+    ],
+};
+
+// It knows released numbers.
+const TWO: Version = Version {
+    releases: &[RELEASE],
+    texts: &[
+        GROUPING,
+        GROUPINGS,
+        "DROP TABLE grouping2",
+        "DROP TABLE version",
+        "CREATE TABLE version (id INTEGER NOT NULL PRIMARY KEY CHECK (id = 1), number INTEGER \
+        NOT NULL CHECK (number = 2)) STRICT",
+        "INSERT INTO version (id, number) VALUES (1, 2)",
+    ],
+};
+
+// Our own.
+const THREE: Version = Version {
+    releases: &[RELEASE],
+    texts: &[],
+};
+
+// What was done to files: the rows then, if it came to its end, and what is left of the files.
+#[derive(Drop)]
+struct Done {
+    rows: Option<String>,
+    ended: Ended,
+}
+
+// The rows of all tables, and those of the schema.
+fn all_rows<S: Alter>(alloc: Global, conn: &mut Connection<S>) -> Result<String, Error> {
+    let mut text = rows_of(alloc, conn)?;
+    put_rows(alloc, conn, "sqlite_master", &mut text)?;
+    Ok(text)
+}
+
+fn sorted(alloc: Global, rows: &str) -> Result<Vec<&str>, AllocError> {
+    let mut lines = Vec::new(alloc);
+    for line in rows.lines() {
+        lines.push(line)?;
+    }
+    lines.sort()?;
+    Ok(lines)
+}
+
+// Rows are the same, in whichever order they stand.
+fn check_same(rt: &impl Abort, alloc: Global, found: &str, wanted: &str) -> Result<(), AllocError> {
+    assert_eq!(rt; sorted(alloc, found)?, sorted(alloc, wanted)?);
+    Ok(())
+}
+
+// Exchanges are told to a store.
+fn tell<S: JobStore>(
+    rt: &impl Abort,
+    alloc: Global,
+    store: &mut S,
+    exchanges: &[Exchange],
+) -> Result<(), Fail> {
+    for exchange in exchanges {
+        let arrival = arrival(alloc, exchange)?;
+        check_told(rt, exchange, &at_last!(told(alloc, store, &arrival))?);
+    }
+    Ok(())
+}
+
+// Tables of a version, from a store without facts that is told the set-up, the releases, and a card
+// that is spoiled and made again. Answers their rows in our own tables too.
+fn turned<S: Alter + Drop>(
+    rt: &impl Abort,
+    alloc: Global,
+    version: &Version,
+    mut store: SqlStore<S>,
+) -> Result<(String, Connection<S>), Fail> {
+    tell(rt, alloc, &mut store, &SET_UP)?;
+    tell(rt, alloc, &mut store, version.releases)?;
+    tell(rt, alloc, &mut store, MADE_AGAIN.exchanges)?;
+    let mut conn = store.close();
+    let rows = at_last!(all_rows(alloc, &mut conn))?;
+    for text in version.texts {
+        at_last!(conn.execute(text, &[]))?;
+    }
+    Ok((rows, conn))
+}
+
+// Adopts a database. Answers its rows then, if no device failed.
+fn taken<S: Alter + Drop>(
+    rt: &impl Abort,
+    alloc: Global,
+    conn: Connection<S>,
+) -> Result<(Option<String>, Connection<S>), Fail> {
+    if !conn.is_autocommit() {
+        return Err(Fail::new("a transaction is open"));
+    }
+    match SqlStore::adopt(alloc, conn) {
+        Ok(store) => {
+            let mut conn = store.close();
+            let rows = all_rows(alloc, &mut conn).ok();
+            Ok((rows, conn))
+        }
+        Err((conn, fault)) => {
+            let fault_of_device = OpenFault::Store {
+                fault: StoreFault::Device,
+            };
+            assert_eq!(rt; fault, fault_of_device);
+            Ok((None, conn))
+        }
+    }
+}
+
+// Makes tables of a version in an empty database, or adopts one where no version is said.
+fn worked<S: Alter + Drop>(
+    rt: &impl Abort,
+    alloc: Global,
+    version: Option<&Version>,
+    conn: Connection<S>,
+) -> Result<(Option<String>, Connection<S>), Fail> {
+    let Some(version) = version else {
+        return taken(rt, alloc, conn);
+    };
+    match created(alloc, conn) {
+        Ok(store) => {
+            let (rows, conn) = turned(rt, alloc, version, store)?;
+            Ok((Some(rows), conn))
+        }
+        Err(_) => Err(Fail::new("no tables are made")),
+    }
+}
+
+// The same in files that hold this, with this stop.
+fn over_files(
+    rt: &impl Abort,
+    alloc: Global,
+    version: Option<&Version>,
+    left: &Left,
+    stop: Stop,
+) -> Result<Done, Fail> {
+    match open(alloc, left, stop) {
+        Ok(conn) => {
+            let (rows, conn) = worked(rt, alloc, version, conn)?;
+            let ended = close(alloc, conn)?;
+            Ok(Done { rows, ended })
+        }
+        Err(ended) => Ok(Done {
+            rows: None,
+            ended: ended?,
+        }),
+    }
+}
+
+// Adopts files with this stop. What is left of them is adopted then, also where power was lost,
+// and has these rows. Answers whether the stop was met.
+fn has_met(
+    rt: &impl Abort,
+    alloc: Global,
+    files: &Left,
+    rows: &str,
+    stop: Stop,
+) -> Result<bool, Fail> {
+    let stopped = over_files(rt, alloc, None, files, stop)?;
+    for left in stopped.ended.lefts.iter() {
+        let again = over_files(rt, alloc, None, left, NO_STOP)?;
+        assert!(rt; again.ended.is_closed);
+        let found = again.rows.ok_or("what is left isn't adopted")?;
+        check_same(rt, alloc, found.as_str(), rows)?;
+    }
+    Ok(stopped.rows.is_none() || !stopped.ended.is_closed)
+}
+
+// A stop at each call of the log, or of the database, until files of a version meet none.
+fn check_stops(
+    rt: &impl Abort,
+    alloc: Global,
+    version: &Version,
+    is_log: bool,
+) -> Result<(), Fail> {
+    let made = over_files(rt, alloc, Some(version), &nothing(alloc), NO_STOP)?;
+    let rows = made.rows.ok_or("no rows")?;
+    let files = made.ended.lefts.first().ok_or("no files")?;
+    for calls in 0..MANY_CALLS {
+        let (log, db) = if is_log {
+            (calls, MANY_CALLS)
+        } else {
+            (MANY_CALLS, calls)
+        };
+        if !has_met(rt, alloc, files, rows.as_str(), Stop { log, db })? {
+            assert!(rt; calls > 0);
+            return Ok(());
+        }
+    }
+    Err(Fail::new("each adoption met a stop"))
+}
+
+// Tables of a version are adopted from a store without facts. Where memory is refused, they stand
+// as before, and are adopted when it comes again.
+fn check_memory<S: Alter + Drop>(
+    rt: &impl Abort,
+    alloc: Global,
+    version: &Version,
+    store: SqlStore<S>,
+) -> Result<(), Fail> {
+    let (rows, mut conn) = turned(rt, alloc, version, store)?;
+    let before = at_last!(all_rows(alloc, &mut conn))?;
+    if !conn.is_autocommit() {
+        return Err(Fail::new("a transaction is open"));
+    }
+    let store = match SqlStore::adopt(alloc, conn) {
+        Ok(store) => store,
+        Err((mut conn, fault)) => {
+            let refused = OpenFault::Store {
+                fault: StoreFault::Memory,
+            };
+            assert_eq!(rt; fault, refused);
+            assert_eq!(rt; all_rows(alloc, &mut conn)?, before);
+            adopted(alloc, conn)?
+        }
+    };
+    let mut conn = store.close();
+    let found = at_last!(all_rows(alloc, &mut conn))?;
+    at_last!(check_same(rt, alloc, found.as_str(), rows.as_str()))?;
+    Ok(())
+}
+
+#[test]
+fn a_stop_at_each_call_of_files_of_version_one(rt: HostRuntime) -> Result<(), Fail> {
+    check_stops(&rt, rt.alloc(), &ONE, true)?;
+    check_stops(&rt, rt.alloc(), &ONE, false)
+}
+
+#[test]
+fn a_stop_at_each_call_of_files_of_version_two(rt: HostRuntime) -> Result<(), Fail> {
+    check_stops(&rt, rt.alloc(), &TWO, true)?;
+    check_stops(&rt, rt.alloc(), &TWO, false)
+}
+
+#[test]
+fn tables_of_version_one(rt: HostRuntime) -> Result<(), Fail> {
+    let store = tables(rt.alloc())?;
+    check_memory(&rt, rt.alloc(), &ONE, store)
+}
+
+#[test]
+fn tables_of_our_own(rt: HostRuntime) -> Result<(), Fail> {
+    let store = tables(rt.alloc())?;
+    check_memory(&rt, rt.alloc(), &THREE, store)
+}
