@@ -15,7 +15,7 @@ use Rattle.job_core.specs.Sound.{AreWords}
 use Rattle.job_core.specs.States.{going, goes_at, last_stops, state_with}
 use Rattle.table_rows.specs.Tables.{StoredWord}
 use Rattle.audit_cards.specs.Cards.{Leaves, status_words}
-use Rattle.audit_cards.proofs.CursorLemmas.{end_of_view, last_stops-at}
+use Rattle.step_laws.proofs.CursorLemmas.{end_of_view, last_stops-at}
 use Rattle.job_core.proofs.Lists.{item_there, mapped, slice_get-append_left}
 use Rattle.store_data.proofs.CursorLemmas.{slice_get-middle, tolerance_there}
 

@@ -1,4 +1,3 @@
-pub mod CursorLemmas
 pub mod CardLemmas
 pub mod ByRecordLemmas
 pub mod SessionLemmas

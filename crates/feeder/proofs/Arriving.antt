@@ -33,7 +33,7 @@ use Rattle.feeder.specs.declared.feeder.Stand.{Stand}
 use Rattle.feeder.specs.declared.feeder.Stand.TheVariants.{Idle, Asks, HasCommand, Stale}
 use Rattle.feeder.specs.Table.{number_at}
 use Rattle.feeder.specs.World.{Answered, Packet, World, arrival_of, decides, is_name_of}
-use Rattle.feeder.proofs.Blanks.{uncharged}
+use Rattle.step_laws.proofs.Blanks.{uncharged}
 use Rattle.feeder.proofs.Replies.{OpensFree, answer_later, answer_says, good_later, open_later, open_says, opens_free, reply_ranged}
 use Rattle.feeder.specs.ShopFloor.{IsRangedCall, IsCountedGood, sequence_of}
 use Rattle.feeder.proofs.Fine.{Cards, Machines, Fine, Fits, Fresh, HasCard, HasDone, Holds, IsDecidedFine, IsFineCard, IsFinePacket, IsKeptFine, IsTold, OpensFresh, got}

@@ -1,6 +1,5 @@
 pub mod Asking
 pub mod Readings
-pub mod Blanks
 pub mod Replies
 pub mod Fine
 pub mod Going

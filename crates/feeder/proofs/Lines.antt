@@ -21,7 +21,7 @@ use Rattle.feeder.specs.declared.world.Stop.TheVariants.{No, Before, After}
 use Rattle.feeder.specs.Table.{number_at}
 use Rattle.feeder.specs.World.{Packet, World, arrival_of, arrives, is_name_of}
 use Rattle.feeder.specs.ShopFloor.{CardsAreCharged, GoodCardsAreWhole, IsSessionOf, OldBootsAreOver, PutOutIsCounted, RecordsHaveOneCard, sequence_of}
-use Rattle.feeder.proofs.Blanks.{only_of_blank}
+use Rattle.step_laws.proofs.Blanks.{only_of_blank}
 use Rattle.feeder.proofs.Fine.{Fine, Fits, IsDecidedFine, IsFinePacket, got}
 use Rattle.feeder.proofs.Going.{all_at}
 

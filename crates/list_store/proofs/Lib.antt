@@ -1,4 +1,3 @@
-pub mod CursorLemmas
 pub mod RecordLemmas
 pub mod SessionLemmas
 pub mod AccountLemmas

@@ -14,3 +14,5 @@ pub mod Permuted
 pub mod AlikeReads
 pub mod AlikeSteps
 pub mod AlikeAccounts
+pub mod CursorLemmas
+pub mod Blanks

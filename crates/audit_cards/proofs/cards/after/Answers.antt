@@ -3,7 +3,7 @@ use Rattle.std.specs.Prelude.{option_map}
 use Rattle.store_data.specs.Cursor.{shown}
 use Rattle.audit_cards.specs.Cards.{Leaves}
 use Rattle.audit_cards.proofs.CardLemmas.{Leaves-goes, Leaves-stops, at_length, command_there, none_after, none_past}
-use Rattle.audit_cards.proofs.CursorLemmas.{IsCursor-at, end_at}
+use Rattle.step_laws.proofs.CursorLemmas.{IsCursor-at, end_at}
 use Rattle.audit_cards.proofs.cards.after.Goals as goal
 
 pub returns-then-card-clause-none : goal.returns-then-card-clause-none

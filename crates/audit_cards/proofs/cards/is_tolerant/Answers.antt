@@ -1,5 +1,5 @@
 use Rattle.std.proofs.Common.{◌∙◌, ◌&&◌, sym, ap}
-use Rattle.audit_cards.proofs.CursorLemmas.{tolerance_at}
+use Rattle.step_laws.proofs.CursorLemmas.{tolerance_at}
 use Rattle.audit_cards.proofs.cards.is_tolerant.Goals as goal
 
 pub returns-then-segment : goal.returns-then-segment

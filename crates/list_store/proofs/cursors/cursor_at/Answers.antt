@@ -1,7 +1,7 @@
 use Rattle.std.proofs.Common.{◌∙◌, ap, sym, arith}
 use Rattle.std.specs.Prelude.{option_map}
 use Rattle.store_data.specs.Cursor.{shown}
-use Rattle.list_store.proofs.CursorLemmas.{IsCursor-at, cursor_past, end_at}
+use Rattle.step_laws.proofs.CursorLemmas.{IsCursor-at, cursor_past, end_at}
 use Rattle.list_store.proofs.cursors.cursor_at.Goals as goal
 
 pub returns-in_err-segment-clause-value : goal.returns-in_err-segment-clause-value

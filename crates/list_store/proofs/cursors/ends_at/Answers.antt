@@ -1,5 +1,5 @@
 use Rattle.std.proofs.Common.{◌∙◌, sym}
-use Rattle.list_store.proofs.CursorLemmas.{not_end, end_of_view}
+use Rattle.step_laws.proofs.CursorLemmas.{not_end, end_of_view}
 use Rattle.list_store.proofs.cursors.ends_at.Goals as goal
 
 pub returns-in-None : goal.returns-in-None

@@ -1,7 +1,7 @@
 use Rattle.std.proofs.Common.{◌∙◌, ◌&&◌, sym, ap}
 use Rattle.std.specs.Prelude.{option_map}
 use Rattle.store_data.specs.Cursor.{shown}
-use Rattle.list_store.proofs.CursorLemmas.{no_tolerance_past, no_tolerance_at_end, tolerance_at}
+use Rattle.step_laws.proofs.CursorLemmas.{no_tolerance_past, no_tolerance_at_end, tolerance_at}
 use Rattle.list_store.proofs.cursors.is_tolerant.Goals as goal
 
 pub returns-in-None : goal.returns-in-None

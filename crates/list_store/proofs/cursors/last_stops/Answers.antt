@@ -6,7 +6,7 @@ use Rattle.store_data.specs.contracts.status.Class.{the_type}
 use Rattle.store_data.specs.declared.status.Class.{Class}
 use Rattle.store_data.specs.declared.status.Class.TheVariants.{Go, Stop}
 use Rattle.store_data.specs.Sequence.{commands_of, goes_on}
-use Rattle.list_store.proofs.CursorLemmas.{last_stops-last}
+use Rattle.step_laws.proofs.CursorLemmas.{last_stops-last}
 use Rattle.list_store.proofs.cursors.last_stops.Goals as goal
 use denote.Enum.Bare.{sameb}
 
