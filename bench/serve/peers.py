@@ -56,7 +56,7 @@ def texts(draw: random.Random) -> Peer:
     depth = draw.choice((10, 127, 128, 1000, 100_000))
     body = draw.choice((
         b'{"do":' + b"[" * depth, b"[" * depth + b"]" * depth, b'{"a":' * depth, draw.randbytes(300), b'"' * 1000, b'{"do":"abort","session":1e999}',
-        b'{"do":"abort","session":' + b"9" * depth + b"}", b'{"do":"reset"}\0', b"\xef\xbb\xbf{}", b'{"do":"re\xc3set"}', b"",
+        b'{"do":"abort","session":1' + b"0" * (8 + depth) + b"}", b'{"do":"reset"}\0', b"\xef\xbb\xbf{}", b'{"do":"re\xc3set"}', b"",
     ))
     return Peer("texts", post(EVIL, 1, body), BAD)
 

@@ -11,7 +11,7 @@ from typing import Any, Optional
 
 HOST = "127.0.0.1"
 MOST_TURNS = 1_000_000
-PATIENCE = 120
+PATIENCE = 600
 
 
 class Stopped(Exception):

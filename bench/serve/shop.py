@@ -20,7 +20,7 @@ AIDS = ("F00000000101", "F0000000020202")
 STARTS = 10_000_000
 LOT = 1_000_000
 PAUSE = 0.005
-GONE = 65, 73
+MOST = 1024, 4
 
 
 @dataclass
@@ -127,7 +127,7 @@ class Client:
         if self.draw.random() < 0.2:
             message, first = request(self.name, number, do="reset", again=1), [400, {"code": 400, "refused": "malformed"}]
             if self.draw.random() < 0.5:
-                message, first = request(self.name, number, do="discard", blank=1), [409, {"code": 72, "refused": "number-reused"}]
+                message, first = request(self.name, number, do="discard", blank=10**17), [409, {"code": 72, "refused": "number-reused"}]
         if number <= self.mark and first[0] != 400:
             first = [409, {"code": 73, "mark": self.mark, "refused": "number-released"}]
         if (came := list(self.shop.ask(self.name, number, message, is_first=False))) != first:
@@ -189,7 +189,8 @@ class Machine(Client):
 
 
 class Office(Client):
-    """Makes products and lots known, imports batches, remakes or withdraws what failed, discards blanks, closes what is done."""
+    """Makes products and lots known, imports batches (one in ten as large as may be), remakes or withdraws what failed, discards blanks, closes what is
+    done."""
 
     def __init__(self, shop: Shop, seed: str, machines: int, batches: int) -> None:
         super().__init__(shop, "office", seed)
@@ -199,7 +200,8 @@ class Office(Client):
         if self.number == 0:
             self.stock()
         if self.left and (not self.shop.batches or self.draw.random() < 0.05):
-            self.bring()
+            self.left -= 1
+            self.bring(*(MOST if self.draw.random() < 0.1 else (self.draw.randint(1, 40), self.draw.randint(1, 6))))
         pick = self.draw.random()
         if pick < 0.1:
             self.ask(do="discard", blank=self.blank)
@@ -218,12 +220,10 @@ class Office(Client):
         for lot in range(self.machines + 1):
             self.ask(do="lot", lot=f"L{lot}", product="P1", first=lot * LOT, count=LOT)
 
-    def bring(self) -> None:
-        """Imports a batch; one in ten has as many rows as a batch may have."""
-        self.left -= 1
-        name = f"B{self.left}"
-        raw = batch_file(self.draw, 1024, 4) if self.draw.random() < 0.1 else batch_file(self.draw, self.draw.randint(1, 40), self.draw.randint(1, 6))
-        self.send(imported(self.name, self.number + 1, name, "P1", raw))
+    def bring(self, records: int, rows: int) -> None:
+        """Imports a batch of so many records with so many rows each."""
+        name = f"B{len(self.shop.batches) + 1}"
+        self.send(imported(self.name, self.number + 1, name, "P1", batch_file(self.draw, records, rows)))
         self.shop.batches.append(name)
 
     def tend(self, batch: str) -> None:
