@@ -3,11 +3,10 @@
 
     python3 bench/serve/exchanges.py PROGRAM [FILE..]
 
-A FILE is one of crates/worked/data that ends in .exchange or .message; without one all of them are run. Each case goes over a server of its own,
-on a new file and a free port: whole; in pieces of 7 bytes (where it has at most 100 messages of at most 4,096 bytes); by `curl` (a case of at
-most 100 asks of an .exchange file, but for asks that `curl` has no words for); and where the case is marked so, cut after every byte in front of
-each whole message. Each server has to end by itself after the last connection, with `served N` and status 0, and C's SQLite has to find its file whole.
-"""
+A FILE is one of crates/worked/data that ends in .exchange or .message; without one all of them are run. Each case goes over a server of its own, on a
+new file and a free port: whole; in pieces of 7 bytes (where it has at most 100 messages of at most 4,096 bytes); by `curl` (a case of at most 100 asks
+of an .exchange file, but for asks that `curl` has no words for); and where the case is marked so, cut after every byte in front of each whole message.
+Each server has to end by itself after the last connection, with `served N` and status 0, and C's SQLite has to find its file whole."""
 import pathlib
 import sqlite3
 import subprocess

@@ -3,11 +3,11 @@
 
     python3 bench/serve/full_disk.py PROGRAM [--rounds N] [--seed N]
 
-A machine and the office work, one request at a time. In each round all room but a little is taken away, until a request is answered 503. Then the
-same request is 503 again, accounts are as before it, what was answered is told again, and another client's request is 503 or is done. In every third
-round the server is killed and started while the disk is full: it listens, or it ends with status 3, `storage`. Then there is room again, and the
-request is asked again. In the end all is asked of a server on a new file that always had room: each reply is the same byte by byte, and so are
-accounts, reports and the rows of all tables. First of all, a server on a full disk with no file ends with `storage` or makes none."""
+A machine and the office work, one request at a time. In each round all room but a little is taken away, and that too after a hundred requests, until
+a request is answered 503. Then the same request is 503 again, accounts are as before it, what was answered is told again, and another client's request
+is 503 or is done. In every third round the server is killed and started while the disk is full: it listens, or it ends with status 3, `storage`. Then
+there is room again, and the request is asked again. In the end all is asked of a server on a new file that always had room: each reply is the same byte
+by byte, and so are accounts, reports and the rows of all tables. First of all, a server on a full disk with no file listens, or ends so too."""
 import argparse
 import pathlib
 import random
@@ -25,6 +25,7 @@ SIZE = 64 << 20
 ROOMS = 0, 0, 1, 2, 5, 10, 20, 50, 100, 300
 PAGE = 4096
 QUIET = 60
+LONGEST = 100
 MACHINE, OTHER = "m1", "other"
 
 
@@ -61,14 +62,18 @@ class FullShop(Shop):
         self.database = disk.folder / "shop.db"
         self.server = Server(program, self.database, self.port)
         self.rounds = self.refused = self.starts = self.others = 0
-        self.quiet = QUIET
+        self.quiet, self.patience = QUIET, 0
         self.is_full = False
 
     def once(self, sent: Sent) -> bytes:
         if not self.is_full and self.quiet == 0:
             self.disk.fill(self.draw.choice(ROOMS))
             self.is_full = True
+            self.patience = LONGEST
         self.quiet = max(0, self.quiet - 1)
+        self.patience -= 1
+        if self.is_full and self.patience == 0:
+            self.disk.fill(0)
         before = accounts(self.port, self.batches[-3:]) if self.is_full else []
         reply = super().once(sent)
         whole = parts(reply)
@@ -156,7 +161,7 @@ def run(program: str, disk: Disk, rounds: int, seed: str) -> None:
 
 
 def work(program: str, shop: FullShop, rounds: int, seed: str) -> None:
-    office, machine = Office(shop, seed, 1, 60), Machine(shop, MACHINE, seed, 1_000_000)
+    office, machine = Office(shop, seed, 1, 2 * rounds), Machine(shop, MACHINE, seed, 1_000_000)
     while shop.rounds < rounds:
         office.work()
         for _ in range(5):

@@ -162,7 +162,8 @@ def told_times(answered: list[Answered]) -> str:
     slow = [one for one in answered if one.behind_slow]
     nearest = max((one.took / one.allowed for one in answered), default=0)
     text = f"{len(plain)} answered with none slow before them: median {statistics.median(plain) * 1e3:.0f} ms, longest {max(plain):.2f} s; "
-    return text + f"{len(slow)} behind slow ones, longest {max((one.took for one in slow), default=0):.2f} s; at most {nearest:.0%} of what was allowed"
+    longest = max((one.took for one in slow), default=0)
+    return text + f"{len(slow)} behind slow ones, longest {longest:.2f} s; at most {nearest:.0%} of what was allowed"
 
 
 def run(program: str, folder: pathlib.Path, connections: int, slow: int, patience: float, seed: str) -> None:

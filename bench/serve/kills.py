@@ -3,11 +3,11 @@
 
     python3 bench/serve/kills.py PROGRAM [--folder FOLDER] [--kills N] [--machines N] [--seed N]
 
-The server is killed by SIGKILL 200 times, one time in five while it starts. Everyone asks what wasn't answered again, by the same bytes. After each kill
-C's SQLite reads a copy of the file: it is whole, each reply that was given is kept there (but for those of released numbers, which are not), and nothing
-is kept that wasn't asked. So it is known too in which connection a request was decided whose reply was lost. In the end everything is asked once
-more, in the order in which it was decided, of a server on a new file that is never killed: each reply is the same byte by byte, and so are accounts,
-reports and the rows of all tables. SIGKILL loses nothing that the system was given to write, so this says nothing of a power cut."""
+The server is killed by SIGKILL 200 times, one time in five in its start or just behind it. Everyone asks what wasn't answered again, by the same bytes.
+After each kill C's SQLite reads a copy of the file: it is whole, each reply that was given is kept there (but for those of released numbers, which are
+not), and nothing is kept that wasn't asked. So it is known too in which connection a request was decided whose reply was lost. In the end everything is
+asked once more, in the order in which it was decided, of a server on a new file that is never killed: each reply is the same byte by byte, and so are
+accounts, reports and the rows of all tables. SIGKILL loses nothing that the system was given to write, so this says nothing of a power cut."""
 import argparse
 import pathlib
 import random
@@ -45,7 +45,7 @@ def asked(sent: Sent) -> bytes:
 
 
 def check_kept(database: pathlib.Path, all_sent: list[Sent], others: str = "") -> int:
-    """What was told is in the file, and what is in the file was asked, or by a client who asked beside them. Answers how many replies were lost."""
+    """What was told is in the file, and what is in the file was asked, but by a client who asked beside them. Answers how many replies were lost."""
     given = [(sent, sent.reply) for sent in all_sent if sent.is_first]
     kept, marks = looked(database, kept_rows)
     asks = {(sent.client, sent.number): asked(sent) for sent, _ in given}
@@ -101,7 +101,8 @@ def run(program: str, folder: pathlib.Path, kills: int, machines: int, seed: str
     check_same(program, server, folder / "killed.db", shop, folder)
     check_kept(folder / "killed.db", shop.sent)
     print(", ".join(f"{count} {name}" for name, count in counts.items()))
-    print(f"{len(shop.sent)} asked in {shop.turns} connections, {sum(maker.good for maker in makers)} good cards; the same as without a kill, seed {seed}")
+    good = sum(maker.good for maker in makers)
+    print(f"{len(shop.sent)} asked in {shop.turns} connections, {good} good cards; the same as without a kill, seed {seed}")
 
 
 def main() -> None:

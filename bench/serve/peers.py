@@ -10,7 +10,9 @@ EVIL = "evil"
 MOST_HEAD = 8192
 MOST_FILE = 16_777_216
 STATUSES = 200, 400, 404, 405, 409, 413, 431
-BAD, NO_ROUTE, TOO_LARGE, HEAD = fixed_reply(400, "malformed"), fixed_reply(404, "no-route"), fixed_reply(413, "too-large"), fixed_reply(431, "head-too-large")
+BAD, NO_ROUTE = fixed_reply(400, "malformed"), fixed_reply(404, "no-route")
+TOO_LARGE, HEAD = fixed_reply(413, "too-large"), fixed_reply(431, "head-too-large")
+UNKNOWN = reply_bytes(409, b'{"code":63,"refused":"session-unknown"}')
 DROP = 0.5
 
 
@@ -45,8 +47,9 @@ def lines(draw: random.Random) -> Peer:
 def lengths(draw: random.Random) -> Peer:
     """A length that is none, or too large, or two."""
     length, wanted = draw.choice((
-        (b"Content-Length: 16777217", TOO_LARGE), (b"Content-Length: " + b"9" * draw.randint(9, 1000), TOO_LARGE), (b"Content-Length: -1", BAD),
-        (b"Content-Length: 1e3", BAD), (b"Content-Length: 5\r\nContent-Length: 5", BAD), (b"Transfer-Encoding: chunked", BAD), (b"Content-Length:", BAD),
+        (b"Content-Length: 16777217", TOO_LARGE), (b"Content-Length: " + b"9" * draw.randint(9, 1000), TOO_LARGE),
+        (b"Content-Length: -1", BAD), (b"Content-Length: 1e3", BAD), (b"Content-Length: 5\r\nContent-Length: 5", BAD),
+        (b"Transfer-Encoding: chunked", BAD), (b"Content-Length:", BAD),
     ))
     return Peer("lengths", b"POST /c/evil/1 HTTP/1.1\r\n" + length + b"\r\n\r\n", wanted)
 
@@ -90,7 +93,7 @@ def protocols(draw: random.Random) -> Peer:
 
 def refused(draw: random.Random) -> Peer:
     """A request that is right, and refused; it is kept, under a number that may have come before."""
-    return Peer("refused", request(EVIL, draw.randint(1, 50), do="abort", session=999_999_999), reply_bytes(409, b'{"code":63,"refused":"session-unknown"}'))
+    return Peer("refused", request(EVIL, draw.randint(1, 50), do="abort", session=999_999_999), UNKNOWN)
 
 
 def short(draw: random.Random) -> Peer:

@@ -189,8 +189,8 @@ class Machine(Client):
 
 
 class Office(Client):
-    """Makes products and lots known, imports batches (one in ten as large as may be), remakes or withdraws what failed, discards blanks, closes what is
-    done."""
+    """Makes products and lots known, imports batches, one in ten of them as large as may be, remakes or withdraws what failed, discards blanks, closes
+    what is done."""
 
     def __init__(self, shop: Shop, seed: str, machines: int, batches: int) -> None:
         super().__init__(shop, "office", seed)

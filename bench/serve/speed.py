@@ -1,14 +1,14 @@
 #!/usr/bin/env python3
 """Measures how many requests `persod serve` answers in a second, and how long one takes, beside a plain server in C on the same disk.
 
-    python3 bench/serve/speed.py PROGRAM YARDSTICK [--folder FOLDER] [--few N] [--many N] [--chunks N]
+    python3 bench/serve/speed.py PROGRAM YARDSTICK [--folder FOLDER] [--few N] [--many N] [--chunks N] [--cards N]
 
-1, 4 and 20 machines open and answer whole cards of bench/make_batch.py over loopback, each message on a connection of its own, each commit synced to
-the disk of FOLDER. YARDSTICK is yardstick.c, which keeps each message in one small transaction of C's SQLite. Both serve the same messages, in turns,
-in chunks of a thousand; a median of chunks is told, and beside it the middle and the slowest hundredth of all single times. This is done on files that
-hold 1,000 and 100,000 requests, which were asked before, of the same server on a disk in memory; the rate of that is told too. Then the start on a file of 100,352 good
-cards with a kept reply for each, made by plain SQL, beside `PRAGMA integrity_check` and `foreign_key_check` by C's SQLite, and on the file of 100,000
-requests. Peak memory is the highest resident size."""
+1, 4 and 20 machines open and answer whole cards of bench/make_batch.py, N to a batch, over loopback, each message on a connection of its own, each
+commit synced to the disk of FOLDER. YARDSTICK is yardstick.c, which keeps each message in one small transaction of C's SQLite. Both serve the same
+messages, in turns, in chunks of a thousand; a median of chunks is told, the middle and the slowest hundredth of all single times, and the processor's
+time of a request. This is done on files that hold 1,000 and 100,000 requests, which were asked before, of the same server on a disk in memory; the rate
+of that is told too. First comes the start on a file of 100,352 good cards with a kept reply for each, made by plain SQL, beside `PRAGMA
+integrity_check` and `foreign_key_check` by C's SQLite. Peak memory is the highest resident size."""
 import argparse
 import json
 import os
@@ -32,8 +32,8 @@ from make_batch import card  # noqa: E402
 from sound_files import make  # noqa: E402
 
 MACHINES = 1, 4, 20
-CARDS = 200
 STEP = 1_000
+LEAST = 10
 LOT = 1_000_000
 MEMORY = "/dev/shm"
 Maker = Generator[bytes, Any, None]
@@ -57,8 +57,9 @@ class Yardstick(Server):
 class Shop:
     """A server with its machines, each of which goes on with its card from chunk to chunk."""
 
-    def __init__(self, server: Server) -> None:
-        self.server, self.draw, self.batches, self.number = server, random.Random(1), 0, 1
+    def __init__(self, server: Server, cards: int) -> None:
+        self.server, self.cards, self.draw, self.batches, self.number = server, cards, random.Random(1), 0, 1
+        self.lock, self.opened, self.size = threading.Lock(), 0, 0
         self.makers = [self.maker(f"m{place}", place * LOT) for place in range(max(MACHINES))]
         self.told: list[Any] = [None] * len(self.makers)
 
@@ -73,20 +74,31 @@ class Shop:
         for place in range(len(self.makers)):
             self.ask(request("office", self.number, do="lot", lot=f"L{place}", product="P1", first=place * LOT, count=LOT))
 
+    def ready(self) -> None:
+        """Imports batches until there are cards enough for a chunk."""
+        while self.batches * self.cards < self.opened + STEP // LEAST + len(self.makers):
+            self.size = self.bring()
+
     def bring(self) -> int:
         """Imports a batch, and answers how many bytes it has."""
         self.batches += 1
-        lines = [line for place in range(CARDS) for line in card(self.draw, f"R{place}", 1)]
+        lines = [line for place in range(self.cards) for line in card(self.draw, f"R{place}", 1)]
         raw = "\n".join(["record,aid,rank,enc,tol,dgi", *lines, ""]).encode()
         self.ask(imported("office", self.number, f"B{self.batches}", "P1", raw))
         return len(raw)
+
+    def next_batch(self) -> str:
+        """The batch of the next card: each has a place for one. Batches are taken in the order in which they came."""
+        with self.lock:
+            self.opened += 1
+            return f"B{1 + (self.opened - 1) // self.cards}"
 
     def maker(self, name: str, blank: int) -> Maker:
         """A machine: its next message for each reply."""
         number = 0
         while True:
             number, blank = number + 1, blank + 1
-            told = yield request(name, number, do="open", batch=f"B{self.batches}", blank=blank)
+            told = yield request(name, number, do="open", batch=self.next_batch(), blank=blank)
             while told["result"] == "command":
                 number += 1
                 told = yield request(name, number, do="answer", session=told["session"], index=told["index"], sw="9000")
@@ -164,7 +176,7 @@ def measure(name: str, shop: Shop, plain: Server, chunks: int) -> None:
     for machines in MACHINES:
         pairs = []
         for _ in range(chunks):
-            shop.bring()
+            shop.ready()
             chunk, asked = ours(shop, machines, STEP)
             pairs.append((chunk, theirs(plain, asked)))
         mine, its = [pair[0] for pair in pairs], [pair[1] for pair in pairs]
@@ -190,23 +202,24 @@ def size_of(database: pathlib.Path) -> str:
     return " + ".join(f"{size:.0f}" for size in sizes) + " MiB"
 
 
-def filled(program: str, count: int, memory: pathlib.Path) -> Shop:
+def filled(program: str, count: int, cards: int, memory: pathlib.Path) -> Shop:
     """A shop that was asked so many requests on a disk in memory; its server is killed."""
-    shop = Shop(Server(program, memory / "shop.db", free_port()))
+    shop = Shop(Server(program, memory / "shop.db", free_port()), cards)
     shop.stock()
     rates = []
     for _ in range(0, count, STEP):
-        size = shop.bring()
+        shop.ready()
         rates.append(ours(shop, max(MACHINES), STEP)[0].rate)
     ends = f"{rates[0]:.0f} a second the first {STEP}, {rates[-1]:.0f} the last"
-    print(f"{count} requests on a disk in memory: {ends}; {shop.batches} batches of {size} bytes; peak {shop.server.peak() >> 20} MiB", flush=True)
+    peak = f"{shop.batches} batches of {shop.size} bytes; peak {shop.server.peak() >> 20} MiB"
+    print(f"{count} requests on a disk in memory: {ends}; {peak}", flush=True)
     shop.server.kill()
     return shop
 
 
-def over_file(program: str, yardstick: str, folder: pathlib.Path, count: int, chunks: int) -> None:
+def over_file(program: str, yardstick: str, folder: pathlib.Path, count: int, cards: int, chunks: int) -> None:
     with tempfile.TemporaryDirectory(dir=MEMORY) as memory:
-        shop = filled(program, count, pathlib.Path(memory))
+        shop = filled(program, count, cards, pathlib.Path(memory))
         database = moved(pathlib.Path(memory), folder / f"{count}.db")
     shop.server = Server(program, database, free_port(), wait=False)
     print(f"start on the file of {count} requests, {size_of(database)}: {shop.server.listen():.2f} s, peak {shop.server.peak() >> 20} MiB", flush=True)
@@ -229,7 +242,8 @@ def start_on_sessions(program: str, folder: pathlib.Path) -> None:
     server = Server(program, database, free_port(), wait=False)
     took = server.listen()
     cost, peak = server.processor(), server.peak() >> 20
-    print(f"start on 100,352 sessions, {size_of(database)}: {took:.2f} s, {cost:.2f} s of the processor, {cost / tested:.1f} times sqlite3's tests; peak {peak} MiB")
+    times = f"{took:.2f} s, {cost:.2f} s of the processor, {cost / tested:.1f} times sqlite3's tests"
+    print(f"start on 100,352 sessions, {size_of(database)}: {times}; peak {peak} MiB", flush=True)
     server.kill()
 
 
@@ -241,14 +255,16 @@ def main() -> None:
     words.add_argument("--few", type=int, default=1_000)
     words.add_argument("--many", type=int, default=100_000)
     words.add_argument("--chunks", type=int, default=5)
+    words.add_argument("--cards", type=int, default=200)
     given = words.parse_args()
     print(f"load of the machine {', '.join(f'{load:.1f}' for load in os.getloadavg())}, {os.cpu_count()} processors")
-    columns = f"{'requests':>10}{'machines':>9}{'ours/s':>9}{'p50 ms':>8}{'p99':>8}{'cpu ms':>8}{'plain/s':>9}{'p50 ms':>8}{'p99':>8}{'cpu ms':>8}{'ratio':>7}"
+    side = f"{'p50 ms':>8}{'p99':>8}{'cpu ms':>8}"
+    columns = f"{'requests':>10}{'machines':>9}{'ours/s':>9}{side}{'plain/s':>9}{side}{'ratio':>7}"
     with tempfile.TemporaryDirectory(dir=given.folder) as folder:
         start_on_sessions(given.program, pathlib.Path(folder))
         for count in (given.few, given.many):
             print(columns, flush=True)
-            over_file(given.program, given.yardstick, pathlib.Path(folder), count, given.chunks)
+            over_file(given.program, given.yardstick, pathlib.Path(folder), count, given.cards, given.chunks)
     print(f"load of the machine {', '.join(f'{load:.1f}' for load in os.getloadavg())}")
 
 
