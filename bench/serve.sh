@@ -1,7 +1,8 @@
 #!/usr/bin/env bash
 # Proves and builds persod, and runs it in a script of bench/serve: exchanges, kills, full_disk, hostile or speed, with the words that follow, as in
 # bench/serve.sh kills --folder /var/tmp
-# Where PERSOD names a program, that one is run, and nothing is built.
+# exchanges needs curl, full_disk a root who may mount, speed a C compiler with SQLite's library. Where PERSOD names a program, that one is run, and
+# nothing is built.
 set -eu
 cd "$(dirname "$0")"
 what=${1:?exchanges, kills, full_disk, hostile or speed}
