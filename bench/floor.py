@@ -12,7 +12,6 @@ out, or put in again. An office asks in the same way for what failed to be remad
 Threads take turns as they like, so two runs by one seed aren't the same, but each message has the same fate.
 """
 import argparse
-import http.client
 import json
 import pathlib
 import random
@@ -121,6 +120,20 @@ def length_of(head: bytes) -> int:
     return next((int(value) for name, _, value in lines if name == b"content-length"), 0)
 
 
+def exchanged(port: int, message: bytes) -> bytes:
+    """What is answered: nothing where nobody is there, and a beginning where it is cut."""
+    reply = b""
+    try:
+        with socket.create_connection(("127.0.0.1", port), timeout=60) as link:
+            link.sendall(message)
+            link.shutdown(socket.SHUT_WR)
+            while piece := link.recv(65_536):
+                reply += piece
+    except OSError:
+        pass
+    return reply
+
+
 class Network(threading.Thread):
     """Takes each message on a connection of its own, and does with it what the seed says."""
 
@@ -158,31 +171,18 @@ class Network(threading.Thread):
         if fate == "lost":
             return b""
         if fate == "late":
-            self.after(draw.uniform(0.05, 5), lambda: self.relay(message))
+            self.after(draw.uniform(0.05, 5), lambda: exchanged(self.floor.port, message))
             return b""
         if fate == "late again":
-            self.after(draw.uniform(0.05, 5), lambda: self.relay(message))
+            self.after(draw.uniform(0.05, 5), lambda: exchanged(self.floor.port, message))
         if fate == "twice":
-            self.relay(message)
+            exchanged(self.floor.port, message)
         if fate == "slow":
             time.sleep(draw.uniform(0.05, 0.5))
-        reply = self.relay(message[: draw.randrange(len(message))] if fate == "cut" else message)
+        reply = exchanged(self.floor.port, message[: draw.randrange(len(message))] if fate == "cut" else message)
         if fate == "reply cut":
             return reply[: draw.randrange(len(reply) + 1)]
         return b"" if fate == "reply lost" else reply
-
-    def relay(self, message: bytes) -> bytes:
-        """What the server answers: nothing where it isn't there, and a beginning where it is killed."""
-        reply = b""
-        try:
-            with socket.create_connection(("127.0.0.1", self.floor.port), timeout=60) as link:
-                link.sendall(message)
-                link.shutdown(socket.SHUT_WR)
-                while piece := link.recv(65_536):
-                    reply += piece
-        except OSError:
-            pass
-        return reply
 
     def after(self, seconds: float, task) -> None:
         timer = threading.Timer(seconds, task)
@@ -224,14 +224,10 @@ class Office:
         sys.exit("the office got no reply")
 
     def one_try(self, message: bytes) -> tuple[int, str] | None:
-        try:
-            with socket.create_connection(("127.0.0.1", self.port), timeout=60) as link:
-                link.sendall(message)
-                answer = http.client.HTTPResponse(link)
-                answer.begin()
-                return answer.status, answer.read().decode()
-        except (OSError, http.client.HTTPException):
-            return None
+        head, _, body = exchanged(self.port, message).partition(b"\r\n\r\n")
+        if body and len(body) == length_of(head):
+            return int(head.split(b" ")[1]), body.decode()
+        return None
 
 
 def stock(floor: Floor, office: Office, batch: str) -> None:

@@ -48,7 +48,9 @@ impl<'a, R: Net + Clock> Port<'a, R> {
     fn ask(&self, message: &[u8]) -> Result<Option<Vec<u8>>, ReadFault> {
         let begun = Instant::now(self.rt)?;
         let place = SocketAddr::V4(SocketAddrV4::new(Ipv4Addr::LOCALHOST, self.port));
-        let stream = self.rt.connect_timeout(place, Duration::from_secs(MOST_TIME))?;
+        let stream = self
+            .rt
+            .connect_timeout(place, Duration::from_secs(MOST_TIME))?;
         let rt = self.rt;
         let mut peer = Peer { rt, stream, begun };
         if write_text(&mut peer, message).is_err() {
