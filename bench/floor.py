@@ -170,11 +170,10 @@ class Network(threading.Thread):
             self.after(draw.uniform(0, 0.02), self.server.kill)
         if fate == "lost":
             return b""
+        if fate in ("late", "late again"):
+            self.after(draw.uniform(0.05, 5), lambda: self.arrive_late(message))
         if fate == "late":
-            self.after(draw.uniform(0.05, 5), lambda: exchanged(self.floor.port, message))
             return b""
-        if fate == "late again":
-            self.after(draw.uniform(0.05, 5), lambda: exchanged(self.floor.port, message))
         if fate == "twice":
             exchanged(self.floor.port, message)
         if fate == "slow":
@@ -183,6 +182,10 @@ class Network(threading.Thread):
         if fate == "reply cut":
             return reply[: draw.randrange(len(reply) + 1)]
         return b"" if fate == "reply lost" else reply
+
+    def arrive_late(self, message: bytes) -> None:
+        if b'"number-released"' in exchanged(self.floor.port, message):
+            self.floor.count("late messages whose number was released")
 
     def after(self, seconds: float, task) -> None:
         timer = threading.Timer(seconds, task)
