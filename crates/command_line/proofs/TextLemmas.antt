@@ -67,7 +67,7 @@ pub report_no_batch : (rows : List Row) → ((t : Text) → first_of (codes "bat
 report_no_batch rows none (Plan max low check) range reads = reads
 report_no_batch rows none Drill range reads = reads
 report_no_batch rows none (Serve db port turns) range reads = reads
-report_no_batch rows none (Report db batch) range reads = none batch reads.1
+report_no_batch rows none (Report db batch) range reads = none batch reads.1.0
 report_no_batch rows none (Feed port machine boot batch) range reads = reads
 
 pub feed_no_port : (rows : List Row) → ((n : ℕ) → 1 ≤ n → n ≤ 65535 → IsNumber (codes "port") rows n → ⊥) → ReadsNone (ReadsFeed rows)
@@ -96,7 +96,7 @@ feed_no_batch rows none (Plan max low check) range reads = reads
 feed_no_batch rows none Drill range reads = reads
 feed_no_batch rows none (Serve db port turns) range reads = reads
 feed_no_batch rows none (Report db batch) range reads = reads
-feed_no_batch rows none (Feed port machine boot batch) range reads = none batch reads.3
+feed_no_batch rows none (Feed port machine boot batch) range reads = none batch reads.3.0
 
 -- ---- an option that has no name
 

@@ -61,12 +61,20 @@ text_needed name = record (new_rule name) { long = Some name; value_names = 1; r
 abbrev pub number_needed : Text → ValueParser → Rule
 number_needed name parser = record (text_needed name) { parser = Some parser }
 
+-- `--port N`, a port
+abbrev pub port_needed : Rule
+port_needed = number_needed (codes "port") (numbers 1 65535)
+
+-- `--boot N`, a machine's boot
+abbrev pub boot_needed : Rule
+boot_needed = number_needed (codes "boot") (Unsigned 1 9999999999)
+
 -- `serve --db PATH --port N --turns N`
 abbrev pub serve_command : App
 serve_command =
     with_rule (with_rule (with_rule (new_app (codes "serve"))
     (text_needed (codes "db")))
-    (number_needed (codes "port") (numbers 1 65535)))
+    port_needed)
     (number_needed (codes "turns") (numbers 1 1000000))
 
 -- `report --db PATH --batch NAME`
@@ -80,9 +88,9 @@ report_command =
 abbrev pub feed_command : App
 feed_command =
     with_rule (with_rule (with_rule (with_rule (new_app (codes "feed"))
-    (number_needed (codes "port") (numbers 1 65535)))
+    port_needed)
     (text_needed (codes "machine")))
-    (number_needed (codes "boot") (Unsigned 1 9999999999)))
+    boot_needed)
     (text_needed (codes "batch"))
 
 -- the command of these subcommands, one of which has to be named

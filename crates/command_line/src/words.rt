@@ -8,7 +8,7 @@ ghost use Rattle.command_line.specs.Words.{InRange, IsNumber, IsRefusal, IsRefus
 ghost use Rattle.command_line.specs.Words.{ReadsAs, ReadsNot, ReadsPlan, ReadsReport, ReadsServe};
 ghost use Rattle.command_line.specs.Words.{FeedsNot, HasName, NamesNot, ReadsFeed, ReportsNot};
 ghost use Rattle.command_line.specs.Words.{ServesNot, UsesStreams, drill_command, feed_command};
-ghost use Rattle.command_line.specs.Words.{flag, number_option};
+ghost use Rattle.command_line.specs.Words.{boot_needed, flag, number_option, port_needed};
 ghost use Rattle.command_line.specs.Words.{plan_command, program, report_command, serve_command};
 ghost use Rattle.command_line.specs.Words.{text_needed, number_needed};
 ghost use Rattle.command_line.specs.declared.words.WordsFault.TheVariants.{Memory};
@@ -187,9 +187,7 @@ fn serve_command<'a>(alloc: Global) -> Result<Command<'a>, AllocError>
     let db = text_needed(alloc, "db", "PATH").help(
         "The file that holds everything; a new one is made where there is none",
     );
-    let port = number_needed(alloc, "port", value_parser!(u16).range(1..=65_535)).help(
-        "The port of 127.0.0.1, 1 to 65535",
-    );
+    let port = port_needed(alloc).help("The port of 127.0.0.1, 1 to 65535");
     let turns = number_needed(alloc, "turns", value_parser!(u32).range(1..=1_000_000)).help(
         "How many connections are served before it ends, 1 to 1000000",
     );
@@ -214,11 +212,9 @@ fn report_command<'a>(alloc: Global) -> Result<Command<'a>, AllocError>
 fn feed_command<'a>(alloc: Global) -> Result<Command<'a>, AllocError>
     ensures { IfOk result (λ c. (app_of c ≡ feed_command) × ((fields_of c).has_globals ≡ false)) }
 {
-    let port = number_needed(alloc, "port", value_parser!(u16).range(1..=65_535)).help(
-        "The server's port of 127.0.0.1, 1 to 65535",
-    );
+    let port = port_needed(alloc).help("The server's port of 127.0.0.1, 1 to 65535");
     let machine = text_needed(alloc, "machine", "NAME").help("The machine");
-    let boot = number_needed(alloc, "boot", value_parser!(u64).range(1..=9_999_999_999)).help(
+    let boot = boot_needed(alloc).help(
         "A number that the machine never started with before, 1 to 9999999999",
     );
     let batch = text_needed(alloc, "batch", "NAME").help("The batch");
@@ -228,6 +224,22 @@ fn feed_command<'a>(alloc: Global) -> Result<Command<'a>, AllocError>
         .arg(machine)?
         .arg(boot)?
         .arg(batch)
+}
+
+// `--port N`, a port.
+fn port_needed<'a>(alloc: Global) -> Arg<'a>
+    ensures rule { rule_of result ≡ port_needed }
+    ensures own { result.global ≡ false }
+{
+    number_needed(alloc, "port", value_parser!(u16).range(1..=65_535))
+}
+
+// `--boot N`, a machine's boot.
+fn boot_needed<'a>(alloc: Global) -> Arg<'a>
+    ensures rule { rule_of result ≡ boot_needed }
+    ensures own { result.global ≡ false }
+{
+    number_needed(alloc, "boot", ValueParser::unsigned(1, 9_999_999_999))
 }
 
 // `--name WORD`, which has to be given.

@@ -1,25 +1,18 @@
 use Rattle.std.proofs.Common.{rules, ◌≡◌, ◌∙◌, false, codes, ap}
 use Rattle.clap.specs.Words.{new_app, rule_of}
 use Rattle.clap.specs.declared.builder.arg.Arg.{Arg}
-use Rattle.clap.specs.declared.builder.value_parser.ValueParser.TheVariants.{Unsigned}
-use Rattle.command_line.specs.Words.{number_needed, numbers, text_needed}
+use Rattle.command_line.specs.Words.{boot_needed, port_needed, text_needed}
 use Rattle.command_line.proofs.CommandLemmas.{IsSo, last, more}
 use Rattle.command_line.proofs.words.feed_command.Goals as goal
 
 pub returns : goal.returns
 returns c =
-    let to_65535 : c.range.result ≡ numbers 1 65535 = search rules in
-    let to_9999999999 : c.range-2.result ≡ Unsigned 1 9999999999 = search rules in
-    let port : (rule_of c.help-port.result ≡ number_needed (codes "port") (numbers 1 65535)) × (c.help-port.result.global ≡ false) = (
-      ap rule_of c.help-port.ensures ∙ c.number_needed.ensures.rule ∙ ap (number_needed (codes "port")) to_65535,
-      ap (λ (a : Arg). a.global) c.help-port.ensures ∙ c.number_needed.ensures.own,
-    ) in
+    let port : (rule_of c.help-port.result ≡ port_needed) × (c.help-port.result.global ≡ false) =
+    (ap rule_of c.help-port.ensures ∙ c.port_needed.ensures.rule, ap (λ (a : Arg). a.global) c.help-port.ensures ∙ c.port_needed.ensures.own) in
     let machine : (rule_of c.help-machine.result ≡ text_needed (codes "machine")) × (c.help-machine.result.global ≡ false) =
     (ap rule_of c.help-machine.ensures ∙ c.text_needed.ensures.rule, ap (λ (a : Arg). a.global) c.help-machine.ensures ∙ c.text_needed.ensures.own) in
-    let boot : (rule_of c.help-boot.result ≡ number_needed (codes "boot") (Unsigned 1 9999999999)) × (c.help-boot.result.global ≡ false) = (
-      ap rule_of c.help-boot.ensures ∙ c.number_needed-2.ensures.rule ∙ ap (number_needed (codes "boot")) to_9999999999,
-      ap (λ (a : Arg). a.global) c.help-boot.ensures ∙ c.number_needed-2.ensures.own,
-    ) in
+    let boot : (rule_of c.help-boot.result ≡ boot_needed) × (c.help-boot.result.global ≡ false) =
+    (ap rule_of c.help-boot.ensures ∙ c.boot_needed.ensures.rule, ap (λ (a : Arg). a.global) c.help-boot.ensures ∙ c.boot_needed.ensures.own) in
     let batch : (rule_of c.help-batch.result ≡ text_needed (codes "batch")) × (c.help-batch.result.global ≡ false) =
     (ap rule_of c.help-batch.ensures ∙ c.text_needed-2.ensures.rule, ap (λ (a : Arg). a.global) c.help-batch.ensures ∙ c.text_needed-2.ensures.own) in
     let start : IsSo (new_app (codes "feed")) c.about.result = (search rules, search rules) in

@@ -1,4 +1,5 @@
 use Rattle.std.proofs.Common.{rules, ◌≡◌, ◌∙◌, None, Some, sym, ap, codes}
+use Rattle.std.proofs.lemmas.Result.{err_from_is_err_and}
 use Rattle.clap.specs.Words.{found_of, rows_of}
 use Rattle.command_line.proofs.TextLemmas.{no_text, report_no_db, reports_not, text_read}
 use Rattle.command_line.proofs.words.report_of.Goals as goal
@@ -11,7 +12,8 @@ returns-in_default-clause-unread c =
 
 pub returns-in_err-batch-clause-unread : goal.returns-in_err-batch-clause-unread
 returns-in_err-batch-clause-unread c =
-    reports_not (rows_of (found_of c.args.values.now)) _ c.in_err-batch.ensures.unread
+    let p = err_from_is_err_and c.from_residual.result c.from_residual.ensures.1 in
+    rw (p.1, p.2) (reports_not (rows_of (found_of c.args.values.now)) c.in_err-batch.field-0.0 c.in_err-batch.ensures.unread)
 
 pub returns-clause-values : goal.returns-clause-values
 returns-clause-values c =
