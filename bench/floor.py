@@ -105,14 +105,14 @@ class Server(threading.Thread):
 
 
 def read_message(link: socket.socket) -> bytes:
-    """A message, as long as its head says, or what came of it."""
+    """A message, as long as its head says, or nothing where it doesn't come whole."""
     text = b""
     while piece := link.recv(65_536):
         text += piece
         head, end, body = text.partition(b"\r\n\r\n")
         if end and len(body) >= length_of(head):
-            break
-    return text
+            return text
+    return b""
 
 
 def length_of(head: bytes) -> int:
@@ -154,8 +154,8 @@ class Network(threading.Thread):
         with link:
             try:
                 message = read_message(link)
-                if reply := self.reply_to(message):
-                    link.sendall(reply)
+                reply = self.reply_to(message) if message else b""
+                link.sendall(reply)
             except OSError:
                 pass
 
