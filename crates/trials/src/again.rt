@@ -3,7 +3,6 @@ use batch_import::ImportFault;
 use command_line::WordsFault;
 use dgi::DgiFault;
 use drill::DrillStop;
-use feeding::FeedStop;
 use job_core::StoreFault;
 use plan_print::PlanStop;
 use reports::AccountFault;
@@ -68,12 +67,6 @@ impl MayWantMemory for NextFault {
 impl MayWantMemory for DrillStop {
     fn is_memory(&self) -> bool {
         *self == DrillStop::Memory
-    }
-}
-
-impl MayWantMemory for FeedStop {
-    fn is_memory(&self) -> bool {
-        *self == FeedStop::Memory
     }
 }
 

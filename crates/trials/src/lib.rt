@@ -14,8 +14,6 @@ mod failing_writers;
 #[cfg(test)]
 mod faults;
 #[cfg(test)]
-mod feeds;
-#[cfg(test)]
 mod memory;
 #[cfg(test)]
 mod programs;

@@ -65,60 +65,9 @@ fn a_file_a_port_and_turns_are_read(rt: HostRuntime) {
 }
 
 #[test]
-fn a_machine_and_its_boot_are_read(rt: HostRuntime) {
-    let alloc = rt.alloc();
-    let words = &[
-        "persod",
-        "feed",
-        "--port",
-        "1",
-        "--machine",
-        "m_1",
-        "--boot",
-        "9999999999",
-        "--batch",
-        "B-1",
-    ];
-    match read_at_last(alloc, words) {
-        Ok(
-            Words::Feed {
-                port,
-                machine,
-                boot,
-                batch,
-            },
-        ) => {
-            assert_eq!(rt; port, 1);
-            assert_eq!(rt; machine.bytes(), b"m_1".as_slice());
-            assert_eq!(rt; boot, 9_999_999_999);
-            assert_eq!(rt; batch.bytes(), b"B-1".as_slice());
-        }
-        other => assert!(rt; false, "{other:?}"),
-    }
-    for (machine, batch) in [("m.1", "B1"), ("m1", ""), ("m1", "B 1")] {
-        let words = &[
-            "persod",
-            "feed",
-            "--port",
-            "1",
-            "--machine",
-            machine,
-            "--boot",
-            "1",
-            "--batch",
-            batch,
-        ];
-        match read_at_last(alloc, words) {
-            Err(WordsFault::BadName) => (),
-            other => assert!(rt; false, "{machine}, {batch}: {other:?}"),
-        }
-    }
-}
-
-#[test]
 fn a_usage_fault_says_what_is_wrong(rt: HostRuntime) {
     let alloc = rt.alloc();
-    let cases: [(&[&str], &str); 34] = [
+    let cases: [(&[&str], &str); 26] = [
         (&["persod", "plan", "--max", "15"], "'15'"),
         (&["persod", "plan", "--max", "256"], "'256'"),
         (&["persod", "plan", "--max", "x"], "'x'"),
@@ -152,111 +101,6 @@ fn a_usage_fault_says_what_is_wrong(rt: HostRuntime) {
             "'1000001'",
         ),
         (&["persod", "report", "--db", "a"], "--batch"),
-        (
-            &[
-                "persod",
-                "feed",
-                "--machine",
-                "m1",
-                "--boot",
-                "1",
-                "--batch",
-                "B1",
-            ],
-            "--port",
-        ),
-        (
-            &[
-                "persod", "feed", "--port", "1", "--boot", "1", "--batch", "B1",
-            ],
-            "--machine",
-        ),
-        (
-            &[
-                "persod",
-                "feed",
-                "--port",
-                "1",
-                "--machine",
-                "m1",
-                "--batch",
-                "B1",
-            ],
-            "--boot",
-        ),
-        (
-            &[
-                "persod",
-                "feed",
-                "--port",
-                "1",
-                "--machine",
-                "m1",
-                "--boot",
-                "1",
-            ],
-            "--batch",
-        ),
-        (
-            &[
-                "persod",
-                "feed",
-                "--port",
-                "0",
-                "--machine",
-                "m1",
-                "--boot",
-                "1",
-                "--batch",
-                "B1",
-            ],
-            "'0'",
-        ),
-        (
-            &[
-                "persod",
-                "feed",
-                "--port",
-                "65536",
-                "--machine",
-                "m1",
-                "--boot",
-                "1",
-                "--batch",
-                "B1",
-            ],
-            "'65536'",
-        ),
-        (
-            &[
-                "persod",
-                "feed",
-                "--port",
-                "1",
-                "--machine",
-                "m1",
-                "--boot",
-                "0",
-                "--batch",
-                "B1",
-            ],
-            "'0'",
-        ),
-        (
-            &[
-                "persod",
-                "feed",
-                "--port",
-                "1",
-                "--machine",
-                "m1",
-                "--boot",
-                "10000000000",
-                "--batch",
-                "B1",
-            ],
-            "'10000000000'",
-        ),
         (&["persod", "print"], "print"),
         (&["persod"], "subcommand"),
         (&[], "subcommand"),
@@ -275,10 +119,7 @@ fn a_usage_fault_says_what_is_wrong(rt: HostRuntime) {
 fn help_names_the_subcommands_and_the_options(rt: HostRuntime) {
     let alloc = rt.alloc();
     let cases: [(&[&str], &[&str]); 6] = [
-        (
-            &["persod", "--help"],
-            &["plan", "drill", "serve", "report", "feed"],
-        ),
+        (&["persod", "--help"], &["plan", "drill", "serve", "report"]),
         (&["persod", "help"], &["plan", "drill", "--help"]),
         (&["persod", "drill", "--help"], &["persod drill", "--help"]),
         (&["persod", "help", "drill"], &["persod drill", "--help"]),
