@@ -12,6 +12,8 @@ use Rattle.told_lines.specs.declared.lines.ServeStop.{ServeStop}
 use Rattle.told_lines.specs.declared.lines.ServeStop.TheVariants as serve
 use Rattle.store_files.specs.declared.fault.FileFault.{FileFault}
 use Rattle.store_files.specs.declared.fault.FileFault.TheVariants as file
+use Rattle.feeding.specs.declared.engine.FeedStop.{FeedStop}
+use Rattle.feeding.specs.declared.engine.FeedStop.TheVariants as feed
 use Rattle.drill.specs.declared.DrillStop.{DrillStop}
 use Rattle.drill.specs.declared.DrillStop.TheVariants as drill
 use Rattle.command_line.specs.declared.end.End.{End}
@@ -39,8 +41,11 @@ exit_of end.NotOurs = record { status = 1; words = Some (told.Refused 81) }
 exit_of end.Damaged = record { status = 1; words = Some (told.Refused 82) }
 exit_of (end.NotReported why) =
     record { status = 1; words = Some (told.Refused (refusals.code_of why)) }
+exit_of end.BadCard = record { status = 1; words = Some (told.Refused 400) }
+exit_of end.Released = record { status = 1; words = Some (told.Refused 73) }
 exit_of end.Storage = record { status = 3; words = Some told.Storage }
 exit_of end.PortFailed = record { status = 3; words = Some told.Device }
+exit_of end.NoReply = record { status = 3; words = Some told.Device }
 exit_of end.ReadFailed = record { status = 3; words = Some told.Device }
 exit_of end.WriteFailed = record { status = 3; words = Some told.Device }
 exit_of end.Memory = record { status = 3; words = Some told.Memory }
@@ -103,6 +108,15 @@ abbrev pub end_of_account : AccountFault → End
 end_of_account (account.Refused why) = end.NotReported why
 end_of_account (account.Store fault) = end_of_store fault
 end_of_account account.Write = end.WriteFailed
+
+-- of `feed`
+abbrev pub end_of_feed_stop : FeedStop → End
+end_of_feed_stop feed.BadLine = end.BadCard
+end_of_feed_stop feed.Stale = end.Released
+end_of_feed_stop feed.NoReply = end.NoReply
+end_of_feed_stop feed.ReadFailed = end.ReadFailed
+end_of_feed_stop feed.WriteFailed = end.WriteFailed
+end_of_feed_stop feed.Memory = end.Memory
 
 -- of words that give no subcommand, by whether what they are told was written
 abbrev pub told_end : WordsFault → Bool → End

@@ -10,7 +10,7 @@ use Rattle.command_line.specs.Ends.{end_of_drill, end_of_plan}
 use Rattle.command_line.specs.declared.end.End.{End}
 use Rattle.command_line.specs.declared.end.End.TheVariants.{Done, BadLine}
 use Rattle.command_line.specs.declared.words.Words.{Words}
-use Rattle.command_line.specs.declared.words.Words.TheVariants.{Plan, Drill, Serve, Report}
+use Rattle.command_line.specs.declared.words.Words.TheVariants.{Plan, Drill, Serve, Report, Feed}
 
 -- the product that the values of `plan` stand for, by the name `plan`
 abbrev pub product_of : ℕ → ℕ → Bool → Product
@@ -34,6 +34,7 @@ Runs (Plan max low check) known before after end =
 Runs Drill known before after end = DrillRuns known before after end
 Runs (Serve db port turns) known before after end = ⊥
 Runs (Report db batch) known before after end = ⊥
+Runs (Feed port machine boot batch) known before after end = ⊥
 
 -- the ends at which the whole text was printed
 abbrev pub IsPrinted : End → Type 0

@@ -1,12 +1,13 @@
 //! How the program ends: what a run came to, its exit status, and its words on standard error.
 ghost use Rattle.std.specs.Prelude.{◌≡◌};
 ghost use Rattle.command_line.specs.Ends.{end_of_account, end_of_drill_stop, end_of_file};
-ghost use Rattle.command_line.specs.Ends.{end_of_plan_stop, end_of_serve_stop, end_of_store};
-ghost use Rattle.command_line.specs.Ends.{exit_of, told_end};
+ghost use Rattle.command_line.specs.Ends.{end_of_feed_stop, end_of_plan_stop, end_of_serve_stop};
+ghost use Rattle.command_line.specs.Ends.{end_of_store, exit_of, told_end};
 
 use crate::words::WordsFault;
 use batch_import::RowFault;
 use drill::DrillStop;
+use feeding::FeedStop;
 use job_core::{Refusal, StoreFault};
 use plan_print::PlanStop;
 use reports::AccountFault;
@@ -36,8 +37,14 @@ pub enum End {
     Damaged,
     /// There is no report, for this reason.
     NotReported(Refusal),
+    /// A line of a feed has no form of a card's.
+    BadCard,
+    /// A later boot of the machine has released its numbers.
+    Released,
     /// The store's file failed, or is full.
     Storage,
+    /// Ten tries in a row brought no reply that changed anything.
+    NoReply,
     /// The port can't be had, or no connection to it.
     PortFailed,
     /// A read failed.
@@ -119,6 +126,21 @@ impl From<AccountFault> for End {
             AccountFault::Refused(why) => End::NotReported(why),
             AccountFault::Store(fault) => End::from(fault),
             AccountFault::Write => End::WriteFailed,
+        }
+    }
+}
+
+impl From<FeedStop> for End {
+    ghost from_gives = { λ stop end. end ≡ end_of_feed_stop stop };
+
+    fn from(stop: FeedStop) -> End {
+        match stop {
+            FeedStop::BadLine => End::BadCard,
+            FeedStop::Stale => End::Released,
+            FeedStop::NoReply => End::NoReply,
+            FeedStop::ReadFailed => End::ReadFailed,
+            FeedStop::WriteFailed => End::WriteFailed,
+            FeedStop::Memory => End::Memory,
         }
     }
 }
@@ -207,8 +229,12 @@ pub fn exit_of(end: End) -> Exit
             let number = u16::from(why.code());
             (1, Some(Told::Refused { number }))
         }
+        End::BadCard => (1, Some(Told::Refused { number: 400 })),
+        End::Released => (1, Some(Told::Refused { number: 73 })),
         End::Storage => (3, Some(Told::Storage)),
-        End::PortFailed | End::ReadFailed | End::WriteFailed => (3, Some(Told::Device)),
+        End::NoReply | End::PortFailed | End::ReadFailed | End::WriteFailed => {
+            (3, Some(Told::Device))
+        }
         End::Memory => (3, Some(Told::Memory)),
     };
     Exit { status, words }

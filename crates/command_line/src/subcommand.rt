@@ -34,7 +34,7 @@ pub fn run<R: Read, W: Write + Drop>(
             run_plan(alloc, &product_of(max, low, check), reader, writer)
         }
         Words::Drill => run_drill(alloc, reader, writer),
-        Words::Serve { .. } | Words::Report { .. } => unreachable!(),
+        Words::Serve { .. } | Words::Report { .. } | Words::Feed { .. } => unreachable!(),
     }
 }
 

@@ -6,8 +6,9 @@ ghost use Rattle.clap.specs.declared.builder.command.Command.TheViews.{out-Comma
 ghost use Rattle.clap.specs.Words.{found_of, rows_of, subcommand_rows_of};
 ghost use Rattle.command_line.specs.Words.{InRange, IsNumber, IsRefusal, IsRefusedBy, Means};
 ghost use Rattle.command_line.specs.Words.{ReadsAs, ReadsNot, ReadsPlan, ReadsReport, ReadsServe};
-ghost use Rattle.command_line.specs.Words.{ReportsNot, ServesNot};
-ghost use Rattle.command_line.specs.Words.{UsesStreams, drill_command, flag, number_option};
+ghost use Rattle.command_line.specs.Words.{FeedsNot, HasName, NamesNot, ReadsFeed, ReportsNot};
+ghost use Rattle.command_line.specs.Words.{ServesNot, UsesStreams, drill_command, feed_command};
+ghost use Rattle.command_line.specs.Words.{boot_needed, flag, number_option, port_needed};
 ghost use Rattle.command_line.specs.Words.{plan_command, program, report_command, serve_command};
 ghost use Rattle.command_line.specs.Words.{text_needed, number_needed};
 ghost use Rattle.command_line.specs.declared.words.WordsFault.TheVariants.{Memory};
@@ -29,14 +30,33 @@ const OUT_OF_RANGE: &str = "error: a value is out of its range\n";
 pub enum Words {
     /// Prints the commands of a batch, with at most `max` bytes of data in each STORE DATA, 16 to
     /// 255, the product's number `low` in its P1, 0 to 31, and whether plain records are checked.
-    Plan { max: u8, low: u8, check: bool },
+    Plan {
+        max: u8,
+        low: u8,
+        check: bool,
+    },
     /// Serves a script of requests in memory. It has no options.
     Drill,
     /// Serves `turns` connections to `port` of 127.0.0.1, one after the other, over the file at the
     /// path `db`. A port is 1 to 65,535, and there are 1 to 1,000,000 turns.
-    Serve { db: String, port: u16, turns: u32 },
+    Serve {
+        db: String,
+        port: u16,
+        turns: u32,
+    },
     /// Prints the report of a batch in the file at the path `db`.
-    Report { db: String, batch: Name },
+    Report {
+        db: String,
+        batch: Name,
+    },
+    /// Feeds a machine, which starts with this boot, with cards for a batch, by a server at `port`
+    /// of 127.0.0.1, 1 to 65,535. A boot is 1 to 9,999,999,999.
+    Feed {
+        port: u16,
+        machine: Name,
+        boot: u64,
+        batch: Name,
+    },
 }
 
 impl fmt::Debug for Words {
@@ -46,6 +66,7 @@ impl fmt::Debug for Words {
             Words::Drill => "Drill",
             Words::Serve { .. } => "Serve",
             Words::Report { .. } => "Report",
+            Words::Feed { .. } => "Feed",
         })
     }
 }
@@ -68,7 +89,7 @@ pub enum WordsFault {
     Usage(String),
     /// A word isn't UTF-8: they are no use of the program.
     NotText,
-    /// What should be a batch's name isn't a name: they are no use of the program.
+    /// What should be a batch's or a machine's name isn't a name: they are no use of the program.
     BadName,
     /// Memory ran out.
     Memory,
@@ -129,7 +150,8 @@ fn program<'a>(alloc: Global) -> Result<Command<'a>, AllocError>
         .subcommand(plan_command(alloc)?)?
         .subcommand(drill_command(alloc))?
         .subcommand(serve_command(alloc)?)?
-        .subcommand(report_command(alloc)?)
+        .subcommand(report_command(alloc)?)?
+        .subcommand(feed_command(alloc)?)
 }
 
 fn plan_command<'a>(alloc: Global) -> Result<Command<'a>, AllocError>
@@ -165,9 +187,7 @@ fn serve_command<'a>(alloc: Global) -> Result<Command<'a>, AllocError>
     let db = text_needed(alloc, "db", "PATH").help(
         "The file that holds everything; a new one is made where there is none",
     );
-    let port = number_needed(alloc, "port", value_parser!(u16).range(1..=65_535)).help(
-        "The port of 127.0.0.1, 1 to 65535",
-    );
+    let port = port_needed(alloc).help("The port of 127.0.0.1, 1 to 65535");
     let turns = number_needed(alloc, "turns", value_parser!(u32).range(1..=1_000_000)).help(
         "How many connections are served before it ends, 1 to 1000000",
     );
@@ -187,6 +207,39 @@ fn report_command<'a>(alloc: Global) -> Result<Command<'a>, AllocError>
         .about("Prints the report of a batch")
         .arg(db)?
         .arg(batch)
+}
+
+fn feed_command<'a>(alloc: Global) -> Result<Command<'a>, AllocError>
+    ensures { IfOk result (λ c. (app_of c ≡ feed_command) × ((fields_of c).has_globals ≡ false)) }
+{
+    let port = port_needed(alloc).help("The server's port of 127.0.0.1, 1 to 65535");
+    let machine = text_needed(alloc, "machine", "NAME").help("The machine");
+    let boot = boot_needed(alloc).help(
+        "A number that the machine never started with before, 1 to 9999999999",
+    );
+    let batch = text_needed(alloc, "batch", "NAME").help("The batch");
+    Command::new(alloc, "feed")
+        .about("Makes cards, read from standard input, as a machine of a server")
+        .arg(port)?
+        .arg(machine)?
+        .arg(boot)?
+        .arg(batch)
+}
+
+// `--port N`, a port.
+fn port_needed<'a>(alloc: Global) -> Arg<'a>
+    ensures rule { rule_of result ≡ port_needed }
+    ensures own { result.global ≡ false }
+{
+    number_needed(alloc, "port", value_parser!(u16).range(1..=65_535))
+}
+
+// `--boot N`, a machine's boot.
+fn boot_needed<'a>(alloc: Global) -> Arg<'a>
+    ensures rule { rule_of result ≡ boot_needed }
+    ensures own { result.global ≡ false }
+{
+    number_needed(alloc, "boot", ValueParser::unsigned(1, 9_999_999_999))
 }
 
 // `--name WORD`, which has to be given.
@@ -242,7 +295,7 @@ fn flag<'a>(alloc: Global, name: &'a str) -> Arg<'a>
 enum Unread {
     /// They ask for nothing in range.
     Nothing,
-    /// What should be a batch's name isn't a name.
+    /// What should be a name isn't a name.
     BadName,
     /// Memory was refused.
     Memory,
@@ -270,6 +323,7 @@ fn words_of(alloc: Global, matches: &ArgMatches<'_>) -> Result<Words, Unread>
         "drill" => Ok(Words::Drill),
         "serve" => serve_of(alloc, values),
         "report" => report_of(alloc, values),
+        "feed" => feed_of(values),
         _ => Err(Unread::Nothing),
     }
 }
@@ -306,7 +360,7 @@ fn serve_of(alloc: Global, values: &ArgMatches<'_>) -> Result<Words, Unread>
     Ok(Words::Serve {
         db: String::from_str(alloc, db)?,
         port: port as u16,
-        turns,
+        turns: turns as u32,
     })
 }
 
@@ -319,20 +373,51 @@ fn report_of(alloc: Global, values: &ArgMatches<'_>) -> Result<Words, Unread>
     let Some(db) = values.get_str("db") else {
         return Err(Unread::Nothing);
     };
-    let Some(name) = values.get_str("batch") else {
-        return Err(Unread::Nothing);
-    };
-    let Some(batch) = Name::new(name.as_bytes()) else {
-        return Err(Unread::BadName);
-    };
+    let batch = name_of(values, "batch")?;
     Ok(Words::Report {
         db: String::from_str(alloc, db)?,
         batch,
     })
 }
 
+// The values of `feed`, if each is there, the numbers in their ranges, and the names names.
+fn feed_of(values: &ArgMatches<'_>) -> Result<Words, Unread>
+    ensures ranges { IfOk result InRange }
+    ensures values { IfOk result (ReadsFeed (rows_of (found_of values.now))) }
+    ensures unread { IfErr result (FeedsNot (rows_of (found_of values.now))) }
+{
+    let Some(port) = number(values, "port", 1, 65_535) else {
+        return Err(Unread::Nothing);
+    };
+    let Some(boot) = number(values, "boot", 1, 9_999_999_999) else {
+        return Err(Unread::Nothing);
+    };
+    let machine = name_of(values, "machine")?;
+    let batch = name_of(values, "batch")?;
+    Ok(Words::Feed {
+        port: port as u16,
+        machine,
+        boot,
+        batch,
+    })
+}
+
+// The name that an option has.
+fn name_of(values: &ArgMatches<'_>, option: &str) -> Result<Name, Unread>
+    ensures name { IfOk result (HasName option.now (rows_of (found_of values.now))) }
+    ensures unread { IfErr result (NamesNot option.now (rows_of (found_of values.now))) }
+{
+    let Some(text) = values.get_str(option) else {
+        return Err(Unread::Nothing);
+    };
+    let Some(name) = Name::new(text.as_bytes()) else {
+        return Err(Unread::BadName);
+    };
+    Ok(name)
+}
+
 // The number of an option, if it has one from `low` to `high`.
-fn number(values: &ArgMatches<'_>, name: &str, low: u32, high: u32) -> Option<u32>
+fn number(values: &ArgMatches<'_>, name: &str, low: u64, high: u64) -> Option<u64>
     ensures some { IfSome result (λ n.
         IsNumber name.now (rows_of (found_of values.now)) n × (low ≤ n) × (n ≤ high)) }
     ensures none { result ≡ None → (n : ℕ) → (low ≤ n) → (n ≤ high)

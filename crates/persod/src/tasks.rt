@@ -1,5 +1,8 @@
-//! What the program does with the store of a file.
+//! What the program does with the store of a file, and as a machine.
+ghost use Rattle.std.specs.Prelude.{◌≤◌};
+
 use command_line::End;
+use exchanges::feed_port;
 use loopback::Loopback;
 use reports::close_report;
 use schema::SqlStore;
@@ -64,5 +67,27 @@ impl StoreTask for ReportTask<'_> {
             Ok(()) => End::Done,
             Err(fault) => End::from(fault),
         }
+    }
+}
+
+/// Feeds a machine with the cards of standard input, by the server at a port of 127.0.0.1. What is
+/// printed goes to standard output at once, so that a machine that loses power has told its cards.
+pub fn feed(rt: &HostRuntime, port: u16, machine: Name, boot: u64, batch: Name) -> End
+    requires least { 1 ≤ boot }
+    requires most { boot ≤ 9999999999 }
+{
+    let (mut reader, mut writer) = (rt.reader(), io::writer(rt));
+    match feed_port(
+        rt,
+        rt.alloc(),
+        port,
+        machine,
+        boot,
+        batch,
+        &mut reader,
+        &mut writer,
+    ) {
+        Ok(()) => End::Done,
+        Err(stop) => End::from(stop),
     }
 }

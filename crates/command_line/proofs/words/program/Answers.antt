@@ -1,6 +1,6 @@
 use Rattle.std.proofs.Common.{rules, ◌≡◌, codes}
 use Rattle.clap.specs.Words.{app_of, new_app}
-use Rattle.command_line.specs.Words.{drill_command, needs_subcommand, plan_command, report_command, serve_command}
+use Rattle.command_line.specs.Words.{drill_command, feed_command, needs_subcommand, plan_command, report_command, serve_command}
 use Rattle.command_line.proofs.CommandLemmas.{joined, joined_last}
 use Rattle.command_line.proofs.words.program.Goals as goal
 
@@ -13,5 +13,7 @@ returns c =
     c.drill_command.ensures c.in_ok-subcommand-2.ensures in
     let three = joined c.in_ok-subcommand-2.field-0 c.in_ok-serve_command.field-0 c.in_ok-subcommand-3.field-0 _ serve_command two
     c.in_ok-serve_command.ensures c.in_ok-subcommand-3.ensures in
-    joined_last c.in_ok-subcommand-3.field-0 c.in_ok-report_command.field-0 c.subcommand-4.result _ report_command three
-    c.in_ok-report_command.ensures c.subcommand-4.ensures
+    let four = joined c.in_ok-subcommand-3.field-0 c.in_ok-report_command.field-0 c.in_ok-subcommand-4.field-0 _ report_command three
+    c.in_ok-report_command.ensures c.in_ok-subcommand-4.ensures in
+    joined_last c.in_ok-subcommand-4.field-0 c.in_ok-feed_command.field-0 c.subcommand-5.result _ feed_command four
+    c.in_ok-feed_command.ensures c.subcommand-5.ensures

@@ -1,7 +1,7 @@
 use Rattle.std.proofs.Common.{rules, ◌≡◌, List, refl, sym, subst, true, [], inl, inr, map}
 use Rattle.clap.specs.Words.{App, HasKind, HasMatchesOf, Text, fault_of, is_simple, is_simple_and_free, subcommand_rows_of}
 use Rattle.clap.proofs.OnLiterals.{clap_on_literals}
-use Rattle.command_line.specs.Words.{IsRefusal, IsRefusedBy, ReadsNot, program}
+use Rattle.command_line.specs.Words.{IsRefusal, IsRefusedBy, ReadsAs, ReadsNot, program}
 use Rattle.command_line.specs.declared.words.WordsFault.{WordsFault}
 use Rattle.command_line.specs.declared.words.WordsFault.TheVariants.{Help, Usage, NotText, BadName, Memory}
 use Rattle.command_line.specs.declared.words.Unread.TheVariants as lacks
@@ -26,6 +26,12 @@ pub returns-in-Ok-words_of-clause-taken : goal.returns-in-Ok-words_of-clause-tak
 returns-in-Ok-words_of-clause-taken g c =
     subst (λ (a : App). is_simple_and_free a ≡ true → fault_of a (map g.S.AsStr.text c.args.words.now) ≡ []) c.in_ok-program.ensures
     c.in-Ok.ensures.kinds free
+
+pub returns-in-Ok-words_of-clause-meaning : goal.returns-in-Ok-words_of-clause-meaning
+returns-in-Ok-words_of-clause-meaning g c =
+    let words = map g.S.AsStr.text c.args.words.now in
+    let matched = subst (λ (a : App). HasMatchesOf a words c.in-Ok.matches) c.in_ok-program.ensures c.in-Ok.ensures.matches simple in
+    subst (λ sub. ReadsAs sub c.in-Ok-words_of.words) matched.1 c.in-Ok-words_of.ensures.meaning
 
 pub returns-in-Err-Nothing-clause-refusal : goal.returns-in-Err-Nothing-clause-refusal
 returns-in-Err-Nothing-clause-refusal g c =
