@@ -1,3 +1,3 @@
-pub mod Several
+pub mod FileRows
 pub mod Parts
 pub mod Raw

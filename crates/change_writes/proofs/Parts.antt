@@ -1,17 +1,40 @@
 -- Parts of a transaction, one after the other.
-use Rattle.std.proofs.Common.{Result, Ok, Err}
+use Rattle.std.proofs.Common.{◌∙◌, Result, Ok, Err}
+use Rattle.std.specs.Result.{IsErr}
 use Rattle.sqlite.specs.Effect.{Database}
 use Rattle.sqlite.specs.State.{KeepsCommit, State}
 use Rattle.sqlite.specs.declared.error.Error.{Error}
-use Rattle.sql_base.specs.Ends.{Inside}
+use Rattle.sqlite.proofs.InsideLemmas.{keeps_then}
+use Rattle.sql_base.specs.Ends.{Inside, Wrote}
 use Rattle.sql_rows.specs.Image.{Moves}
 use Rattle.table_rows.specs.Tables.{Tables}
-use Rattle.change_writes.specs.Many.{WroteMany}
+use Rattle.change_writes.specs.Many.{GoesOn, WroteMany}
 
 -- what went well inside a transaction goes on in it
 pub wrote_many : {X : Type 0} (R : Database → Database → Type 0) (a b : State) (r : Result X Error) → Inside R a b → KeepsCommit a b → WroteMany R a b r
 wrote_many R a b (Ok x) well kept = record { well = record { made = well.made; committed = well.committed; inside = λ _. well.inside }; kept = kept }
 wrote_many R a b (Err e) well kept = record { well = tt; kept = kept }
+
+-- an error on the way
+pub failed_many : {X : Type 0} (R : Database → Database → Type 0) (a b : State) (r : Result X Error) → IsErr r → KeepsCommit a b → WroteMany R a b r
+failed_many R a b (Ok x) is kept = absurd (cc)
+failed_many R a b (Err e) is kept = record { well = tt; kept = kept }
+
+-- one row after a part that went on
+pub wrote_after : {X : Type 0} (P Q R : Database → Database → Type 0) (a b c : State) (r : Result X Error) → (P a.now b.now → Q b.now c.now → R a.now c.now) → GoesOn P a b → KeepsCommit a b → Inside Q b c
+    → KeepsCommit b c → WroteMany R a c r
+wrote_after P Q R a b c (Ok x) both one kept two kept_too =
+    record { well = record { made = both one.made two.made; committed = two.committed ∙ one.committed; inside = λ _. two.inside }; kept = keeps_then a b c kept kept_too }
+wrote_after P Q R a b c (Err e) both one kept two kept_too = record { well = tt; kept = keeps_then a b c kept kept_too }
+
+-- many rows after a part that went well
+inside_on : (P Q R : Database → Database → Type 0) (a b c : State) → (P a.now b.now → Q b.now c.now → R a.now c.now) → Inside P a b → GoesOn Q b c → Inside R a c
+inside_on P Q R a b c both one two = record { made = both one.made two.made; committed = two.committed ∙ one.committed; inside = two.inside one.inside; was_open = one.was_open }
+
+pub wrote_on : {X : Type 0} (P Q R : Database → Database → Type 0) (a b c : State) (r : Result X Error) → (P a.now b.now → Q b.now c.now → R a.now c.now) → Inside P a b → KeepsCommit a b → WroteMany Q b c r
+    → Wrote R a c r
+wrote_on P Q R a b c (Ok x) both one kept two = record { well = inside_on P Q R a b c both one two.well; kept = keeps_then a b c kept two.kept }
+wrote_on P Q R a b c (Err e) both one kept two = record { well = tt; kept = keeps_then a b c kept two.kept }
 
 -- rows that move, and move on
 module _ (f g : Tables → Tables) (a b c : Database) where

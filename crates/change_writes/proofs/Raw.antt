@@ -11,11 +11,11 @@ use Rattle.table_rows.specs.After.{batch_rows_after, new_batch}
 use Rattle.table_rows.specs.Tables.{StoredBatch, Tables}
 use Rattle.row_writes.specs.Raw.{raw_set, with_raw_set}
 
-itself : (n : ℕ) → (n == n) ≡ true
+pub itself : (n : ℕ) → (n == n) ≡ true
 itself n = grind (arith, nat_tests)
 
 -- batches with other ids stay
-stay : (id : ℕ) (raw : List ℕ) (bs : List StoredBatch) → AllByRecursion (λ (b : StoredBatch). (b.id == id) ≡ false) bs → map (raw_set id raw) bs ≡ bs
+pub stay : (id : ℕ) (raw : List ℕ) (bs : List StoredBatch) → AllByRecursion (λ (b : StoredBatch). (b.id == id) ≡ false) bs → map (raw_set id raw) bs ≡ bs
 stay id raw [] differ = refl
 stay id raw (b ∷ bs) differ = rw (differ.0, stay id raw bs differ.1) refl
 

@@ -1,23 +1,25 @@
 //! A batch is imported, in an open transaction. A crash before its end leaves nothing of it.
-ghost use Rattle.std.specs.Prelude.{◌≡◌, ◌<◌, ◌≤◌, ◌^◌, [], IfOk, bytes_eq, length, map};
-ghost use Rattle.std.specs.List.{enumerate_from, position_or_len};
+ghost use Rattle.std.specs.Prelude.{◌≡◌, ◌<◌, ◌^◌, [], List, IfOk, Ok, OnOk, bytes_eq, length};
+ghost use Rattle.std.specs.List.{position_or_len};
 ghost use Rattle.sqlite.specs.Held.{state};
 ghost use Rattle.sqlite.specs.State.{Survives};
-ghost use Rattle.store_data.specs.Groups.{first_appearances};
+ghost use Rattle.store_data.specs.Groups.{with_key};
 ghost use Rattle.store_data.specs.Sequence.{IsProduct};
 ghost use Rattle.store_data.specs.declared.row.Row.{Row as RowValue};
-ghost use Rattle.batch_import.specs.Batch.{batch_of};
+ghost use Rattle.batch_import.specs.Batch.{batch_of, coming_of, records_of_rows};
+ghost use Rattle.batch_import.specs.Rows.{TakesRow};
 ghost use Rattle.job_core.specs.States.{rows_or_none};
 ghost use Rattle.sql_rows.specs.Writes.{WritesRows};
-ghost use Rattle.table_rows.specs.After.{batch_rows_after, new_grouping, new_record};
-ghost use Rattle.change_writes.specs.Many.{WritesMany, with_groupings, with_records};
+ghost use Rattle.table_rows.specs.After.{batch_rows_after};
+ghost use Rattle.change_writes.specs.Imports.{record_if_new, with_file_row, with_file_rows};
+ghost use Rattle.change_writes.specs.Many.{WritesMany, with_records};
 ghost use Rattle.change_writes.specs.Refused.{refused};
 
-use batch_import::{ImportFault, read_batch};
+use batch_import::{BatchRows, ImportFault, check_batch, rows};
 use indexmap::IndexSet;
 use row_writes::{add_batch, add_grouping, add_record, set_raw};
 use sqlite::{Alter, Error, ErrorCode, Transaction};
-use std::alloc::{AllocError, Global};
+use std::alloc::Global;
 use store_data::{Name, Product, Row};
 
 /// The number of the first data row: row 1 is the header.
@@ -68,11 +70,21 @@ fn write_bare<'x, S: Alter>(
     ensures survives { Survives (state S.Store tx.old.conn.now) (state S.Store tx.new.conn.now)
         (λ _. ⊥) }
 {
-    let batch = read_batch(alloc, raw, product).map_err(refused)?;
-    let names = names_of(alloc, batch.rows.as_slice())?;
-    add_batch(tx, id, name, code, &[], names.len() as u32)?;
-    add_records(tx, id, names.as_slice())?;
-    add_groupings(tx, id, &names, batch.rows.as_slice())
+    let records = records_of(alloc, raw, product)?;
+    add_batch(tx, id, name, code, &[], records)?;
+    add_rows(tx, alloc, id, product, raw)
+}
+
+// How many records a file has that has no fault.
+fn records_of(alloc: Global, raw: &[u8], product: &Product) -> Result<u32, Error>
+    requires { IsProduct product.now }
+    ensures { IfOk result (λ count. (rows : List RowValue)
+        × (batch_of product.now raw.now ≡ Ok rows) × (count ≡ length (records_of_rows rows))) }
+{
+    match check_batch(alloc, raw, product) {
+        Ok(totals) => Ok(totals.records),
+        Err(fault) => Err(refused(fault)),
+    }
 }
 
 // What is told of a file that is not taken.
@@ -85,69 +97,83 @@ fn refused(fault: ImportFault) -> Error
     }
 }
 
-// The names of the rows' records, by first appearance.
-fn names_of(alloc: Global, rows: &[Row]) -> Result<IndexSet<Name>, AllocError>
-    ensures names { IfOk result (λ names.
-        names.keys ≡ first_appearances (map (λ (row : RowValue). row.rec) rows.now)) }
-    ensures few { IfOk result (λ names. length names.keys ≤ length rows.now) }
+// Adds the rows of a batch file, of which one at a time is held.
+fn add_rows<S: Alter>(
+    tx: &mut Transaction<'_, S>,
+    alloc: Global,
+    batch: u64,
+    product: &Product,
+    raw: &[u8],
+) -> Result<(), Error>
+    requires { batch < 2 ^ 63 }
+    ensures same_reference { tx.new.conn.ghost_name ≡ tx.old.conn.ghost_name }
+    ensures wrote { let rows = (coming_of product.now.check raw.now).rows in
+        WritesMany (with_file_rows batch rows) (state S.Store tx.old.conn.now)
+        (state S.Store tx.new.conn.now) result }
+    ensures survives { Survives (state S.Store tx.old.conn.now) (state S.Store tx.new.conn.now)
+        (λ _. ⊥) }
 {
     let mut names = IndexSet::new(alloc);
-    for row in rows {
-        names.insert(row.rec)?;
+    let mut number = FIRST_DATA_ROW;
+    let mut stream = rows(alloc, raw, product);
+    while let Some(row) = next_row(&mut stream)? {
+        add_row(tx, batch, &mut names, number, &row)?;
+        number += 1;
     }
-    Ok(names)
+    Ok(())
 }
 
-// Adds the records of these names, which all wait.
-fn add_records<S: Alter>(
+// The next row of a file, or none behind the last.
+fn next_row(stream: &mut BatchRows<'_>) -> Result<Option<Row>, Error>
+    ensures { IfOk result (λ row. TakesRow stream.old (Ok row) stream.new) }
+{
+    stream.next().map_err(refused)
+}
+
+// Adds a row of a batch file, behind the record of its name. The names are those of the records so
+// far.
+fn add_row<S: Alter>(
     tx: &mut Transaction<'_, S>,
     batch: u64,
-    names: &[Name],
+    names: &mut IndexSet<Name>,
+    number: u32,
+    row: &Row,
 ) -> Result<(), Error>
     requires batch { batch < 2 ^ 63 }
-    requires few { length names.now ≤ 4096 }
+    requires few { length names.old.keys < 4096 }
     ensures same_reference { tx.new.conn.ghost_name ≡ tx.old.conn.ghost_name }
-    ensures wrote { let records = map (new_record batch) (enumerate_from 0 names.now) in
-        WritesMany (with_records records) (state S.Store tx.old.conn.now)
-        (state S.Store tx.new.conn.now) result }
+    ensures names { OnOk result (names.new.keys ≡ with_key names.old.keys row.now.rec) }
+    ensures wrote { WritesMany (with_file_row batch names.old.keys (number, row.now))
+        (state S.Store tx.old.conn.now) (state S.Store tx.new.conn.now) result }
     ensures survives { Survives (state S.Store tx.old.conn.now) (state S.Store tx.new.conn.now)
         (λ _. ⊥) }
 {
-    for (place, name) in names.iter().enumerate() {
+    let place = place_of(tx, batch, names, &row.rec)?;
+    add_grouping(tx, batch, number, place, row)?;
+    Ok(())
+}
+
+// The place of the record of a name, which is added where it is new.
+fn place_of<S: Alter>(
+    tx: &mut Transaction<'_, S>,
+    batch: u64,
+    names: &mut IndexSet<Name>,
+    name: &Name,
+) -> Result<u32, Error>
+    requires batch { batch < 2 ^ 63 }
+    requires few { length names.old.keys < 4096 }
+    ensures same_reference { tx.new.conn.ghost_name ≡ tx.old.conn.ghost_name }
+    ensures place { IfOk result (λ place.
+        place ≡ position_or_len (bytes_eq name.now) names.old.keys) }
+    ensures names { OnOk result (names.new.keys ≡ with_key names.old.keys name.now) }
+    ensures wrote { WritesMany (with_records (record_if_new batch names.old.keys name.now))
+        (state S.Store tx.old.conn.now) (state S.Store tx.new.conn.now) result }
+    ensures survives { Survives (state S.Store tx.old.conn.now) (state S.Store tx.new.conn.now)
+        (λ _. ⊥) }
+{
+    let (place, is_new) = names.insert_full(*name)?;
+    if is_new {
         add_record(tx, batch, place as u32, name)?;
     }
-    Ok(())
-}
-
-// Adds the rows of a batch file, each for the record of its name.
-fn add_groupings<S: Alter>(
-    tx: &mut Transaction<'_, S>,
-    batch: u64,
-    names: &IndexSet<Name>,
-    rows: &[Row],
-) -> Result<(), Error>
-    requires batch { batch < 2 ^ 63 }
-    requires names { length names.now.keys ≤ 4096 }
-    requires few { length rows.now ≤ 4096 }
-    ensures same_reference { tx.new.conn.ghost_name ≡ tx.old.conn.ghost_name }
-    ensures wrote { let groupings =
-        map (new_grouping batch names.now.keys) (enumerate_from 2 rows.now) in
-        WritesMany (with_groupings groupings) (state S.Store tx.old.conn.now)
-        (state S.Store tx.new.conn.now) result }
-    ensures survives { Survives (state S.Store tx.old.conn.now) (state S.Store tx.new.conn.now)
-        (λ _. ⊥) }
-{
-    for (at, row) in rows.iter().enumerate() {
-        let place = place_of(names, &row.rec);
-        add_grouping(tx, batch, FIRST_DATA_ROW + at as u32, place, row)?;
-    }
-    Ok(())
-}
-
-// The place of a name, or how many there are.
-fn place_of(names: &IndexSet<Name>, name: &Name) -> u32
-    requires { length names.now.keys ≤ 4096 }
-    ensures { result ≡ position_or_len (bytes_eq name.now) names.now.keys }
-{
-    names.get_index_of(name).unwrap_or(names.len()) as u32
+    Ok(place as u32)
 }

@@ -1,3 +1,4 @@
+pub mod BytesLast
 pub mod PutMeanings
 pub mod PuttingRows
 pub mod Several

@@ -1,5 +1,5 @@
 -- Rows that are put in one after the other are those that were there, and the list.
-use Rattle.std.proofs.Common.{◌≡◌, ℕ, ◌+◌, List, [], ◌∷◌, ◌++◌, take, Result, Ok, Err, refl, sym, ap, subst, ◌∙◌}
+use Rattle.std.proofs.Common.{◌≡◌, ℕ, ◌+◌, List, [], ◌∷◌, ◌++◌, map, take, Result, Ok, Err, refl, sym, ap, subst, ◌∙◌}
 use Rattle.std.specs.Prelude.{OnOk}
 use Rattle.std.specs.List.{fold}
 use Rattle.std.specs.List.Sorted.{IsPermutation}
@@ -14,9 +14,9 @@ use Rattle.job_core.specs.Contents.{Entry, Mark}
 use Rattle.sql_base.specs.Ends.{Inside}
 use Rattle.sql_rows.specs.Image.{IsImage, Moves}
 use Rattle.sql_rows.proofs.SameRows.{same_rows}
-use Rattle.table_rows.specs.Tables.{HaveSameRows, StoredBatch, StoredBlank, StoredGrouping, StoredLot, StoredRecord, StoredRemake, StoredSession, StoredWord, Tables, no_rows, with_batch, with_blank, with_grouping, with_lot, with_mark, with_product, with_record, with_remake, with_reply, with_session, with_word}
+use Rattle.table_rows.specs.Tables.{HaveSameRows, StoredBatch, StoredBlank, StoredGrouping, StoredLot, StoredRecord, StoredRemake, StoredSession, StoredWord, Tables, no_rows, with_blank, with_grouping, with_lot, with_mark, with_product, with_record, with_remake, with_reply, with_session, with_word}
 use Rattle.change_writes.specs.Many.{GoesOn, WroteMany}
-use Rattle.table_fills.specs.Rows.{with_all, with_batches, with_cards, with_each, with_replies}
+use Rattle.table_fills.specs.Rows.{bare, with_all, with_bare, with_batches, with_cards, with_each, with_replies, without_bytes}
 
 -- ---- parts of a transaction, one after the other
 
@@ -33,17 +33,21 @@ module _ {X : Type 0} (with_row : X → Tables → Tables) where
         inside = λ _. one.inside;
       }
 
-module _ (f g : Tables → Tables) (a b c : State) where
-  pub many_on : {X Y : Type 0} (x : X) (r : Result Y Error) → WroteMany (Moves f) a b (Ok x) → WroteMany (Moves g) b c r → WroteMany (Moves (λ t. g (f t))) a c r
-  many_on x (Ok y) one two = record {
+-- a part behind one that went well, where both together change rows so
+module _ (f g h : Tables → Tables) (a b c : State) (both : Moves f a.now b.now → Moves g b.now c.now → Moves h a.now c.now) where
+  pub many_then : {X Y : Type 0} (x : X) (r : Result Y Error) → WroteMany (Moves f) a b (Ok x) → WroteMany (Moves g) b c r → WroteMany (Moves h) a c r
+  many_then x (Ok y) one two = record {
     well = record {
-      made = λ t image. two.well.made (f t) (one.well.made t image);
+      made = both one.well.made two.well.made;
       committed = two.well.committed ∙ one.well.committed;
       inside = λ within. two.well.inside (one.well.inside within);
     };
     kept = keeps_then a b c one.kept two.kept;
   }
-  many_on x (Err e) one two = record { well = tt; kept = keeps_then a b c one.kept two.kept }
+  many_then x (Err e) one two = record { well = tt; kept = keeps_then a b c one.kept two.kept }
+
+pub many_on : {X Y : Type 0} (f g : Tables → Tables) (a b c : State) (x : X) (r : Result Y Error) → WroteMany (Moves f) a b (Ok x) → WroteMany (Moves g) b c r → WroteMany (Moves (λ t. g (f t))) a c r
+many_on f g a b c = many_then f g (λ t. g (f t)) a b c (λ one two t image. two (f t) (one t image))
 
 module _ (f g : Tables → Tables) (same : (t : Tables) → HaveSameRows (f t) (g t)) (a b : State) where
   pub same_made : {X : Type 0} (r : Result X Error) → WroteMany (Moves g) a b r → WroteMany (Moves f) a b r
@@ -78,9 +82,9 @@ lots_in : (xs : List StoredLot) (t : Tables) → with_each with_lot xs t ≡ rec
 lots_in [] t = refl
 lots_in (x ∷ xs) t = lots_in xs (with_lot x t)
 
-batches_in : (xs : List StoredBatch) (t : Tables) → with_each with_batch xs t ≡ record t { batches = onto t.batches xs }
+batches_in : (xs : List StoredBatch) (t : Tables) → with_each with_bare xs t ≡ record t { batches = onto t.batches (map bare xs) }
 batches_in [] t = refl
-batches_in (x ∷ xs) t = batches_in xs (with_batch x t)
+batches_in (x ∷ xs) t = batches_in xs (with_bare x t)
 
 records_in : (xs : List StoredRecord) (t : Tables) → with_each with_record xs t ≡ record t { records = onto t.records xs }
 records_in [] t = refl
@@ -116,14 +120,14 @@ marks_in (x ∷ xs) t = marks_in xs (with_mark x t)
 
 abbrev pub batches_each : Tables → Tables → Tables
 batches_each rows t =
-    with_each with_grouping rows.groupings (with_each with_record rows.records (with_each with_batch rows.batches
+    with_each with_grouping rows.groupings (with_each with_record rows.records (with_each with_bare rows.batches
     (with_each with_lot rows.lots (with_each with_product rows.products t))))
 
 abbrev batches_onto : Tables → Tables → Tables
 batches_onto rows t = record t {
   products = onto t.products rows.products;
   lots = onto t.lots rows.lots;
-  batches = onto t.batches rows.batches;
+  batches = onto t.batches (map bare rows.batches);
   records = onto t.records rows.records;
   groupings = onto t.groupings rows.groupings;
 }
@@ -132,19 +136,19 @@ batches_in_all : (rows t : Tables) → batches_each rows t ≡ batches_onto rows
 batches_in_all rows t =
     let t1 : Tables = record t { products = onto t.products rows.products } in
     let t2 : Tables = record t1 { lots = onto t.lots rows.lots } in
-    let t3 : Tables = record t2 { batches = onto t.batches rows.batches } in
+    let t3 : Tables = record t2 { batches = onto t.batches (map bare rows.batches) } in
     let t4 : Tables = record t3 { records = onto t.records rows.records } in
-    ap (λ u. with_each with_grouping rows.groupings (with_each with_record rows.records (with_each with_batch rows.batches (with_each with_lot rows.lots u)))) (products_in rows.products t)
-    ∙ ap (λ u. with_each with_grouping rows.groupings (with_each with_record rows.records (with_each with_batch rows.batches u))) (lots_in rows.lots t1)
+    ap (λ u. with_each with_grouping rows.groupings (with_each with_record rows.records (with_each with_bare rows.batches (with_each with_lot rows.lots u)))) (products_in rows.products t)
+    ∙ ap (λ u. with_each with_grouping rows.groupings (with_each with_record rows.records (with_each with_bare rows.batches u))) (lots_in rows.lots t1)
     ∙ ap (λ u. with_each with_grouping rows.groupings (with_each with_record rows.records u)) (batches_in rows.batches t2)
     ∙ ap (λ u. with_each with_grouping rows.groupings u) (records_in rows.records t3)
     ∙ groupings_in rows.groupings t4
 
-batches_onto_same : (rows t : Tables) → HaveSameRows (with_batches rows t) (batches_onto rows t)
+batches_onto_same : (rows t : Tables) → HaveSameRows (with_batches (without_bytes rows) t) (batches_onto rows t)
 batches_onto_same rows t = record {
   products = onto_same rows.products t.products;
   lots = onto_same rows.lots t.lots;
-  batches = onto_same rows.batches t.batches;
+  batches = onto_same (map bare rows.batches) t.batches;
   records = onto_same rows.records t.records;
   groupings = onto_same rows.groupings t.groupings;
   sessions = IsPermutation-refl _;
@@ -155,8 +159,8 @@ batches_onto_same rows t = record {
   marks = IsPermutation-refl _;
 }
 
-pub batches_same : (rows t : Tables) → HaveSameRows (with_batches rows t) (batches_each rows t)
-batches_same rows t = subst (HaveSameRows (with_batches rows t)) (sym (batches_in_all rows t)) (batches_onto_same rows t)
+pub batches_same : (rows t : Tables) → HaveSameRows (with_batches (without_bytes rows) t) (batches_each rows t)
+batches_same rows t = subst (HaveSameRows (with_batches (without_bytes rows) t)) (sym (batches_in_all rows t)) (batches_onto_same rows t)
 
 abbrev pub cards_each : Tables → Tables → Tables
 cards_each rows t = with_each with_blank rows.blanks (with_each with_word rows.words (with_each with_session rows.sessions t))

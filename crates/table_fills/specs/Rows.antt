@@ -1,11 +1,26 @@
 -- Rows that are put beside others.
-use Rattle.std.specs.Prelude.{List, ◌++◌}
+use Rattle.std.specs.Prelude.{List, [], ◌++◌, map}
 use Rattle.std.specs.List.{fold}
-use Rattle.table_rows.specs.Tables.{Tables}
+use Rattle.table_rows.specs.Tables.{StoredBatch, Tables, with_batch}
+use Rattle.row_writes.specs.Raw.{with_raw_set}
 
 -- one after the other
 abbrev pub with_each : {X : Type 0} → (X → Tables → Tables) → List X → Tables → Tables
 with_each with_row rows t = fold (λ u row. with_row row u) t rows
+
+-- a batch without its bytes
+abbrev pub bare : StoredBatch → StoredBatch
+bare b = record b { raw = [] }
+
+abbrev pub with_bare : StoredBatch → Tables → Tables
+with_bare b = with_batch (bare b)
+
+-- the batch with this one's id has its bytes
+abbrev pub with_bytes : StoredBatch → Tables → Tables
+with_bytes b = with_raw_set b.id b.raw
+
+abbrev pub without_bytes : Tables → Tables
+without_bytes rows = record rows { batches = map bare rows.batches }
 
 -- the rows of products, lots, batches, records and groupings
 abbrev pub with_batches : Tables → Tables → Tables

@@ -3,11 +3,11 @@
 ghost use Rattle.std.specs.Prelude.{◌≡◌};
 ghost use Rattle.sqlite.specs.Held.{state};
 ghost use Rattle.sqlite.specs.State.{Survives};
-ghost use Rattle.table_rows.specs.Tables.{with_batch, with_grouping, with_lot};
-ghost use Rattle.table_rows.specs.Tables.{with_product, with_record};
+ghost use Rattle.table_rows.specs.Tables.{with_grouping, with_lot, with_product, with_record};
 ghost use Rattle.change_writes.specs.Many.{WritesMany};
-ghost use Rattle.table_fills.specs.Rows.{with_batches};
+ghost use Rattle.table_fills.specs.Rows.{with_bare, with_batches, without_bytes};
 
+use crate::bytes::set_bytes;
 use crate::putting::{Put, fit, put_all};
 use row_writes::{enc_code, record_code};
 use sql_base::int;
@@ -52,8 +52,9 @@ impl Put for StoredLot {
     }
 }
 
+// Its bytes are not put in: each record that refers to the batch has its row read whole.
 impl Put for StoredBatch {
-    ghost with_row = { with_batch };
+    ghost with_row = { with_bare };
 
     fn put<S: Alter>(&self, tx: &mut Transaction<'_, S>) -> Result<usize, Error> {
         if !fit(self.id, self.waiting, self.running, self.failed) {
@@ -70,7 +71,7 @@ impl Put for StoredBatch {
                 int(self.id),
                 ValueRef::Text(self.name.as_slice()),
                 ValueRef::Text(self.product.as_slice()),
-                ValueRef::Blob(self.raw.as_slice()),
+                ValueRef::Blob(&[]),
                 int(u64::from(self.closed)),
                 int(self.waiting),
                 int(self.running),
@@ -130,7 +131,8 @@ impl Put for StoredGrouping {
     }
 }
 
-/// Puts in the rows of products, lots, batches, records and groupings, up to the first error.
+/// Puts in the rows of products, lots, batches, records and groupings, up to the first error. The
+/// bytes of batches are set last.
 pub(crate) fn fill_batches<S: Alter>(
     tx: &mut Transaction<'_, S>,
     tables: &Tables,
@@ -138,6 +140,18 @@ pub(crate) fn fill_batches<S: Alter>(
     ensures same_reference { tx.new.conn.ghost_name ≡ tx.old.conn.ghost_name }
     ensures wrote { WritesMany (with_batches tables.now) (state S.Store tx.old.conn.now)
         (state S.Store tx.new.conn.now) result }
+    ensures survives { Survives (state S.Store tx.old.conn.now) (state S.Store tx.new.conn.now)
+        (λ _. ⊥) }
+{
+    fill_bare(tx, tables)?;
+    set_bytes(tx, tables.batches.as_slice())
+}
+
+// The same, but for the bytes of batches.
+fn fill_bare<S: Alter>(tx: &mut Transaction<'_, S>, tables: &Tables) -> Result<(), Error>
+    ensures same_reference { tx.new.conn.ghost_name ≡ tx.old.conn.ghost_name }
+    ensures wrote { WritesMany (with_batches (without_bytes tables.now))
+        (state S.Store tx.old.conn.now) (state S.Store tx.new.conn.now) result }
     ensures survives { Survives (state S.Store tx.old.conn.now) (state S.Store tx.new.conn.now)
         (λ _. ⊥) }
 {

@@ -2,6 +2,7 @@
 #![tactic(auto)]
 
 mod batches;
+mod bytes;
 mod cards;
 mod filling;
 mod putting;

@@ -2,8 +2,7 @@ use Rattle.std.proofs.Common.{◌+◌, arith}
 use Rattle.sql_rows.specs.Image.{Moves}
 use Rattle.table_rows.specs.After.{stopped}
 use Rattle.table_rows.specs.Tables.{StoredWord, Tables, with_session_set, with_word}
-use Rattle.change_writes.proofs.Parts.{moved_on}
-use Rattle.change_writes.proofs.Several.{wrote_on}
+use Rattle.change_writes.proofs.Parts.{moved_on, wrote_on}
 use Rattle.change_writes.proofs.cards.write_record_word.Goals as goal
 
 pub returns-clause-wrote : goal.returns-clause-wrote

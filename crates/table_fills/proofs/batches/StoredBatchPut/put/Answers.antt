@@ -3,7 +3,8 @@ use Rattle.sqlite.specs.Held.{state}
 use Rattle.sql_base.specs.Ends.{Wrote}
 use Rattle.sql_base.proofs.Ending.{wrote}
 use Rattle.sql_rows.specs.Image.{Moves}
-use Rattle.table_rows.specs.Tables.{StoredBatch, with_batch}
+use Rattle.table_rows.specs.Tables.{StoredBatch}
+use Rattle.table_fills.specs.Rows.{bare, with_bare}
 use Rattle.table_fills.proofs.PuttingRows.{batch_put}
 use Rattle.table_fills.proofs.batches.StoredBatchPut.put.Goals as goal
 
@@ -26,8 +27,8 @@ returns-clause-wrote g c clean =
     } in
     let old = c.args.tx.now.conn.now in
     let new = c.execute.new.self.conn.now in
-    subst (λ y. Wrote (Moves (with_batch y)) (state g.S.Store old) (state g.S.Store new) c.execute.result) c.self.view_is
-    (wrote g.S.Store (Moves (with_batch x)) old new _ _ _ (λ count. batch_put _ _ x count) c.execute.result c.execute.ensures.ended
+    subst (λ y. Wrote (Moves (with_bare y)) (state g.S.Store old) (state g.S.Store new) c.execute.result) c.self.view_is
+    (wrote g.S.Store (Moves (with_bare x)) old new _ _ _ (λ count. batch_put _ _ (bare x) count) c.execute.result c.execute.ensures.ended
     (rw (
       c.int.ensures,
       c.int-2.ensures,
@@ -41,5 +42,4 @@ returns-clause-wrote g c clean =
       c.from.ensures,
       c.as_slice.ensures.value,
       c.as_slice-2.ensures.value,
-      c.as_slice-3.ensures.value,
     ) at (c.execute.ensures.runs clean)))
