@@ -2,12 +2,14 @@
 #![tactic(auto)]
 
 mod drills;
+mod feeds;
 
 use case_exchanges::{check_exchanges, check_machine, check_messages};
 use case_files::{Case, CaseFault, Repeats, cases};
 use case_plans::{Table, check_plan, check_table};
 use drills::{check_script, check_scripted};
 use faulty_store::FaultyStore;
+use feeds::check_feed;
 use list_store::ListStore;
 use schema::SqlStore;
 use sqlite::MemStore;
@@ -16,7 +18,7 @@ use std::process::ExitCode;
 use std::{env, fs, io};
 
 const USAGE: &str =
-    "usage: worked FILE.. (.plan, .exchange, .message, .drill, .grouping, .record, .word)";
+    "usage: worked FILE.. (.plan, .exchange, .message, .drill, .feed, .grouping, .record, .word)";
 
 /// What the cases of a file are.
 #[derive(Clone, Copy)]
@@ -25,6 +27,7 @@ enum Kind {
     Exchange,
     Message,
     Drill,
+    Feed,
     Table(Table),
 }
 
@@ -69,6 +72,7 @@ fn kind_of(name: &str) -> Option<Kind> {
         "exchange" => Some(Kind::Exchange),
         "message" => Some(Kind::Message),
         "drill" => Some(Kind::Drill),
+        "feed" => Some(Kind::Feed),
         "grouping" => Some(Kind::Table(Table::Groupings)),
         "record" => Some(Kind::Table(Table::Records)),
         "word" => Some(Kind::Table(Table::Words)),
@@ -79,7 +83,7 @@ fn kind_of(name: &str) -> Option<Kind> {
 fn repeats_of(kind: Kind) -> Repeats {
     match kind {
         Kind::Exchange | Kind::Message | Kind::Table(_) => Repeats::WithAnswers,
-        Kind::Plan | Kind::Drill => Repeats::Alone,
+        Kind::Plan | Kind::Drill | Kind::Feed => Repeats::Alone,
     }
 }
 
@@ -119,6 +123,7 @@ fn run_case(alloc: Global, kind: Kind, case: Case) -> Result<(), CaseFault> {
         },
         Kind::Message => check_messages::<ListStore, FaultyStore, SqlStore<MemStore>>(alloc, &case),
         Kind::Drill => check_script(alloc, &case),
+        Kind::Feed => check_feed(alloc, &case),
         Kind::Table(table) => check_table(alloc, table, &case),
     }
 }

@@ -1,0 +1,236 @@
+//! Feeds: cards, and what is printed of them.
+use case_files::{Case, CaseFault, Line, check_bytes, post};
+use feeding::{Exchange, FeedStop, feed_engine};
+use list_store::ListStore;
+use server::{MemoryReader, serve_one};
+use std::alloc::{AllocError, Global};
+use store_data::Name;
+
+/// What comes before a feed for `set-up`.
+const SET_UP: [&str; 3] = [
+    "office/1 {\"do\":\"product\",\"product\":\"P1\",\"max\":255,\"low\":0,\"check\":false}",
+    "office/2 {\"do\":\"lot\",\"lot\":\"L1\",\"product\":\"P1\",\"first\":1000,\"count\":9}",
+    "office/3/batch/B1/P1 record,aid,rank,enc,tol,dgi\\nR1,F00000000101,1,0,0,0101027000\\n\
+     R2,F00000000101,1,0,0,0101027000\\nR3,F00000000101,1,0,1,8000020102\\n",
+];
+
+/// What becomes of an ask.
+#[derive(Clone, Copy, PartialEq, Eq)]
+enum Fate {
+    /// It doesn't arrive.
+    Gone,
+    /// It arrives, and its reply is lost.
+    Lost,
+    /// It arrives twice, and the second reply comes.
+    Twice,
+    /// Its reply comes but for the last byte.
+    Short,
+}
+
+/// A server in memory, how many asks came to it, what becomes of some, counted from 1, and what
+/// arrives before some.
+#[derive(Drop)]
+struct Server {
+    alloc: Global,
+    store: ListStore,
+    asked: u64,
+    fates: Vec<(u64, Fate)>,
+    before: Vec<(u64, Vec<u8>)>,
+}
+
+impl Server {
+    fn new(alloc: Global) -> Server {
+        Server {
+            alloc,
+            store: ListStore::new(alloc),
+            asked: 0,
+            fates: Vec::new(alloc),
+            before: Vec::new(alloc),
+        }
+    }
+
+    fn serve(&mut self, message: &[u8]) -> Result<Vec<u8>, AllocError> {
+        served(self.alloc, &mut self.store, message)
+    }
+
+    // What becomes of the ask that comes now.
+    fn fate(&self) -> Option<Fate> {
+        for (ask, fate) in &self.fates {
+            if *ask == self.asked {
+                return Some(*fate);
+            }
+        }
+        None
+    }
+
+    // Serves what arrives before it.
+    fn serve_before(&mut self) -> Result<(), AllocError> {
+        for (ask, message) in &self.before {
+            if *ask == self.asked {
+                served(self.alloc, &mut self.store, message.as_slice())?;
+            }
+        }
+        Ok(())
+    }
+}
+
+// The reply to a message.
+fn served(alloc: Global, store: &mut ListStore, message: &[u8]) -> Result<Vec<u8>, AllocError> {
+    let mut reply = Vec::new(alloc);
+    let mut incoming = MemoryReader::new(message.to_vec(alloc)?, usize::MAX);
+    let _ = serve_one(alloc, store, &mut incoming, &mut reply);
+    Ok(reply)
+}
+
+impl Exchange for Server {
+    ghost use Rattle.std.specs.Prelude.{None};
+
+    ghost log = { λ _. None };
+
+    fn exchange(&mut self, message: &[u8]) -> Result<Option<Vec<u8>>, AllocError> {
+        self.asked = self.asked.saturating_add(1);
+        self.serve_before()?;
+        let fate = self.fate();
+        if fate == Some(Fate::Gone) {
+            return Ok(None);
+        }
+        let mut reply = self.serve(message)?;
+        match fate {
+            Some(Fate::Lost) => return Ok(None),
+            Some(Fate::Twice) => reply = self.serve(message)?,
+            Some(Fate::Short) => {
+                let _ = reply.pop();
+            }
+            _ => {}
+        }
+        Ok(Some(reply))
+    }
+}
+
+/// A feed of machine `m1` with batch `B1` prints what it must.
+pub fn check_feed(alloc: Global, case: &Case) -> Result<(), CaseFault> {
+    let mut server = Server::new(alloc);
+    let mut boot = 1;
+    let mut cards = String::new(alloc);
+    let mut wanted = String::new(alloc);
+    for line in &case.lines {
+        let text = line.text.as_str();
+        if line.is_answer {
+            wanted.push_str(text)?;
+            wanted.push('\n')?;
+        } else if let Some(number) = text.strip_prefix("boot ") {
+            boot = number_in(line, number)?;
+        } else if !comes_before(alloc, &mut server, line)? {
+            cards.push_str(text)?;
+            cards.push('\n')?;
+        }
+    }
+    let came = fed(alloc, &mut server, boot, cards.as_bytes())?;
+    check_bytes(
+        alloc,
+        case.number,
+        "feed",
+        wanted.as_bytes(),
+        came.as_slice(),
+    )
+}
+
+// Whether a line is no card: then it says what comes before the feed, or what becomes of an ask.
+fn comes_before(alloc: Global, server: &mut Server, line: &Line) -> Result<bool, CaseFault> {
+    let text = line.text.as_str();
+    if text == "set-up" {
+        for told in SET_UP {
+            let message = message_of(alloc, line, told)?;
+            server.serve(message.as_slice())?;
+        }
+        return Ok(true);
+    }
+    let Some((first, rest)) = text.split_once(' ') else {
+        return Ok(false);
+    };
+    let fate = match first {
+        "client" => {
+            let message = message_of(alloc, line, rest)?;
+            server.serve(message.as_slice())?;
+            return Ok(true);
+        }
+        "before" => {
+            put_before(alloc, server, line, rest)?;
+            return Ok(true);
+        }
+        "gone" => Fate::Gone,
+        "lost" => Fate::Lost,
+        "twice" => Fate::Twice,
+        "short" => Fate::Short,
+        _ => return Ok(false),
+    };
+    server.fates.push((number_in(line, rest)?, fate))?;
+    Ok(true)
+}
+
+// Puts a message before an ask: its number, a space, and the message.
+fn put_before(
+    alloc: Global,
+    server: &mut Server,
+    line: &Line,
+    told: &str,
+) -> Result<(), CaseFault> {
+    let Some((number, told)) = told.split_once(' ') else {
+        return Err(CaseFault::Form { line: line.number });
+    };
+    let ask = number_in(line, number)?;
+    let message = message_of(alloc, line, told)?;
+    server.before.push((ask, message))?;
+    Ok(())
+}
+
+fn number_in(line: &Line, text: &str) -> Result<u64, CaseFault> {
+    match text.parse::<u64>() {
+        Ok(number) => Ok(number),
+        Err(_) => Err(CaseFault::Form { line: line.number }),
+    }
+}
+
+// A message: what stands behind `/c/` in its target, a space, and its body, in which `\n` ends a line.
+fn message_of(alloc: Global, line: &Line, told: &str) -> Result<Vec<u8>, CaseFault> {
+    let Some((tail, body)) = told.split_once(' ') else {
+        return Err(CaseFault::Form { line: line.number });
+    };
+    let target = format!(in alloc; "/c/{tail}")?;
+    let body = body.replace(alloc, "\\n", "\n")?;
+    Ok(post(alloc, target.as_str(), body.as_bytes())?)
+}
+
+// What is printed, and then why it ended.
+fn fed(
+    alloc: Global,
+    server: &mut Server,
+    boot: u64,
+    mut cards: &[u8],
+) -> Result<Vec<u8>, CaseFault> {
+    let mut printed = Vec::new(alloc);
+    let (Some(machine), Some(batch)) = (Name::new(b"m1"), Name::new(b"B1")) else {
+        return Ok(printed);
+    };
+    if boot < 1 || boot > 9_999_999_999 {
+        return Ok(printed);
+    }
+    let end = feed_engine(
+        alloc,
+        machine,
+        boot,
+        batch,
+        &mut cards,
+        &mut printed,
+        server,
+    );
+    let told = match end {
+        Ok(()) => "",
+        Err(FeedStop::BadLine) => "refused 400\n",
+        Err(FeedStop::Stale) => "refused 73\n",
+        Err(FeedStop::NoReply) => "device\n",
+        Err(_) => return Err(CaseFault::Memory),
+    };
+    printed.extend_from_slice(told.as_bytes())?;
+    Ok(printed)
+}
