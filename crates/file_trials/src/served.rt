@@ -1,0 +1,128 @@
+//! The store in a file, behind a socket that one thread serves and asks.
+use crate::exchanges::{CREATED, EXCHANGES, PRODUCT, REPORT};
+use loopback::Loopback;
+use reports::{AccountFault, close_report};
+use schema::SqlStore;
+use serving::serve_over_tables;
+use sqlite::Alter;
+use sqlite_disk::Unknown;
+use std::alloc::Global;
+use std::io::{self, ErrorKind, Write};
+use std::net::TcpStream;
+use std::process::{self, Abort};
+use std::test::Fail;
+use std::{env, fs};
+use store_data::Name;
+use store_files::{FileFault, StoreTask, Wanted, with_store};
+
+// Serves each message at a free port, one at a time, and keeps what comes back.
+#[derive(Drop)]
+struct Asked<'a> {
+    rt: &'a HostRuntime,
+}
+
+impl StoreTask for Asked<'_> {
+    type Done = io::Result<Vec<String>>;
+
+    fn perform<S: Alter>(self, store: &mut SqlStore<S>) -> io::Result<Vec<String>> {
+        let rt = self.rt;
+        let mut port = Loopback::listen(rt, 0)?;
+        let mut replies = Vec::new(rt.alloc());
+        replies.push(reply_to(rt, store, &mut port, PRODUCT)?)?;
+        for exchange in EXCHANGES {
+            let message = exchange.message(rt.alloc())?;
+            replies.push(reply_to(rt, store, &mut port, message.as_slice())?)?;
+        }
+        Ok(replies)
+    }
+}
+
+// A peer writes its whole message, one connection is served, and then the peer reads its reply.
+fn reply_to<S: Alter>(
+    rt: &HostRuntime,
+    store: &mut SqlStore<S>,
+    port: &mut Loopback<'_, HostRuntime>,
+    message: &[u8],
+) -> io::Result<String> {
+    let mut peer = TcpStream::connect(rt, port.local_addr()?)?;
+    peer.write_all(message)?;
+    if serve_over_tables(rt.alloc(), store, port, 1).is_err() {
+        return Err(ErrorKind::ConnectionRefused.into());
+    }
+    io::read_to_string(rt.alloc(), peer)
+}
+
+// Reports a batch.
+#[derive(Drop)]
+struct Reported<'a> {
+    rt: &'a HostRuntime,
+    batch: Name,
+}
+
+impl StoreTask for Reported<'_> {
+    type Done = Result<Vec<u8>, AccountFault>;
+
+    fn perform<S: Alter>(self, store: &mut SqlStore<S>) -> Result<Vec<u8>, AccountFault> {
+        let Reported { rt, batch } = self;
+        let mut text = Vec::new(rt.alloc());
+        match close_report(rt.alloc(), store, &batch, &mut text) {
+            Ok(()) => Ok(text),
+            Err(fault) => Err(fault),
+        }
+    }
+}
+
+// What a file tells of batch B1.
+fn report_of(rt: &HostRuntime, path: &str) -> Result<Result<Vec<u8>, AccountFault>, FileFault> {
+    let batch = Name::new(b"B1").ok_or(FileFault::Storage)?;
+    with_store(rt, path, Unknown, Wanted::Ours, Reported { rt, batch })
+}
+
+// What a file's server replies to the messages.
+fn replies_of(rt: &HostRuntime, path: &str) -> Result<io::Result<Vec<String>>, FileFault> {
+    with_store(rt, path, Unknown, Wanted::Any, Asked { rt })
+}
+
+// Each reply is the one to its message.
+fn check_replies(rt: &impl Abort, alloc: Global, replies: &[String]) -> Result<(), Fail> {
+    assert_eq!(rt; replies.len(), 1 + EXCHANGES.len());
+    assert_eq!(rt; replies[0].as_bytes(), CREATED);
+    for (reply, exchange) in replies.iter().skip(1).zip(EXCHANGES) {
+        assert_eq!(rt; reply.as_bytes(), exchange.reply(alloc)?.as_slice());
+    }
+    Ok(())
+}
+
+// A file of this process alone, and its log.
+fn paths(rt: &HostRuntime) -> io::Result<(String, String)> {
+    let folder = env::temp_dir(rt)?;
+    let (folder, number) = (folder.as_str(), process::id(rt.process()));
+    let path = format!(in rt.alloc(); "{folder}/neqtyrab-{number}.db")?;
+    let log = format!(in rt.alloc(); "{path}-wal")?;
+    Ok((path, log))
+}
+
+fn remove(rt: &HostRuntime, path: &str, log: &str) -> io::Result<()> {
+    fs::remove_file(rt, path)?;
+    if fs::exists(rt, log)? {
+        fs::remove_file(rt, log)?;
+    }
+    Ok(())
+}
+
+#[test]
+fn a_batch_over_a_socket_is_reported_from_its_file(rt: HostRuntime) -> Result<(), Fail> {
+    let (path, log) = paths(&rt)?;
+    // A report makes no file.
+    assert_eq!(rt; report_of(&rt, path.as_str()), Err(FileFault::NotOurs));
+    assert!(rt; !fs::exists(&rt, path.as_str())?);
+    let first = replies_of(&rt, path.as_str())??;
+    // Now all come again, to the store that was taken up.
+    let second = replies_of(&rt, path.as_str())??;
+    let text = report_of(&rt, path.as_str())??;
+    remove(&rt, path.as_str(), log.as_str())?;
+    check_replies(&rt, rt.alloc(), first.as_slice())?;
+    check_replies(&rt, rt.alloc(), second.as_slice())?;
+    assert_eq!(rt; text.as_slice(), REPORT.as_bytes());
+    Ok(())
+}
