@@ -1,0 +1,11 @@
+use Rattle.std.proofs.Common.{subst, sym}
+use Rattle.sqlite.specs.Held.{state}
+use Rattle.rows_of_facts.specs.Image.{image}
+use Rattle.sql_order.specs.declared.versions.Version.TheVariants.{Three}
+use Rattle.order_tables.specs.Holding.{HoldsRows}
+use Rattle.reopening.proofs.tables.SqlStoreReopen.reopen.Goals as goal
+
+pub returns-in-Ok : goal.returns-in-Ok
+returns-in-Ok g c = λ shut clean d held.
+    c.in-Ok.ensures.holds clean Three d held.0
+    (subst (λ h. HoldsRows Three (image d) (state g.S.Store h).now) (sym c.close.ensures.handed) (c.our_rows_are_an_image.ensures.held (image d) _ (held.1 shut)))

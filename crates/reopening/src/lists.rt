@@ -1,0 +1,15 @@
+//! Lists have nothing to close.
+use crate::reopen::Reopen;
+use job_core::StoreFault;
+use list_store::ListStore;
+use std::alloc::Global;
+
+impl Reopen for ListStore {
+    ghost use Rattle.std.specs.Prelude.{⊤};
+
+    ghost usable = { λ _. ⊤ };
+
+    fn reopen(self, _alloc: Global) -> Result<ListStore, StoreFault> {
+        Ok(self)
+    }
+}

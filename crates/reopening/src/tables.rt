@@ -1,0 +1,24 @@
+//! The tables of a database are closed, and adopted again.
+use crate::reopen::Reopen;
+use job_core::StoreFault;
+use order_tables::our_rows_are_an_image;
+use schema::{OpenFault, SqlStore};
+use sqlite::Alter;
+use std::alloc::Global;
+
+impl<S: Alter + Drop> Reopen for SqlStore<S> {
+    ghost use Rattle.std.specs.Prelude.{IsTrue};
+    ghost use Rattle.sqlite.specs.Held.{state};
+    ghost use Rattle.schema.specs.Stores.{connection};
+
+    ghost usable = { λ store. IsTrue (state S.Store (connection store)).is_open };
+
+    fn reopen(self, alloc: Global) -> Result<SqlStore<S>, StoreFault> {
+        our_rows_are_an_image();
+        match SqlStore::adopt(alloc, self.close()) {
+            Ok(store) => Ok(store),
+            Err((_, OpenFault::Store { fault })) => Err(fault),
+            Err((_, OpenFault::NotOurs | OpenFault::Damaged)) => Err(StoreFault::Device),
+        }
+    }
+}
