@@ -1,2 +1,4 @@
+mod CommandLemmas
 mod FlushLemmas
 mod NumberLemmas
+mod TextLemmas

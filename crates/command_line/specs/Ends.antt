@@ -3,8 +3,17 @@ use Rattle.std.specs.Prelude.{ℕ, Bool, List, ◌++◌, codes, if◌then◌else
 use Rattle.std.specs.Prelude.{Result, Ok, Err}
 use Rattle.std.specs.Fmt.{decimal}
 use Rattle.batch_import.specs.Kinds.{code_of}
-use Rattle.drill.specs.declared.DrillStop.{DrillStop}
-use Rattle.drill.specs.declared.DrillStop.TheVariants as drill
+use Rattle.job_core.specs.Refusals as refusals
+use Rattle.job_core.specs.declared.store.StoreFault.{StoreFault}
+use Rattle.job_core.specs.declared.store.StoreFault.TheVariants as store
+use Rattle.reports.specs.declared.fault.AccountFault.{AccountFault}
+use Rattle.reports.specs.declared.fault.AccountFault.TheVariants as account
+use Rattle.told_lines.specs.declared.lines.ServeStop.{ServeStop}
+use Rattle.told_lines.specs.declared.lines.ServeStop.TheVariants as serve
+use Rattle.store_files.specs.declared.fault.FileFault.{FileFault}
+use Rattle.store_files.specs.declared.fault.FileFault.TheVariants as file
+use Rattle.drill.specs.declared.stop.DrillStop.{DrillStop}
+use Rattle.drill.specs.declared.stop.DrillStop.TheVariants as drill
 use Rattle.command_line.specs.declared.end.End.{End}
 use Rattle.command_line.specs.declared.end.End.TheVariants as end
 use Rattle.command_line.specs.declared.end.Exit.{Exit}
@@ -16,8 +25,8 @@ use Rattle.plan_print.specs.declared.plan.PlanStop.{PlanStop}
 use Rattle.plan_print.specs.declared.plan.PlanStop.TheVariants as stop
 
 -- done and help end with 0, a refusal or a bad line with 1, a usage fault with 2, and a fault of a
--- device or of memory with 3; a fault is told by its number and row, an input that is too large by
--- 413 alone, and a usage fault has no words of the program's own
+-- file, a device or of memory with 3; a fault of a batch is told by its number and row, every other
+-- refusal by its number alone, and a usage fault has no words of the program's own
 abbrev pub exit_of : End → Exit
 exit_of end.Done = record { status = 0; words = None }
 exit_of end.Helped = record { status = 0; words = None }
@@ -26,6 +35,12 @@ exit_of (end.Refused fault) =
     record { status = 1; words = Some (told.RefusedRow (code_of fault.kind) fault.row) }
 exit_of end.TooLarge = record { status = 1; words = Some (told.Refused 413) }
 exit_of (end.BadLine line) = record { status = 1; words = Some (told.BadLine line) }
+exit_of end.NotOurs = record { status = 1; words = Some (told.Refused 81) }
+exit_of end.Damaged = record { status = 1; words = Some (told.Refused 82) }
+exit_of (end.NotReported why) =
+    record { status = 1; words = Some (told.Refused (refusals.code_of why)) }
+exit_of end.Storage = record { status = 3; words = Some told.Storage }
+exit_of end.PortFailed = record { status = 3; words = Some told.Device }
 exit_of end.ReadFailed = record { status = 3; words = Some told.Device }
 exit_of end.WriteFailed = record { status = 3; words = Some told.Device }
 exit_of end.Memory = record { status = 3; words = Some told.Memory }
@@ -36,6 +51,7 @@ told_text (told.Refused number) = codes "refused " ++ decimal number
 told_text (told.RefusedRow number row) =
     codes "refused " ++ (decimal number ++ (codes " row " ++ decimal row))
 told_text (told.BadLine line) = codes "bad line " ++ decimal line
+told_text told.Storage = codes "storage"
 told_text told.Device = codes "device"
 told_text told.Memory = codes "memory"
 
@@ -55,6 +71,7 @@ end_of_plan (Err stop) = end_of_plan_stop stop
 
 abbrev pub end_of_drill_stop : DrillStop → End
 end_of_drill_stop (drill.BadLine line) = end.BadLine line
+end_of_drill_stop drill.Storage = end.Storage
 end_of_drill_stop drill.ReadFailed = end.ReadFailed
 end_of_drill_stop drill.WriteFailed = end.WriteFailed
 end_of_drill_stop drill.Memory = end.Memory
@@ -64,9 +81,34 @@ abbrev pub end_of_drill : Result (Unit {0}) DrillStop → End
 end_of_drill (Ok u) = end.Done
 end_of_drill (Err stop) = end_of_drill_stop stop
 
+abbrev pub end_of_store : StoreFault → End
+end_of_store store.Memory = end.Memory
+end_of_store store.Device = end.Storage
+end_of_store store.Full = end.Storage
+
+-- of a file that isn't taken
+abbrev pub end_of_file : FileFault → End
+end_of_file file.NotOurs = end.NotOurs
+end_of_file file.Damaged = end.Damaged
+end_of_file file.Storage = end.Storage
+end_of_file file.Memory = end.Memory
+
+-- of `serve`
+abbrev pub end_of_serve_stop : ServeStop → End
+end_of_serve_stop serve.Next = end.PortFailed
+end_of_serve_stop serve.Write = end.WriteFailed
+end_of_serve_stop serve.Memory = end.Memory
+
+-- of `report`
+abbrev pub end_of_account : AccountFault → End
+end_of_account (account.Refused why) = end.NotReported why
+end_of_account (account.Store fault) = end_of_store fault
+end_of_account account.Write = end.WriteFailed
+
 -- of words that give no subcommand, by whether what they are told was written
 abbrev pub told_end : WordsFault → Bool → End
 told_end (words.Help text) is_written = if is_written then end.Helped else end.WriteFailed
 told_end (words.Usage text) is_written = end.Usage
 told_end words.NotText is_written = end.Usage
+told_end words.BadName is_written = end.Usage
 told_end words.Memory is_written = end.Memory

@@ -4,13 +4,13 @@ use Rattle.store_data.specs.declared.row.Product.{Product}
 use Rattle.text_io.specs.Inputs.{Tells}
 use Rattle.plan_print.specs.PlanEnds.{PlanEnds}
 use Rattle.plan_print.specs.declared.plan.PlanStop.{PlanStop}
-use Rattle.drill.specs.Ends.{DrillEnds}
-use Rattle.drill.specs.declared.DrillStop.{DrillStop}
+use Rattle.drill_tables.specs.Drills.{DrillEnds}
+use Rattle.drill.specs.declared.stop.DrillStop.{DrillStop}
 use Rattle.command_line.specs.Ends.{end_of_drill, end_of_plan}
 use Rattle.command_line.specs.declared.end.End.{End}
 use Rattle.command_line.specs.declared.end.End.TheVariants.{Done, BadLine}
 use Rattle.command_line.specs.declared.words.Words.{Words}
-use Rattle.command_line.specs.declared.words.Words.TheVariants.{Plan, Drill}
+use Rattle.command_line.specs.declared.words.Words.TheVariants.{Plan, Drill, Serve, Report}
 
 -- the product that the values of `plan` stand for, by the name `plan`
 abbrev pub product_of : ℕ → ℕ → Bool → Product
@@ -27,11 +27,13 @@ abbrev pub DrillRuns : Option (List ℕ) → Option (List ℕ) → Option (List 
 DrillRuns known before after end = (ended : Result (Unit {0}) DrillStop)
     × (end ≡ end_of_drill ended) × DrillEnds known before after ended
 
--- so of the subcommand that the words ask for
+-- so of the subcommand that the words ask for, if it uses the streams alone
 abbrev pub Runs : Words → Option (List ℕ) → Option (List ℕ) → Option (List ℕ) → End → Type 0
 Runs (Plan max low check) known before after end =
     PlanRuns (product_of max low check) known before after end
 Runs Drill known before after end = DrillRuns known before after end
+Runs (Serve db port turns) known before after end = ⊥
+Runs (Report db batch) known before after end = ⊥
 
 -- the ends at which the whole text was printed
 abbrev pub IsPrinted : End → Type 0

@@ -1,13 +1,19 @@
 //! How the program ends: what a run came to, its exit status, and its words on standard error.
 ghost use Rattle.std.specs.Prelude.{◌≡◌};
-ghost use Rattle.command_line.specs.Ends.{end_of_drill_stop, end_of_plan_stop, exit_of, told_end};
+ghost use Rattle.command_line.specs.Ends.{end_of_account, end_of_drill_stop, end_of_file};
+ghost use Rattle.command_line.specs.Ends.{end_of_plan_stop, end_of_serve_stop, end_of_store};
+ghost use Rattle.command_line.specs.Ends.{exit_of, told_end};
 
 use crate::words::WordsFault;
 use batch_import::RowFault;
 use drill::DrillStop;
+use job_core::{Refusal, StoreFault};
 use plan_print::PlanStop;
+use reports::AccountFault;
 use std::error::Error;
 use std::fmt;
+use store_files::FileFault;
+use told_lines::ServeStop;
 
 /// What a run came to.
 #[derive(Clone, Copy, Debug, PartialEq, Eq)]
@@ -24,6 +30,16 @@ pub enum End {
     TooLarge,
     /// The first line of a script that has none of its forms; a script's first line is 1.
     BadLine(u64),
+    /// There is no file that SQLite opens and that has our tables.
+    NotOurs,
+    /// The file has our tables, and their rows are not those of sound contents.
+    Damaged,
+    /// There is no report, for this reason.
+    NotReported(Refusal),
+    /// The store's file failed, or is full.
+    Storage,
+    /// The port can't be had, or no connection to it.
+    PortFailed,
     /// A read failed.
     ReadFailed,
     /// A write or a flush failed, or a write took nothing.
@@ -52,9 +68,58 @@ impl From<DrillStop> for End {
     fn from(stop: DrillStop) -> End {
         match stop {
             DrillStop::BadLine(line) => End::BadLine(line),
+            DrillStop::Storage => End::Storage,
             DrillStop::ReadFailed => End::ReadFailed,
             DrillStop::WriteFailed => End::WriteFailed,
             DrillStop::Memory => End::Memory,
+        }
+    }
+}
+
+impl From<StoreFault> for End {
+    ghost from_gives = { λ fault end. end ≡ end_of_store fault };
+
+    fn from(fault: StoreFault) -> End {
+        match fault {
+            StoreFault::Memory => End::Memory,
+            StoreFault::Device | StoreFault::Full => End::Storage,
+        }
+    }
+}
+
+impl From<FileFault> for End {
+    ghost from_gives = { λ fault end. end ≡ end_of_file fault };
+
+    fn from(fault: FileFault) -> End {
+        match fault {
+            FileFault::NotOurs => End::NotOurs,
+            FileFault::Damaged => End::Damaged,
+            FileFault::Storage => End::Storage,
+            FileFault::Memory => End::Memory,
+        }
+    }
+}
+
+impl From<ServeStop> for End {
+    ghost from_gives = { λ stop end. end ≡ end_of_serve_stop stop };
+
+    fn from(stop: ServeStop) -> End {
+        match stop {
+            ServeStop::Next => End::PortFailed,
+            ServeStop::Write => End::WriteFailed,
+            ServeStop::Memory => End::Memory,
+        }
+    }
+}
+
+impl From<AccountFault> for End {
+    ghost from_gives = { λ fault end. end ≡ end_of_account fault };
+
+    fn from(fault: AccountFault) -> End {
+        match fault {
+            AccountFault::Refused(why) => End::NotReported(why),
+            AccountFault::Store(fault) => End::from(fault),
+            AccountFault::Write => End::WriteFailed,
         }
     }
 }
@@ -72,7 +137,7 @@ pub fn told_end(fault: &WordsFault, is_written: bool) -> End
                 End::WriteFailed
             }
         }
-        WordsFault::Usage(_) | WordsFault::NotText => End::Usage,
+        WordsFault::Usage(_) | WordsFault::NotText | WordsFault::BadName => End::Usage,
         WordsFault::Memory => End::Memory,
     }
 }
@@ -86,7 +151,9 @@ pub enum Told {
     RefusedRow { number: u16, row: u32 },
     /// The first line of a script that has none of its forms.
     BadLine { line: u64 },
-    /// A read or a write failed.
+    /// The store's file failed, or is full.
+    Storage,
+    /// A read or a write failed, or the port can't be had.
     Device,
     /// Memory was refused.
     Memory,
@@ -103,6 +170,7 @@ impl fmt::Display for Told {
             Told::Refused { number } => write!(f, "refused {number}"),
             Told::RefusedRow { number, row } => write!(f, "refused {number} row {row}"),
             Told::BadLine { line } => write!(f, "bad line {line}"),
+            Told::Storage => f.write_str("storage"),
             Told::Device => f.write_str("device"),
             Told::Memory => f.write_str("memory"),
         }
@@ -114,7 +182,7 @@ impl Error for Told {}
 /// The status of the program, and its words for standard error.
 #[derive(Clone, Copy, Debug, PartialEq, Eq)]
 pub struct Exit {
-    /// 0 done, 1 refused, 2 usage, 3 device or memory.
+    /// 0 done, 1 refused, 2 usage, 3 storage, device or memory.
     pub status: u8,
     /// The words, as they are displayed. A usage fault has `clap`'s, which were told.
     pub words: Option<Told>,
@@ -134,7 +202,14 @@ pub fn exit_of(end: End) -> Exit
         }
         End::TooLarge => (1, Some(Told::Refused { number: 413 })),
         End::BadLine(line) => (1, Some(Told::BadLine { line })),
-        End::ReadFailed | End::WriteFailed => (3, Some(Told::Device)),
+        End::NotOurs => (1, Some(Told::Refused { number: 81 })),
+        End::Damaged => (1, Some(Told::Refused { number: 82 })),
+        End::NotReported(why) => {
+            let number = u16::from(why.code());
+            (1, Some(Told::Refused { number }))
+        }
+        End::Storage => (3, Some(Told::Storage)),
+        End::PortFailed | End::ReadFailed | End::WriteFailed => (3, Some(Told::Device)),
         End::Memory => (3, Some(Told::Memory)),
     };
     Exit { status, words }

@@ -4,26 +4,28 @@ ghost use Rattle.std.specs.Io.Buffered.{writer_buffer, writer_contents};
 ghost use Rattle.std.specs.Io.KnownBytes.{Keeps};
 ghost use Rattle.store_data.specs.Sequence.{IsProduct};
 ghost use Rattle.command_line.specs.Runs.{DrillRuns, IsPrinted, PlanRuns, Runs, product_of};
-ghost use Rattle.command_line.specs.Words.{InRange};
+ghost use Rattle.command_line.specs.Words.{InRange, UsesStreams};
 ghost use Rattle.command_line.specs.declared.end.End.TheVariants.{WriteFailed};
 
 use crate::end::End;
 use crate::words::Words;
-use drill::{DrillStop, drill_engine};
+use drill::DrillStop;
+use drill_tables::drill_engine;
 use plan_print::plan_engine;
 use std::alloc::Global;
 use std::io::{BufWriter, Read, Write};
 use store_data::{Name, Product};
 
-/// Does what the words ask for, from the reader to the writer behind the buffer, which holds
-/// nothing where the whole text was printed. A flush that fails is a failed write.
+/// Does what the words ask for, `plan` or `drill`, from the reader to the writer behind the buffer,
+/// which holds nothing where the whole text was printed. A flush that fails is a failed write.
 pub fn run<R: Read, W: Write + Drop>(
     alloc: Global,
     words: Words,
     reader: &mut R,
     writer: &mut BufWriter<W>,
 ) -> End
-    requires { InRange words }
+    requires range { InRange words }
+    requires streams { UsesStreams words }
     ensures end { Runs words (R.remaining reader.old) (writer_contents W.contents writer.old)
         (writer_contents W.contents writer.new) result }
     ensures flushed { IsPrinted result → writer_buffer writer.new ≡ [] }
@@ -33,6 +35,7 @@ pub fn run<R: Read, W: Write + Drop>(
             run_plan(alloc, &product_of(max, low, check), reader, writer)
         }
         Words::Drill => run_drill(alloc, reader, writer),
+        Words::Serve { .. } | Words::Report { .. } => unreachable!(),
     }
 }
 

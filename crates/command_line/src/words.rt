@@ -1,31 +1,62 @@
 //! The program's words: the subcommand that they ask for, each of its values in its range.
-ghost use Rattle.std.specs.Prelude.{◌≡◌, ◌≤◌, ℕ, [], IfOk, IfErr, IfSome, None, false, map};
-ghost use Rattle.clap.specs.Words.{HasKind, Kinds, app_of, fault_of, rule_of};
+ghost use Rattle.std.specs.Prelude.{◌≡◌, ◌≤◌, ◌<◌, ◌^◌, ℕ, [], IfOk, IfErr, IfSome, IsTrue, ◌↔◌};
+ghost use Rattle.std.specs.Prelude.{None, Some, false, map, option_map};
+ghost use Rattle.clap.specs.Words.{HasKind, Kinds, app_of, fault_of, first_of, rule_of};
 ghost use Rattle.clap.specs.declared.builder.command.Command.TheViews.{out-Command as fields_of};
 ghost use Rattle.clap.specs.Words.{found_of, rows_of, subcommand_rows_of};
 ghost use Rattle.command_line.specs.Words.{InRange, IsNumber, IsRefusal, IsRefusedBy, Means};
-ghost use Rattle.command_line.specs.Words.{ReadsAs, ReadsPlan, drill_command, flag};
-ghost use Rattle.command_line.specs.Words.{number_option, plan_command, program};
+ghost use Rattle.command_line.specs.Words.{ReadsAs, ReadsNot, ReadsPlan, ReadsReport, ReadsServe};
+ghost use Rattle.command_line.specs.Words.{ReportsNot, ServesNot};
+ghost use Rattle.command_line.specs.Words.{UsesStreams, drill_command, flag, number_option};
+ghost use Rattle.command_line.specs.Words.{plan_command, program, report_command, serve_command};
+ghost use Rattle.command_line.specs.Words.{text_needed, number_needed};
 ghost use Rattle.command_line.specs.declared.words.WordsFault.TheVariants.{Memory};
+ghost use Rattle.command_line.specs.declared.words.Unread.TheVariants as lacks;
 
 use clap::builder::ValueParser;
 use clap::error::ErrorKind;
 use clap::{Arg, ArgAction, ArgMatches, Command, Error, value_parser};
 use std::alloc::{AllocError, Global};
 use std::convert::AsStr;
-use std::io;
+use std::{fmt, io};
+use store_data::Name;
 
 /// What is told of words that clap takes and that ask for nothing: none do.
 const OUT_OF_RANGE: &str = "error: a value is out of its range\n";
 
 /// A subcommand of the program, each value in its range.
-#[derive(Clone, Copy, Debug, PartialEq, Eq)]
+#[derive(PartialEq, Eq, Drop)]
 pub enum Words {
     /// Prints the commands of a batch, with at most `max` bytes of data in each STORE DATA, 16 to
     /// 255, the product's number `low` in its P1, 0 to 31, and whether plain records are checked.
     Plan { max: u8, low: u8, check: bool },
     /// Serves a script of requests in memory. It has no options.
     Drill,
+    /// Serves `turns` connections to `port` of 127.0.0.1, one after the other, over the file at the
+    /// path `db`. A port is 1 to 65,535, and there are 1 to 1,000,000 turns.
+    Serve { db: String, port: u16, turns: u32 },
+    /// Prints the report of a batch in the file at the path `db`.
+    Report { db: String, batch: Name },
+}
+
+impl fmt::Debug for Words {
+    fn fmt<W: fmt::Write>(&self, f: &mut fmt::Formatter<W>) -> fmt::Result {
+        f.write_str(match self {
+            Words::Plan { .. } => "Plan",
+            Words::Drill => "Drill",
+            Words::Serve { .. } => "Serve",
+            Words::Report { .. } => "Report",
+        })
+    }
+}
+
+impl Words {
+    /// Whether the subcommand uses the standard streams alone, and no file or socket.
+    pub fn uses_streams(&self) -> bool
+        ensures { IsTrue result ↔ UsesStreams self.now }
+    {
+        matches!(self, Words::Plan { .. } | Words::Drill)
+    }
 }
 
 /// Why the words give no subcommand.
@@ -37,6 +68,8 @@ pub enum WordsFault {
     Usage(String),
     /// A word isn't UTF-8: they are no use of the program.
     NotText,
+    /// What should be a batch's name isn't a name: they are no use of the program.
+    BadName,
     /// Memory ran out.
     Memory,
 }
@@ -75,9 +108,13 @@ pub fn read_words<S: AsStr>(alloc: Global, words: &[S]) -> Result<Words, WordsFa
     ensures refusal { IfErr result (IsRefusal (map S.text words.now)) }
 {
     match program(alloc)?.try_get_matches_from(words) {
-        Ok(matches) => match words_of(&matches) {
-            Some(words) => Ok(words),
-            None => Err(WordsFault::Usage(String::from_str(alloc, OUT_OF_RANGE)?)),
+        Ok(matches) => match words_of(alloc, &matches) {
+            Ok(words) => Ok(words),
+            Err(Unread::Nothing) => {
+                Err(WordsFault::Usage(String::from_str(alloc, OUT_OF_RANGE)?))
+            }
+            Err(Unread::BadName) => Err(WordsFault::BadName),
+            Err(Unread::Memory) => Err(WordsFault::Memory),
         },
         Err(error) => Err(refusal_of(alloc, &error)?),
     }
@@ -90,7 +127,9 @@ fn program<'a>(alloc: Global) -> Result<Command<'a>, AllocError>
         .about("A job server for card personalisation")
         .subcommand_required(true)
         .subcommand(plan_command(alloc)?)?
-        .subcommand(drill_command(alloc))
+        .subcommand(drill_command(alloc))?
+        .subcommand(serve_command(alloc)?)?
+        .subcommand(report_command(alloc)?)
 }
 
 fn plan_command<'a>(alloc: Global) -> Result<Command<'a>, AllocError>
@@ -120,6 +159,59 @@ fn drill_command<'a>(alloc: Global) -> Command<'a>
     )
 }
 
+fn serve_command<'a>(alloc: Global) -> Result<Command<'a>, AllocError>
+    ensures { IfOk result (λ c. (app_of c ≡ serve_command) × ((fields_of c).has_globals ≡ false)) }
+{
+    let db = text_needed(alloc, "db", "PATH").help(
+        "The file that holds everything; a new one is made where there is none",
+    );
+    let port = number_needed(alloc, "port", value_parser!(u16).range(1..=65_535)).help(
+        "The port of 127.0.0.1, 1 to 65535",
+    );
+    let turns = number_needed(alloc, "turns", value_parser!(u32).range(1..=1_000_000)).help(
+        "How many connections are served before it ends, 1 to 1000000",
+    );
+    Command::new(alloc, "serve")
+        .about("Serves requests on 127.0.0.1 over a file, one connection after the other")
+        .arg(db)?
+        .arg(port)?
+        .arg(turns)
+}
+
+fn report_command<'a>(alloc: Global) -> Result<Command<'a>, AllocError>
+    ensures { IfOk result (λ c. (app_of c ≡ report_command) × ((fields_of c).has_globals ≡ false)) }
+{
+    let db = text_needed(alloc, "db", "PATH").help("The file that holds everything");
+    let batch = text_needed(alloc, "batch", "NAME").help("The batch");
+    Command::new(alloc, "report")
+        .about("Prints the report of a batch")
+        .arg(db)?
+        .arg(batch)
+}
+
+// `--name WORD`, which has to be given.
+fn text_needed<'a>(alloc: Global, name: &'a str, word: &'a str) -> Arg<'a>
+    ensures rule { rule_of result ≡ text_needed name.entry.now }
+    ensures own { result.global ≡ false }
+{
+    Arg::new(alloc, name)
+        .long(name)
+        .value_name(word)
+        .required(true)
+}
+
+// `--name N`, which has to be given.
+fn number_needed<'a>(alloc: Global, name: &'a str, parser: ValueParser<'a>) -> Arg<'a>
+    ensures rule { rule_of result ≡ number_needed name.entry.now parser.entry }
+    ensures own { result.global ≡ false }
+{
+    Arg::new(alloc, name)
+        .long(name)
+        .value_name("N")
+        .value_parser(parser)
+        .required(true)
+}
+
 // `--name N`, and the default where it is not given.
 fn number_option<'a>(
     alloc: Global,
@@ -145,18 +237,40 @@ fn flag<'a>(alloc: Global, name: &'a str) -> Arg<'a>
     Arg::new(alloc, name).long(name).action(ArgAction::SetTrue)
 }
 
+/// Why words that `clap` takes are not read.
+#[derive(Clone, Copy, Debug, PartialEq, Eq)]
+enum Unread {
+    /// They ask for nothing in range.
+    Nothing,
+    /// What should be a batch's name isn't a name.
+    BadName,
+    /// Memory was refused.
+    Memory,
+}
+
+impl From<AllocError> for Unread {
+    ghost from_gives = { λ _ why. why ≡ lacks.Memory };
+
+    fn from(_error: AllocError) -> Unread {
+        Unread::Memory
+    }
+}
+
 // The subcommand, if it is one of the program's and each of its values is there, in its range.
-fn words_of(matches: &ArgMatches<'_>) -> Option<Words>
-    ensures ranges { IfSome result InRange }
-    ensures meaning { IfSome result (ReadsAs (subcommand_rows_of matches.now)) }
-    ensures nothing { result ≡ None → (w : Words) → InRange w
-        → ¬ ReadsAs (subcommand_rows_of matches.now) w }
+fn words_of(alloc: Global, matches: &ArgMatches<'_>) -> Result<Words, Unread>
+    ensures ranges { IfOk result InRange }
+    ensures meaning { IfOk result (ReadsAs (subcommand_rows_of matches.now)) }
+    ensures unread { IfErr result (ReadsNot (subcommand_rows_of matches.now)) }
 {
-    let (name, values) = matches.subcommand()?;
+    let Some((name, values)) = matches.subcommand() else {
+        return Err(Unread::Nothing);
+    };
     match name {
-        "plan" => plan_of(values),
-        "drill" => Some(Words::Drill),
-        _ => None,
+        "plan" => plan_of(values).ok_or(Unread::Nothing),
+        "drill" => Ok(Words::Drill),
+        "serve" => serve_of(alloc, values),
+        "report" => report_of(alloc, values),
+        _ => Err(Unread::Nothing),
     }
 }
 
@@ -168,14 +282,57 @@ fn plan_of(values: &ArgMatches<'_>) -> Option<Words>
         → ¬ ReadsPlan (rows_of (found_of values.now)) w }
 {
     Some(Words::Plan {
-        max: number(values, "max", 16, 255)?,
-        low: number(values, "low", 0, 31)?,
+        max: number(values, "max", 16, 255)? as u8,
+        low: number(values, "low", 0, 31)? as u8,
         check: values.get_one("check")?,
     })
 }
 
+// The values of `serve`, if each is there, in its range.
+fn serve_of(alloc: Global, values: &ArgMatches<'_>) -> Result<Words, Unread>
+    ensures ranges { IfOk result InRange }
+    ensures values { IfOk result (ReadsServe (rows_of (found_of values.now))) }
+    ensures unread { IfErr result (ServesNot (rows_of (found_of values.now))) }
+{
+    let Some(db) = values.get_str("db") else {
+        return Err(Unread::Nothing);
+    };
+    let Some(port) = number(values, "port", 1, 65_535) else {
+        return Err(Unread::Nothing);
+    };
+    let Some(turns) = number(values, "turns", 1, 1_000_000) else {
+        return Err(Unread::Nothing);
+    };
+    Ok(Words::Serve {
+        db: String::from_str(alloc, db)?,
+        port: port as u16,
+        turns,
+    })
+}
+
+// The values of `report`, if each is there, and the batch's is a name.
+fn report_of(alloc: Global, values: &ArgMatches<'_>) -> Result<Words, Unread>
+    ensures ranges { IfOk result InRange }
+    ensures values { IfOk result (ReadsReport (rows_of (found_of values.now))) }
+    ensures unread { IfErr result (ReportsNot (rows_of (found_of values.now))) }
+{
+    let Some(db) = values.get_str("db") else {
+        return Err(Unread::Nothing);
+    };
+    let Some(name) = values.get_str("batch") else {
+        return Err(Unread::Nothing);
+    };
+    let Some(batch) = Name::new(name.as_bytes()) else {
+        return Err(Unread::BadName);
+    };
+    Ok(Words::Report {
+        db: String::from_str(alloc, db)?,
+        batch,
+    })
+}
+
 // The number of an option, if it has one from `low` to `high`.
-fn number(values: &ArgMatches<'_>, name: &str, low: u8, high: u8) -> Option<u8>
+fn number(values: &ArgMatches<'_>, name: &str, low: u32, high: u32) -> Option<u32>
     ensures some { IfSome result (λ n.
         IsNumber name.now (rows_of (found_of values.now)) n × (low ≤ n) × (n ≤ high)) }
     ensures none { result ≡ None → (n : ℕ) → (low ≤ n) → (n ≤ high)

@@ -16,7 +16,7 @@ state_of c device = record {
   doubts = device.lies;
   failed = device.failed;
   full = device.full;
-  may_leave = λ d. d ≡ c;
+  may_leave = λ d. d ≡ Some c;
 }
 
 abbrev pub state : FaultyStore → State

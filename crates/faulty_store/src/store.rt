@@ -17,7 +17,7 @@ pub struct FaultyStore {
 }
 
 impl FaultyStore {
-    ghost use Rattle.std.specs.Prelude.{◌≡◌, false, OnOk};
+    ghost use Rattle.std.specs.Prelude.{◌≡◌, false, OnOk, Some};
     ghost use Rattle.job_core.specs.Contents.{AreSound, Contents, no_contents};
     ghost use Rattle.job_core.specs.Store.{CountsFaults, IsHonest, Stays};
     ghost use Rattle.list_store.specs.Lists.{contents};
@@ -50,7 +50,7 @@ impl FaultyStore {
     /// The store that is opened on what a crash at this moment leaves, and what is planned next for
     /// its device, which keeps its counts.
     pub fn reopen(self, plan: Option<Plan>) -> FaultyStore
-        ensures holds { (c : Contents) → AreSound c → (state self).may_leave c
+        ensures holds { (c : Contents) → AreSound c → (state self).may_leave (Some c)
             → (state result).holds c }
         ensures device { result.device ≡ record self.device { plan = plan; is_shut = false } }
     {

@@ -1,5 +1,5 @@
 -- What a store stands for, and what its calls do to that.
-use Rattle.std.specs.Prelude.{◌≡◌, ◌⊎◌, ◌≤◌, ◌+◌, ◌-◌, ◌^◌, ℕ, min, Result, Ok, Err, IfOk, OnOk, OnErr}
+use Rattle.std.specs.Prelude.{◌≡◌, ◌⊎◌, ◌≤◌, ◌+◌, ◌-◌, ◌^◌, ℕ, min, Option, None, Some, Result, Ok, Err, IfOk, OnOk, OnErr}
 use Rattle.job_core.specs.declared.store.StoreFault.{StoreFault}
 use Rattle.job_core.specs.declared.store.StoreFault.TheVariants.{Memory, Device, Full}
 use Rattle.job_core.specs.Contents.{AreSame, Contents}
@@ -13,8 +13,13 @@ pub record State : Type 1 where
   pub failed : ℕ
   -- how often it answered that its device is full
   pub full : ℕ
-  -- what an open after a crash at this moment may find
-  pub may_leave : Contents → Type 0
+  -- what an open after a crash at this moment may find: contents, or none, and it is refused
+  pub may_leave : Option Contents → Type 0
+
+-- these contents are found
+abbrev pub IsFound : Option Contents → Contents → Type 0
+IsFound None c = ⊥
+IsFound (Some d) c = AreSame d c
 
 -- so far the device has returned what was written
 abbrev pub IsHonest : State → Type 0
@@ -26,7 +31,7 @@ IsHonest s = s.doubts ≡ 0
 pub record Stays (old new : State) : Type 0 where
   pub doubts : old.doubts ≤ new.doubts
   pub contents : IsHonest new → (c : Contents) → old.holds c → new.holds c
-  pub crash : IsHonest new → (d : Contents) → new.may_leave d → old.may_leave d
+  pub crash : IsHonest new → (d : Option Contents) → new.may_leave d → old.may_leave d
 
 -- what is answered is this of the contents
 abbrev pub Reads : {T : Type 0} → State → State → Result T StoreFault → (Contents → T → Type 0) → Type 0
@@ -65,6 +70,6 @@ pub record Commits (old new : State) (result : Result (Unit {0}) StoreFault) (Ow
   pub ok : OnOk result (IsHonest new → (c : Contents) → old.holds c → Owed c → new.holds (after c))
   pub err : OnErr result (IsHonest new → (c : Contents) → old.holds c → Owed c → new.holds c)
   -- a crash leaves what it could leave before, or all of it
-  pub crash : IsHonest new → (c d : Contents) → old.holds c → Owed c → new.may_leave d → old.may_leave d ⊎ AreSame d (after c)
+  pub crash : IsHonest new → (c : Contents) (d : Option Contents) → old.holds c → Owed c → new.may_leave d → old.may_leave d ⊎ IsFound d (after c)
   -- and at Ok only the latter
-  pub settled : OnOk result (IsHonest new → (c d : Contents) → old.holds c → Owed c → new.may_leave d → AreSame d (after c))
+  pub settled : OnOk result (IsHonest new → (c : Contents) (d : Option Contents) → old.holds c → Owed c → new.may_leave d → IsFound d (after c))

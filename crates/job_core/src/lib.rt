@@ -5,6 +5,7 @@
 mod change;
 mod decision;
 mod facts;
+mod lots;
 mod refusal;
 mod reply;
 mod request;
@@ -14,6 +15,7 @@ mod store;
 pub use change::Change;
 pub use decision::decide;
 pub use facts::{Lot, RecordState, SessionState};
+pub use lots::{any_overlaps, lot_among};
 pub use refusal::Refusal;
 pub use reply::{Made, Reply};
 pub use request::{Arrival, Call, Request};

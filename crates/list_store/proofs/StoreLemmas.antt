@@ -1,10 +1,10 @@
 -- What a commit or a release makes of the contents of the lists.
-use Rattle.std.proofs.Common.{◌≡◌, ℕ, List, ◌∷◌, ◌++◌, [], Ok, sym, ap, ◌∙◌, subst, inr, arith}
+use Rattle.std.proofs.Common.{◌≡◌, ℕ, List, ◌∷◌, ◌++◌, [], Option, Some, Ok, sym, ap, ◌∙◌, subst, inr, arith}
 use Rattle.job_core.specs.declared.change.Change.{Change}
 use Rattle.job_core.specs.Facts.{Facts}
 use Rattle.job_core.specs.Sound.{changed}
-use Rattle.job_core.specs.Contents.{AreSame, AreSound, Contents, Entry, IsOwed, IsOwedRelease, Mark, above, committed, released, with_mark}
-use Rattle.job_core.specs.Store.{Commits}
+use Rattle.job_core.specs.Contents.{AreSound, Contents, Entry, IsOwed, IsOwedRelease, Mark, above, committed, released, with_mark}
+use Rattle.job_core.specs.Store.{Commits, IsFound}
 use Rattle.job_core.proofs.NextContents.{AreSame-refl, sound_committed, sound_released}
 use Rattle.list_store.specs.Lists.{state_of}
 
@@ -13,8 +13,8 @@ lists_change : (old new : Contents) (Owed : Contents → Type 0) (after : Conten
     → ((c : Contents) → AreSound c → Owed c → AreSound (after c)) → Commits (state_of old) (state_of new) (Ok tt) Owed after
 lists_change old new Owed after made keeps =
     let is_after : (c : Contents) → old ≡ c → new ≡ after c = λ c is. made ∙ ap after is in
-    let same : (c d : Contents) → old ≡ c → d ≡ new → AreSame d (after c) =
-    λ c d is at. subst (λ (x : Contents). AreSame x (after c)) (sym (at ∙ is_after c is)) (AreSame-refl (after c)) in
+    let same : (c : Contents) (d : Option Contents) → old ≡ c → d ≡ Some new → IsFound d (after c) =
+    λ c d is at. subst (λ x. IsFound x (after c)) (sym (at ∙ ap Some (is_after c is))) (AreSame-refl (after c)) in
     record {
       doubts = omega arith;
       ok = λ honest c held owed. (is_after c held.0, keeps c held.1 owed);

@@ -1,5 +1,5 @@
 -- What the lists stand for.
-use Rattle.std.specs.Prelude.{◌≡◌}
+use Rattle.std.specs.Prelude.{◌≡◌, Some}
 use Rattle.job_core.specs.Contents.{AreSound, Contents}
 use Rattle.job_core.specs.Store.{State}
 use Rattle.list_store.specs.declared.store.ListStore.{ListStore}
@@ -14,7 +14,7 @@ state_of c = record {
   doubts = 0;
   failed = 0;
   full = 0;
-  may_leave = λ d. d ≡ c;
+  may_leave = λ d. d ≡ Some c;
 }
 
 abbrev pub state : ListStore → State

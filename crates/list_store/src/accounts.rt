@@ -10,12 +10,13 @@ ghost use Rattle.job_core.specs.Facts.{Session};
 ghost use Rattle.job_core.specs.States.{is_good, lot_of, record_state, session_state};
 ghost use Rattle.list_store.specs.Sessions.{lots_for, sessions_of_record};
 
-use crate::blanks::lot_of;
 use crate::lists::{FactLists, KeptSession};
 use crate::records::record_names;
 use crate::sessions::session_state;
 use crate::states::{count_sessions, record_state, states_among};
-use job_core::{BatchTotals, BlankTotals, Lot, RecordLine, RecordState, SessionState, StoreFault};
+use job_core::{
+    BatchTotals, BlankTotals, Lot, RecordLine, RecordState, SessionState, StoreFault, lot_among,
+};
 use std::alloc::Global;
 use store_data::Name;
 
@@ -160,7 +161,7 @@ pub(crate) fn record_lines(
 fn is_blank_of(lots: &[Lot], product: &Name, blank: u64) -> bool
     ensures { result ≡ is_lot_of product.now (lot_of lots.now blank) }
 {
-    match lot_of(lots, blank) {
+    match lot_among(lots, blank) {
         None => false,
         Some(lot) => lot.product == *product,
     }

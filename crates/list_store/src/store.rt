@@ -3,7 +3,7 @@ use crate::lists::{FactLists, KeptMark, KeptRow};
 use crate::{accounts, blanks, changes, kept, marks, names, records, segments, sessions, states};
 use job_core::{
     BatchRow, BatchSize, BatchTotals, BlankTotals, Change, JobStore, KeptReply, Lot, RecordLine,
-    RecordState, SegmentRow, SessionRow, StoreFault,
+    RecordState, SegmentRow, SessionRow, StoreFault, any_overlaps, lot_among,
 };
 use std::alloc::Global;
 use store_data::{Name, Product};
@@ -51,11 +51,11 @@ impl JobStore for ListStore {
     }
 
     fn lot_of(&mut self, blank: u64) -> Result<Option<Lot>, StoreFault> {
-        Ok(blanks::lot_of(&self.facts.lots, blank).copied())
+        Ok(lot_among(&self.facts.lots, blank).copied())
     }
 
     fn overlaps(&mut self, first: u64, count: u32) -> Result<bool, StoreFault> {
-        Ok(blanks::any_overlaps(&self.facts.lots, first, count))
+        Ok(any_overlaps(&self.facts.lots, first, count))
     }
 
     fn batch(&mut self, name: &Name) -> Result<Option<BatchRow>, StoreFault> {

@@ -7,9 +7,9 @@ use Rattle.job_core.specs.declared.reply.Reply.{Reply}
 use Rattle.job_core.specs.declared.reply.Reply.TheVariants.{NumberReleased}
 use Rattle.job_core.specs.declared.rows.KeptReply.{KeptReply}
 use Rattle.job_core.specs.declared.store.StoreFault.{StoreFault}
-use Rattle.job_core.specs.Contents.{AreSame, AreSound, Contents, Entry, entry_of, mark_of, reply_of_entry}
+use Rattle.job_core.specs.Contents.{AreSound, Contents, Entry, entry_of, mark_of, reply_of_entry}
 use Rattle.job_core.specs.Steps.{by_option}
-use Rattle.job_core.specs.Store.{Commits, IsHonest, State, Stays}
+use Rattle.job_core.specs.Store.{Commits, IsFound, IsHonest, State, Stays}
 use Rattle.arrivals.specs.declared.kept.Kept.{Kept}
 use Rattle.arrivals.specs.Told.{Told, told, told_of}
 use Rattle.arrivals.specs.Meaning.{Arrived, contents_after, entry_with, is_released, reply_to, told_by, told_on}
@@ -114,10 +114,10 @@ module _ (old mid new : State) (a : Arrived) (reply : Reply) (effect : Effect) (
   after : (h : IsHonest mid) (c : Contents) (held : old.holds c) → after_effect effect (entry_with a reply) c ≡ contents_after c (a ∷ [])
   after h c held = let d = is h c held in leaves_contents c a reply effect d.0 d.1
 
-  crashes : (r : Result (Unit {0}) StoreFault) → Kept_by r → IsHonest new → (c d : Contents) → old.holds c → new.may_leave d → old.may_leave d ⊎ AreSame d (contents_after c (a ∷ []))
+  crashes : (r : Result (Unit {0}) StoreFault) → Kept_by r → IsHonest new → (c : Contents) (d : Option Contents) → old.holds c → new.may_leave d → old.may_leave d ⊎ IsFound d (contents_after c (a ∷ []))
   crashes r made h c d held left =
       let m : IsHonest mid = omega (arith, made.doubts) in
-      ⊎_elim (λ before. inl (stays.crash m d before)) (λ e. inr (subst (AreSame d) (after m c held) e)) (made.crash h c d (stays.contents m c held) (owed m c held) left)
+      ⊎_elim (λ before. inl (stays.crash m d before)) (λ e. inr (subst (IsFound d) (after m c held) e)) (made.crash h c d (stays.contents m c held) (owed m c held) left)
 
   handles_ok : (k : Kept) → told k ≡ told_of reply → Kept_by (Ok tt) → Handles old new a (Ok k)
   handles_ok k same made = record {
@@ -128,7 +128,7 @@ module _ (old mid new : State) (a : Arrived) (reply : Reply) (effect : Effect) (
     err = tt;
     crash = crashes (Ok tt) made;
     settled = λ h c d held first left. let m : IsHonest mid = omega (arith, made.doubts) in
-        subst (AreSame d) (after m c held) (made.settled h c d (stays.contents m c held) (owed m c held) left);
+        subst (IsFound d) (after m c held) (made.settled h c d (stays.contents m c held) (owed m c held) left);
   }
 
   handles_err : (fault : StoreFault) → Kept_by (Err fault) → Handles old new a (Err fault)

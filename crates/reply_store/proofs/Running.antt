@@ -8,8 +8,8 @@ use Rattle.std.proofs.lemmas.List.Elements.{filter-append}
 use Rattle.std.proofs.lemmas.Option.{none-some, slice_get_within}
 use Rattle.job_core.specs.declared.request.Arrival.{Arrival}
 use Rattle.job_core.specs.declared.store.StoreFault.{StoreFault}
-use Rattle.job_core.specs.Contents.{AreSame, AreSound, Contents, Entry, entry_of}
-use Rattle.job_core.specs.Store.{CountsFaults, IsHonest, State, Stays, failed_after, full_after}
+use Rattle.job_core.specs.Contents.{AreSound, Contents, Entry, entry_of}
+use Rattle.job_core.specs.Store.{CountsFaults, IsFound, IsHonest, State, Stays, failed_after, full_after}
 use Rattle.job_core.proofs.Lists.{each_more}
 use Rattle.arrivals.specs.declared.kept.Kept.{Kept}
 use Rattle.arrivals.specs.Told.{told}
@@ -42,16 +42,16 @@ pub after_false : (c : Contents) (tries : List Tried) (a : Arrived) → contents
 after_false c tries a = ap (contents_after c) (decided-append tries ((a, false) ∷ []) ∙ append-nil (decided tries))
 
 -- where one more commits nothing, a crash may leave what it might have left
-left_more : (before : Contents → Type 0) (c d : Contents) (tries : List Tried) (t : Tried) → contents_after c (decided (tries ++ t ∷ [])) ≡ contents_after c (decided tries) → MayBeLeft before c tries d → MayBeLeft before c (tries ++ t ∷ []) d
+left_more : (before : Option Contents → Type 0) (c : Contents) (d : Option Contents) (tries : List Tried) (t : Tried) → contents_after c (decided (tries ++ t ∷ [])) ≡ contents_after c (decided tries) → MayBeLeft before c tries d → MayBeLeft before c (tries ++ t ∷ []) d
 left_more before c d tries t same left =
-    ⊎_elim (λ now. inl (subst (AreSame d) (sym same) now))
+    ⊎_elim (λ now. inl (subst (IsFound d) (sym same) now))
     (λ rest. inr (⊎_elim
     (λ (p : IsPending c tries d). inl (
       p.0,
       p.1,
       slice_get_front tries (t ∷ []) p.0 (p.1, false) p.2,
       ap (λ (l : List Tried). contents_after c (decided l)) (take-append-le p.0 tries (t ∷ []) (≤-of (slice_get_within tries p.0 (p.1, false) p.2))) ∙ p.3 ∙ sym same,
-      subst (λ (x : Contents). AreSame d (contents_after x (p.1 ∷ []))) (sym same) p.4,
+      subst (λ (x : Contents). IsFound d (contents_after x (p.1 ∷ []))) (sym same) p.4,
     ))
     (λ q. inr (same ∙ q.0, q.1)) rest))
     left
@@ -85,8 +85,8 @@ leaves_more s0 s1 s2 tries a (Ok k) sound then run handled = record {
       subst s2.holds (sym (after_true c tries a (sound c held))) (handled.ok h n (run.contents m c held));
   crash = λ h c d held left. let m : IsHonest s1 = omega (arith, handled.doubts) in let n = contents_after c (decided tries) in let now = run.contents m c held in
       let after = after_true c tries a (sound c held) in
-      ⊎_elim (λ first. inl (subst (AreSame d) (sym after) (handled.settled h n d now first left)))
-      (λ again. ⊎_elim (λ before. left_more s0.may_leave c d tries (a, true) (after ∙ again) (run.crash m c d held before)) (λ e. inl (subst (AreSame d) (sym after) e)) (handled.crash h n d now left))
+      ⊎_elim (λ first. inl (subst (IsFound d) (sym after) (handled.settled h n d now first left)))
+      (λ again. ⊎_elim (λ before. left_more s0.may_leave c d tries (a, true) (after ∙ again) (run.crash m c d held before)) (λ e. inl (subst (IsFound d) (sym after) e)) (handled.crash h n d now left))
       (is_first n a (then n now));
 }
 leaves_more s0 s1 s2 tries a (Err f) sound then run handled = record {
@@ -101,7 +101,7 @@ leaves_more s0 s1 s2 tries a (Err f) sound then run handled = record {
         a,
         slice_get_end tries (a, false),
         ap (λ (l : List Tried). contents_after c (decided l)) (take_at tries ((a, false) ∷ []) (length tries) refl) ∙ sym after,
-        subst (λ (x : Contents). AreSame d (contents_after x (a ∷ []))) (sym after) e,
+        subst (λ (x : Contents). IsFound d (contents_after x (a ∷ []))) (sym after) e,
       )))
       (handled.crash h n d (run.contents m c held) left);
 }

@@ -1,8 +1,8 @@
 -- What the handling of an arrival does to a store.
-use Rattle.std.specs.Prelude.{◌≡◌, ◌⊎◌, ◌≤◌, false, [], ◌∷◌, None, Result, IfOk, OnOk, OnErr}
+use Rattle.std.specs.Prelude.{◌≡◌, ◌⊎◌, ◌≤◌, false, [], ◌∷◌, Option, None, Result, IfOk, OnOk, OnErr}
 use Rattle.job_core.specs.declared.store.StoreFault.{StoreFault}
-use Rattle.job_core.specs.Contents.{AreSame, Contents, entry_of}
-use Rattle.job_core.specs.Store.{State, IsHonest}
+use Rattle.job_core.specs.Contents.{Contents, entry_of}
+use Rattle.job_core.specs.Store.{IsFound, IsHonest, State}
 use Rattle.arrivals.specs.declared.kept.Kept.{Kept}
 use Rattle.arrivals.specs.Told.{told}
 use Rattle.arrivals.specs.Meaning.{Arrived, contents_after, is_released, told_on}
@@ -18,6 +18,6 @@ pub record Handles (old new : State) (a : Arrived) (result : Result Kept StoreFa
   pub ok : OnOk result (IsHonest new → (c : Contents) → old.holds c → new.holds (contents_after c (a ∷ [])))
   pub err : OnErr result (IsHonest new → (c : Contents) → old.holds c → new.holds c)
   -- a crash leaves what it could leave before, or the arrival with its kept reply
-  pub crash : IsHonest new → (c d : Contents) → old.holds c → new.may_leave d → old.may_leave d ⊎ AreSame d (contents_after c (a ∷ []))
+  pub crash : IsHonest new → (c : Contents) (d : Option Contents) → old.holds c → new.may_leave d → old.may_leave d ⊎ IsFound d (contents_after c (a ∷ []))
   -- and once a first was answered, only the latter
-  pub settled : OnOk result (IsHonest new → (c d : Contents) → old.holds c → IsFirst c a → new.may_leave d → AreSame d (contents_after c (a ∷ [])))
+  pub settled : OnOk result (IsHonest new → (c : Contents) (d : Option Contents) → old.holds c → IsFirst c a → new.may_leave d → IsFound d (contents_after c (a ∷ [])))

@@ -1,9 +1,9 @@
 -- What a list of arrivals does to a store.
-use Rattle.std.specs.Prelude.{◌≡◌, ◌⊎◌, ◌≤◌, ℕ, List, [], ◌∷◌, ◌++◌, map, filter, take, slice_get, Some, Result, IfOk, is_ok, Bool, false}
+use Rattle.std.specs.Prelude.{◌≡◌, ◌⊎◌, ◌≤◌, ℕ, List, [], ◌∷◌, ◌++◌, map, filter, take, slice_get, Option, Some, Result, IfOk, is_ok, Bool, false}
 use Rattle.job_core.specs.declared.request.Arrival.{Arrival}
 use Rattle.job_core.specs.declared.store.StoreFault.{StoreFault}
-use Rattle.job_core.specs.Contents.{AreSame, Contents}
-use Rattle.job_core.specs.Store.{IsHonest, State, Stays, failed_after, full_after}
+use Rattle.job_core.specs.Contents.{Contents}
+use Rattle.job_core.specs.Store.{IsFound, IsHonest, State, Stays, failed_after, full_after}
 use Rattle.arrivals.specs.declared.kept.Kept.{Kept}
 use Rattle.arrivals.specs.Told.{told}
 use Rattle.arrivals.specs.Meaning.{Arrived, contents_after, reply_to, told_on}
@@ -21,20 +21,20 @@ abbrev pub decided : List Tried → List Arrived
 decided tried = map (λ (t : Tried). t.0) (filter (λ (t : Tried). t.1) tried)
 
 -- the contents after the decided arrivals and one that the store failed, since when nothing was committed
-abbrev pub IsPending : Contents → List Tried → Contents → Type 0
+abbrev pub IsPending : Contents → List Tried → Option Contents → Type 0
 IsPending c tried d =
     (i : ℕ) × (a : Arrived) × (slice_get tried i ≡ Some (a, false)) × (contents_after c (decided (take i tried)) ≡ contents_after c (decided tried))
-    × AreSame d (contents_after (contents_after c (decided tried)) (a ∷ []))
+    × IsFound d (contents_after (contents_after c (decided tried)) (a ∷ []))
 
 -- what a crash may leave after these
-abbrev pub MayBeLeft : (Contents → Type 0) → Contents → List Tried → Contents → Type 0
-MayBeLeft before c tried d = AreSame d (contents_after c (decided tried)) ⊎ (IsPending c tried d ⊎ ((contents_after c (decided tried) ≡ c) × before d))
+abbrev pub MayBeLeft : (Option Contents → Type 0) → Contents → List Tried → Option Contents → Type 0
+MayBeLeft before c tried d = IsFound d (contents_after c (decided tried)) ⊎ (IsPending c tried d ⊎ ((contents_after c (decided tried) ≡ c) × before d))
 
 -- the contents are those after the decided arrivals
 pub record Leaves (old new : State) (tried : List Tried) : Type 0 where
   pub doubts : old.doubts ≤ new.doubts
   pub contents : IsHonest new → (c : Contents) → old.holds c → new.holds (contents_after c (decided tried))
-  pub crash : IsHonest new → (c d : Contents) → old.holds c → new.may_leave d → MayBeLeft old.may_leave c tried d
+  pub crash : IsHonest new → (c : Contents) (d : Option Contents) → old.holds c → new.may_leave d → MayBeLeft old.may_leave c tried d
 
 -- what is left is told of one after the other: of none, of one more that is handled, and past what changes nothing
 pub record AreLeftInTurn {S : Type 0} (state : S → State) : Type 0 where

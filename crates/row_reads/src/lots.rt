@@ -1,6 +1,6 @@
 //! Lots are read.
-ghost use Rattle.std.specs.Prelude.{◌≡◌, ◌<◌, ◌^◌, ◌+◌, false, filter, find, length, map};
-ghost use Rattle.std.specs.Prelude.{nat_lt, option_copied, option_map, IfOk, IfSome, IsPermutation};
+ghost use Rattle.std.specs.Prelude.{◌≡◌, ◌<◌, ◌^◌, false, filter, find, length, map};
+ghost use Rattle.std.specs.Prelude.{option_map, IfOk, IfSome, IsPermutation};
 ghost use Rattle.sqlite.specs.Held.{state};
 ghost use Rattle.job_core.specs.States.{any_overlaps, is_in, lot_of};
 ghost use Rattle.row_reads.specs.Decoding.{IsFirst, lot_in, lot_row_in};
@@ -10,7 +10,7 @@ ghost use Rattle.table_rows.specs.Keys.{is_lot_for, is_lot_named};
 ghost use Rattle.table_rows.specs.Tables.{PassesOnce, StoredLot};
 
 use crate::values::{count, name_at, number_at};
-use job_core::Lot;
+use job_core::{Lot, any_overlaps, lot_among};
 use sql_base::rows_of;
 use sqlite::types::ValueRef;
 use sqlite::{Alter, Connection, Error, Row};
@@ -78,28 +78,6 @@ fn lot_rows_in(alloc: Global, rows: &[Row]) -> Result<Vec<LotRow>, Error>
         lots.push(lot_row_in(row)?)?;
     }
     Ok(lots)
-}
-
-// ---- among lots
-
-// Whether a serial lies below the end of a range.
-fn is_below(serial: u64, first: u64, count: u32) -> bool
-    ensures { result ≡ nat_lt serial (first + count) }
-{
-    serial < first || serial - first < u64::from(count)
-}
-
-fn lot_among(lots: &[Lot], blank: u64) -> Option<&Lot>
-    ensures { option_copied result ≡ lot_of lots.now blank }
-{
-    lots.iter().find(|lot| lot.first <= blank && is_below(blank, lot.first, lot.count))
-}
-
-fn any_overlaps(lots: &[Lot], first: u64, count: u32) -> bool
-    ensures { result ≡ any_overlaps lots.now first count }
-{
-    lots.iter().any(|lot| is_below(first, lot.first, lot.count)
-        && is_below(lot.first, first, count))
 }
 
 // ---- queries

@@ -1,8 +1,10 @@
 -- From the rows that a database held to the contents of a store.
-use Rattle.std.proofs.Common.{◌⊎◌, inl, inr, sym, subst}
+use Rattle.std.proofs.Common.{◌≡◌, ◌⊎◌, Option, None, Some, inl, inr, sym, subst}
 use Rattle.sqlite.specs.Effect.{Database}
+use Rattle.sqlite.specs.Tree.{Trees}
 use Rattle.sqlite.specs.State.{HasCleanDisk, State, Survives}
-use Rattle.job_core.specs.Contents.{AreSame, AreSound, Contents}
+use Rattle.job_core.specs.Contents.{AreSound, Contents}
+use Rattle.job_core.specs.Store.{IsFound}
 use Rattle.table_rows.specs.Tables.{HaveSameRows, Tables}
 use Rattle.rows_of_facts.specs.Image.{image}
 use Rattle.sql_base.specs.Ends.{IsLeft}
@@ -13,8 +15,9 @@ use Rattle.sql_rows.proofs.SameRows.{same_rows}
 use Rattle.order_tables.specs.Holding.{HoldsRows, HoldsSoundRows}
 use Rattle.adoption.specs.Adopts.{Adopts}
 use Rattle.adoption.specs.Comes.{Comes}
-use Rattle.schema.specs.Link.{link}
-use Rattle.schema.proofs.Link.{RowsLaw, at_trees}
+use Rattle.schema.specs.Begun.{WasHeld}
+use Rattle.schema.specs.Link.{Stands, link, ours_at}
+use Rattle.schema.proofs.Link.{RowsLaw, at_trees, found, same_database}
 
 -- a database holds the rows of one image alone
 abbrev pub OneLaw : Type 0
@@ -34,19 +37,21 @@ held_before old new comes = let made = comes.made in (made.version, (made.conten
 pub holds_them : OneLaw → (old new : State) → Comes Adopts old new → (v : Version) (c : Contents) → AreSound c → HoldsRows v (image c) old.now → (link new 0 0).holds c
 holds_them one old new comes v c sound held = (sound, λ live. subst (IsImage (image c)) (sym (comes.shown live)) (image_of one v c old.now comes.db held comes.made))
 
-pub leaves_them : RowsLaw → OneLaw → (old new : State) → Comes Adopts old new → (v : Version) (c d : Contents) → AreSound c → HoldsRows v (image c) old.now → (link new 0 0).may_leave d → AreSame d c
+pub leaves_them : RowsLaw → OneLaw → (old new : State) → Comes Adopts old new → (v : Version) (c : Contents) (d : Option Contents) → AreSound c → HoldsRows v (image c) old.now → (link new 0 0).may_leave d → IsFound d c
 leaves_them law one old new comes v c d sound held left =
-    let now = image_of one v c old.now comes.db held comes.made in
-    law d c left.0 sound (one_image (image d) (image c) comes.db (at_trees (image d) comes.db left.1 now.ours (comes.only left.1 left.2) left.3) now)
+    found law c sound comes.db (image_of one v c old.now comes.db held comes.made) left.0 (comes.only left.0 left.1) d left.2
 
-pub left_late : OrderLaw → (old new : State) → Survives old new (IsLeft Adopts old) → HasCleanDisk new → (d : Contents) → (link new 0 0).may_leave d
-    → (link old 0 0).may_leave d ⊎ ((v : Version) × HoldsRows v (image d) old.now)
+was_held : OrderLaw → (old db : Database) → Adopts old db → (trees : Trees) → trees ≡ db.trees → (d : Option Contents) → Stands d trees → WasHeld d old
+was_held order old db made trees is None none =
+    absurd (none made.contents made.sound (subst (IsImage (image made.contents)) (sym (same_database db trees made.stands.ours is)) made.stands))
+was_held order old db made trees is (Some d) stands =
+    let same = one_image (image d) (image made.contents) db (at_trees (image d) db trees made.stands.ours is stands.1) made.stands in
+    (made.version, order made.version (image d) (image made.contents) old same made.held)
+
+pub left_late : OrderLaw → (old new : State) → Survives old new (IsLeft Adopts old) → HasCleanDisk new → (d : Option Contents) → (link new 0 0).may_leave d
+    → (link old 0 0).may_leave d ⊎ WasHeld d old.now
 left_late order old new survives clean d left =
-    elim (survives.crash clean left.1 left.2) [
-      | inl before ↦ inl (left.0, left.1, before, left.3)
-      | inr it ↦ inr (
-          let made = it.1.1 in
-          let db = it.1.0 in
-          let same = one_image (image d) (image made.contents) db (at_trees (image d) db left.1 made.stands.ours it.1.2 left.3) made.stands in
-          (made.version, order made.version (image d) (image made.contents) old.now same made.held))
+    elim (survives.crash clean left.0 left.1) [
+      | inl before ↦ inl (left.0, before, left.2)
+      | inr it ↦ inr (was_held order old.now it.1.0 it.1.1 left.0 it.1.2 d left.2)
     ]

@@ -1,18 +1,18 @@
 -- From tables with no row to a store without contents.
-use Rattle.std.proofs.Common.{◌≡◌, ◌⊎◌, inl, inr, refl, sym, subst, IsTrue}
+use Rattle.std.proofs.Common.{◌≡◌, ◌⊎◌, Option, inl, inr, refl, sym, subst, IsTrue}
 use Rattle.sqlite.specs.Effect.{Database}
 use Rattle.sqlite.specs.State.{State}
-use Rattle.job_core.specs.Contents.{AreSame, AreSound, Contents, no_contents}
+use Rattle.job_core.specs.Contents.{AreSound, Contents, no_contents}
+use Rattle.job_core.specs.Store.{IsFound}
 use Rattle.job_core.proofs.NextContents.{nothing_sound}
 use Rattle.table_rows.specs.Tables.{no_rows}
 use Rattle.rows_of_facts.specs.Image.{image, stored_batches, stored_blanks, stored_groupings, stored_lots, stored_records, stored_remakes, stored_sessions, stored_words}
 use Rattle.sql_base.specs.Columns.{no_schema}
 use Rattle.sql_base.specs.Ends.{Ends, IsLeft}
 use Rattle.sql_rows.specs.Image.{IsImage}
-use Rattle.sql_rows.proofs.OneImage.{one_image}
 use Rattle.store_commits.specs.Founds.{Founds}
 use Rattle.schema.specs.Link.{link}
-use Rattle.schema.proofs.Link.{RowsLaw, at_trees}
+use Rattle.schema.proofs.Link.{RowsLaw, found}
 
 nothing_is : image no_contents ≡ no_rows
 unfolding stored_batches stored_blanks stored_groupings stored_lots stored_records stored_remakes stored_sessions stored_words
@@ -25,15 +25,13 @@ pub holds_nothing : (old new : State) → (old.now.schema ≡ no_schema) × Ends
 holds_nothing old new it = (nothing_sound, λ live. founded old.now new.now it.0 it.1.made)
 
 -- what an open may find
-module _ (law : RowsLaw) (old new : State) (d : Contents) (left : (link new 0 0).may_leave d) where
-  left_nothing : (db : Database) → old.now.schema ≡ no_schema → Founds old.now db → left.1 ≡ db.trees → AreSame d no_contents
-  left_nothing db none founds is =
-      let now = founded old.now db none founds in
-      law d no_contents left.0 nothing_sound (one_image _ _ db (at_trees (image d) db left.1 now.ours is left.3) now)
+module _ (law : RowsLaw) (old new : State) (d : Option Contents) (left : (link new 0 0).may_leave d) where
+  left_nothing : (db : Database) → old.now.schema ≡ no_schema → Founds old.now db → left.0 ≡ db.trees → IsFound d no_contents
+  left_nothing db none founds is = found law no_contents nothing_sound db (founded old.now db none founds) left.0 is d left.2
 
-  pub only_nothing : (old.now.schema ≡ no_schema) × Ends Founds old new → AreSame d no_contents
-  only_nothing it = left_nothing new.now it.0 it.1.made (it.1.only left.1 left.2)
+  pub only_nothing : (old.now.schema ≡ no_schema) × Ends Founds old new → IsFound d no_contents
+  only_nothing it = left_nothing new.now it.0 it.1.made (it.1.only left.0 left.1)
 
-  pub before_or_nothing : old.may_leave left.1 ⊎ ((old.now.schema ≡ no_schema) × IsLeft Founds old left.1) → (link old 0 0).may_leave d ⊎ AreSame d no_contents
-  before_or_nothing (inl before) = inl (left.0, left.1, before, left.3)
+  pub before_or_nothing : old.may_leave left.0 ⊎ ((old.now.schema ≡ no_schema) × IsLeft Founds old left.0) → (link old 0 0).may_leave d ⊎ IsFound d no_contents
+  before_or_nothing (inl before) = inl (left.0, before, left.2)
   before_or_nothing (inr it) = inr (left_nothing it.1.1.0 it.0 it.1.1.1 it.1.1.2)

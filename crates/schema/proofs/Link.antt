@@ -1,12 +1,12 @@
 -- From what a call makes of a connection to what it makes of the contents, once for all calls.
-use Rattle.std.proofs.Common.{◌≡◌, ◌⊎◌, ℕ, Result, Ok, Err, OnOk, OnErr, IfOk, inl, inr, sym, ap, subst}
+use Rattle.std.proofs.Common.{◌≡◌, ◌⊎◌, ◌∙◌, ℕ, Option, None, Some, Result, Ok, Err, OnOk, OnErr, IfOk, inl, inr, sym, ap, subst}
 use Rattle.sqlite.specs.Effect.{Database}
 use Rattle.sqlite.specs.Tree.{Trees}
 use Rattle.sqlite.specs.State.{HasCleanDisk, State, Survives}
 use Rattle.sqlite.specs.declared.error.Error.{Error}
 use Rattle.job_core.specs.declared.store.StoreFault.{StoreFault}
 use Rattle.job_core.specs.Contents.{AreSame, AreSound, Contents}
-use Rattle.job_core.specs.Store.{Commits, Reads, Stays}
+use Rattle.job_core.specs.Store.{Commits, IsFound, Reads, Stays}
 use Rattle.table_rows.specs.Tables.{HaveSameRows, Tables}
 use Rattle.rows_of_facts.specs.Image.{image}
 use Rattle.sql_base.specs.Ends.{Ends, IsKept, IsLeft}
@@ -14,7 +14,7 @@ use Rattle.sql_rows.specs.Image.{IsImage}
 use Rattle.sql_rows.proofs.OneImage.{one_image}
 use Rattle.sql_tables.specs.Tables.{our_schema}
 use Rattle.store_reads.specs.Tells.{Tells}
-use Rattle.schema.specs.Link.{IsTold, link}
+use Rattle.schema.specs.Link.{IsTold, Stands, link, ours_at}
 use Rattle.schema.specs.Takes.{Takes}
 
 -- ---- reads
@@ -26,7 +26,7 @@ pub stays : (old new : State) (a b m n : ℕ) → Survives old new (λ _. ⊥) �
 stays old new a b m n survives kept = record {
   doubts = survives.clean;
   contents = λ honest c held. still old new c a b m n (kept honest) held;
-  crash = λ honest d left. elim (survives.crash honest left.1 left.2) [ inl before ↦ (left.0, left.1, before, left.3) | inr none ↦ absurd none ];
+  crash = λ honest d left. elim (survives.crash honest left.0 left.1) [ inl before ↦ (left.0, before, left.2) | inr none ↦ absurd none ];
 }
 
 module _ {T : Type 0} where
@@ -45,23 +45,28 @@ module _ {T : Type 0} where
 -- ---- commits
 
 -- what is found at the trees of a database of ours
-pub at_trees : (t : Tables) (db : Database) (trees : Trees) → db.schema ≡ our_schema → trees ≡ db.trees → IsImage t (record { schema = our_schema; trees = trees }) → IsImage t db
-at_trees t db trees ours is found =
-    subst (IsImage t) (sym (ap (λ s. let d : Database = record { schema = s; trees = db.trees } in d) ours)) (subst (λ (x : Trees). IsImage t (record { schema = our_schema; trees = x })) is found)
+pub same_database : (db : Database) (trees : Trees) → db.schema ≡ our_schema → trees ≡ db.trees → ours_at trees ≡ db
+same_database db trees ours is = ap ours_at is ∙ sym (ap (λ s. let d : Database = record { schema = s; trees = db.trees } in d) ours)
+
+pub at_trees : (t : Tables) (db : Database) (trees : Trees) → db.schema ≡ our_schema → trees ≡ db.trees → IsImage t (ours_at trees) → IsImage t db
+at_trees t db trees ours is found = subst (IsImage t) (same_database db trees ours is) found
 
 -- the rows of two sound contents are not the same, unless they are
 abbrev pub RowsLaw : Type 0
 RowsLaw = (c d : Contents) → AreSound c → AreSound d → HaveSameRows (image c) (image d) → AreSame c d
 
+-- at the trees of an image its contents are found
+pub found : RowsLaw → (c : Contents) → AreSound c → (db : Database) → IsImage (image c) db → (trees : Trees) → trees ≡ db.trees → (d : Option Contents) → Stands d trees → IsFound d c
+found law c sound db now trees is None none = absurd (none c sound (subst (IsImage (image c)) (sym (same_database db trees now.ours is)) now))
+found law c sound db now trees is (Some d) stands = law d c stands.0 sound (one_image (image d) (image c) db (at_trees (image d) db trees now.ours is stands.1) now)
+
 module _ (law : RowsLaw) (Owed : Contents → Type 0) (after : Contents → Contents) (sound : (c : Contents) → AreSound c → Owed c → AreSound (after c)) (old new : State) (a b m n : ℕ)
     (survives : Survives old new (IsLeft (Takes Owed after) old)) where
-  left_by : HasCleanDisk new → (c d : Contents) → (link old a b).holds c → Owed c → (link new m n).may_leave d → (link old a b).may_leave d ⊎ AreSame d (after c)
+  left_by : HasCleanDisk new → (c : Contents) (d : Option Contents) → (link old a b).holds c → Owed c → (link new m n).may_leave d → (link old a b).may_leave d ⊎ IsFound d (after c)
   left_by honest c d held owed left =
-      elim (survives.crash honest left.1 left.2) [
-        | inl before ↦ inl (left.0, left.1, before, left.3)
-        | inr it ↦ inr (
-            let now = it.1.1 c held.0 owed (held.1 it.0) in
-            law d (after c) left.0 (sound c held.0 owed) (one_image _ _ it.1.0 (at_trees (image d) it.1.0 left.1 now.ours it.1.2 left.3) now))
+      elim (survives.crash honest left.0 left.1) [
+        | inl before ↦ inl (left.0, before, left.2)
+        | inr it ↦ inr (found law (after c) (sound c held.0 owed) it.1.0 (it.1.1 c held.0 owed (held.1 it.0)) left.0 it.1.2 d left.2)
       ]
 
   pub commits : (HasCleanDisk new → Ends (Takes Owed after) old new) → Commits (link old a b) (link new m n) (Ok tt) Owed after
@@ -72,8 +77,7 @@ module _ (law : RowsLaw) (Owed : Contents → Type 0) (after : Contents → Cont
     crash = left_by;
     settled = λ honest c d held owed left.
         let k = done honest in
-        let now = k.made c held.0 owed (held.1 k.was_open) in
-        law d (after c) left.0 (sound c held.0 owed) (one_image _ _ new.now (at_trees (image d) new.now left.1 now.ours (k.only left.1 left.2) left.3) now);
+        found law (after c) (sound c held.0 owed) new.now (k.made c held.0 owed (held.1 k.was_open)) left.0 (k.only left.0 left.1) d left.2;
   }
 
   pub fails : (why : StoreFault) → (HasCleanDisk new → IsKept old new) → Commits (link old a b) (link new m n) (Err why) Owed after

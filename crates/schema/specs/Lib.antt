@@ -1,3 +1,4 @@
 pub mod Link
 pub mod Takes
 pub mod Stores
+pub mod Begun

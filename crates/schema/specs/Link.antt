@@ -1,15 +1,24 @@
 -- What a connection to our tables stands for.
-use Rattle.std.specs.Prelude.{◌≡◌, ℕ, IsErr, IsTrue, Result, Ok, Err}
+use Rattle.std.specs.Prelude.{◌≡◌, ℕ, IsErr, IsTrue, Option, None, Some, Result, Ok, Err}
+use Rattle.sqlite.specs.Effect.{Database}
 use Rattle.sqlite.specs.State as sqlite
 use Rattle.sqlite.specs.Tree.{Trees}
 use Rattle.sqlite.specs.declared.error.Error.{Error}
 use Rattle.sqlite_trees.specs.View.{doubt}
 use Rattle.job_core.specs.declared.store.StoreFault.{StoreFault}
-use Rattle.job_core.specs.Contents.{AreSound}
+use Rattle.job_core.specs.Contents.{AreSound, Contents}
 use Rattle.job_core.specs.Store.{State}
 use Rattle.rows_of_facts.specs.Image.{image}
 use Rattle.sql_rows.specs.Image.{IsImage}
 use Rattle.sql_tables.specs.Tables.{our_schema}
+
+abbrev pub ours_at : Trees → Database
+ours_at trees = record { schema = our_schema; trees = trees }
+
+-- what an open finds at these trees of our tables: sound contents whose image they are, or none, where there are none
+abbrev pub Stands : Option Contents → Trees → Type 0
+Stands None trees = (c : Contents) → AreSound c → ¬ IsImage (image c) (ours_at trees)
+Stands (Some c) trees = AreSound c × IsImage (image c) (ours_at trees)
 
 -- One that a fault has shut stands for any sound contents. The two counts are the store's own.
 abbrev pub link : sqlite.State → ℕ → ℕ → State
@@ -18,7 +27,7 @@ link s failed full = record {
   doubts = doubt s.is_clean;
   failed = failed;
   full = full;
-  may_leave = λ c. AreSound c × (trees : Trees) × s.may_leave trees × IsImage (image c) (record { schema = our_schema; trees = trees });
+  may_leave = λ d. (trees : Trees) × s.may_leave trees × Stands d trees;
 }
 
 -- what went well is told as it is, and an error as a fault

@@ -2,13 +2,15 @@
 ghost use Rattle.std.specs.Prelude.{◌≡◌, ◌≢◌, ◌⊎◌, false, IfErr, IfOk, IsTrue, MatchResult};
 ghost use Rattle.sqlite.specs.Held.{state};
 ghost use Rattle.sqlite.specs.State.{HasCleanDisk, Survives};
-ghost use Rattle.job_core.specs.Contents.{AreSame, AreSound, Contents, no_contents};
+ghost use Rattle.job_core.specs.Contents.{AreSound, Contents, no_contents};
+ghost use Rattle.job_core.specs.Store.{IsFound};
 ghost use Rattle.rows_of_facts.specs.Image.{image};
 ghost use Rattle.sql_base.specs.Columns.{no_schema};
 ghost use Rattle.sql_base.specs.Ends.{IsKept, IsLeft};
 ghost use Rattle.sql_order.specs.declared.versions.Version.{Version};
 ghost use Rattle.order_tables.specs.Holding.{HoldsRows, HoldsSoundRows, IsOfVersion};
 ghost use Rattle.adoption.specs.Adopts.{Adopts};
+ghost use Rattle.schema.specs.Begun.{LeavesNoOther, WasHeld};
 ghost use Rattle.schema.specs.Link.{link};
 ghost use Rattle.schema.specs.Stores.{connection, stands_for};
 
@@ -74,7 +76,7 @@ impl<S: Alter> SqlStore<S> {
         ensures counts { IfOk result (λ store. ((stands_for S.Store store).failed ≡ 0)
             × ((stands_for S.Store store).full ≡ 0)) }
         ensures crash { IfOk result (λ store. HasCleanDisk (state S.Store (connection store))
-            → (d : Contents) → (stands_for S.Store store).may_leave d → AreSame d no_contents) }
+            → (d : _) → (stands_for S.Store store).may_leave d → IsFound d no_contents) }
         ensures refused { IfErr result (λ e. e.1 ≡ OpenFault.NotOurs
             → (state S.Store conn).now.schema ≢ no_schema) }
         ensures unread { IfErr result (λ e. e.1 ≢ OpenFault.Damaged) }
@@ -82,9 +84,12 @@ impl<S: Alter> SqlStore<S> {
             → IsTrue (state S.Store conn).is_open
             → IsKept (state S.Store conn) (state S.Store e.0)) }
         ensures idle { IfErr result (λ e. e.0.in_transaction ≡ false) }
-        ensures late { IfErr result (λ e. HasCleanDisk (state S.Store e.0) → (d : Contents)
+        ensures late { IfErr result (λ e. HasCleanDisk (state S.Store e.0) → (d : _)
             → (link (state S.Store e.0) 0 0).may_leave d
-            → (link (state S.Store conn) 0 0).may_leave d ⊎ AreSame d no_contents) }
+            → (link (state S.Store conn) 0 0).may_leave d ⊎ IsFound d no_contents) }
+        ensures file { MatchResult result
+            (λ store. LeavesNoOther (state S.Store conn) (state S.Store (connection store)))
+            (λ e. LeavesNoOther (state S.Store conn) (state S.Store e.0)) }
     {
         same_rows_same_contents();
         match create(&mut conn) {
@@ -116,9 +121,9 @@ impl<S: Alter> SqlStore<S> {
             → HoldsRows v (image c) (state S.Store conn).now
             → (stands_for S.Store store).holds c) }
         ensures crash { IfOk result (λ store. HasCleanDisk (state S.Store (connection store))
-            → (v : Version) (c d : Contents) → AreSound c
+            → (v : Version) (c : Contents) (d : _) → AreSound c
             → HoldsRows v (image c) (state S.Store conn).now
-            → (stands_for S.Store store).may_leave d → AreSame d c) }
+            → (stands_for S.Store store).may_leave d → IsFound d c) }
         ensures counts { IfOk result (λ store. ((stands_for S.Store store).failed ≡ 0)
             × ((stands_for S.Store store).full ≡ 0)) }
         ensures not_ours { IfErr result (λ e. HasCleanDisk (state S.Store e.0)
@@ -131,10 +136,10 @@ impl<S: Alter> SqlStore<S> {
         ensures kept { IfErr result (λ e. HasCleanDisk (state S.Store e.0)
             → IsKept (state S.Store conn) (state S.Store e.0)) }
         ensures idle { IfErr result (λ e. e.0.in_transaction ≡ false) }
-        ensures late { IfErr result (λ e. HasCleanDisk (state S.Store e.0) → (d : Contents)
+        ensures late { IfErr result (λ e. HasCleanDisk (state S.Store e.0) → (d : _)
             → (link (state S.Store e.0) 0 0).may_leave d
             → (link (state S.Store conn) 0 0).may_leave d
-            ⊎ ((v : Version) × HoldsRows v (image d) (state S.Store conn).now)) }
+            ⊎ WasHeld d (state S.Store conn).now) }
         ensures survives { MatchResult result (λ store. Survives (state S.Store conn)
             (state S.Store (connection store)) (IsLeft Adopts (state S.Store conn)))
             (λ e. Survives (state S.Store conn) (state S.Store e.0)

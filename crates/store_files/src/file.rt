@@ -4,7 +4,7 @@ ghost use Rattle.std.specs.Prelude.{◌≡◌, false};
 use crate::fault::FileFault;
 use crate::opening::store_over;
 use schema::SqlStore;
-use sqlite::{Alter, Connection};
+use sqlite::{Alter, Connection, Error, ErrorCode};
 use sqlite_disk::Start;
 use std::alloc::Global;
 use std::fs;
@@ -43,7 +43,7 @@ pub fn with_store<T: StoreTask + Drop, S: Start>(
     match Connection::open_from(rt, path, false, start) {
         Ok(conn) => {
             let (done, conn) = perform_over(rt.alloc(), conn, wanted, task)?;
-            conn.close()?;
+            conn.close().map_err(unclosed)?;
             Ok(done)
         }
         Err((error, _)) => Err(FileFault::from(error)),
@@ -53,6 +53,14 @@ pub fn with_store<T: StoreTask + Drop, S: Start>(
 // Whether no file has this path.
 fn is_missing(rt: &HostRuntime, path: &str) -> bool {
     matches!(fs::exists(rt, path), Ok(false))
+}
+
+// Why a file isn't closed: its tables were taken, so nothing is told of them any more.
+fn unclosed(error: Error) -> FileFault {
+    match error {
+        Error::SqliteFailure(ErrorCode::OutOfMemory) => FileFault::Memory,
+        _ => FileFault::Storage,
+    }
 }
 
 // Does the task over the store of a database, and hands the connection back.

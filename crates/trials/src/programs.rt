@@ -18,7 +18,13 @@ fn run_once(
         return Err(WordsFault::Memory);
     };
     let end = match read_words(alloc, words) {
-        Ok(words) => run(alloc, words, &mut Cursor::new(raw), &mut writer),
+        Ok(words) => {
+            if words.uses_streams() {
+                run(alloc, words, &mut Cursor::new(raw), &mut writer)
+            } else {
+                End::Usage
+            }
+        }
         Err(fault) => told_end(&fault, true),
     };
     if end == End::Memory || writer.get_ref().taken().starts_with(b"503 ") {

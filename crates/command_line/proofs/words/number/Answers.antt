@@ -8,30 +8,30 @@ use Rattle.command_line.proofs.words.number.Goals as goal
 use Rattle.command_line.proofs.words.number.Goals.{else-low-number-via-then-low-number+else-number-high, else-low-number-via-else-low-number}
 
 abbrev Gives : Text → Result ℕ ParseIntError → Type 0
-Gives t r = ParsesUnsigned 8 10 t r × ExplainsUnsignedError 10 t r × HasUnsignedDigitsIfOk t r
+Gives t r = ParsesUnsigned 32 10 t r × ExplainsUnsignedError 10 t r × HasUnsignedDigitsIfOk t r
 
 pub returns-in_err-number-clause-none : goal.returns-in_err-number-clause-none
 returns-in_err-number-clause-none c none n above below has =
     let gone : c.get_one.result ≡ None = search rules in
-    let small : n < 2 ^ 8 = let top = c.ranges.high.fits in omega arith in
+    let small : n < 2 ^ 32 = let top = c.ranges.high.fits in omega arith in
     let read : c.get_one.result ≡ Some n =
-    (number_read ParseIntError Gives 8 c.args.name.now (found_of c.args.values.now) c.get_one.result (λ u x g. g.0) c.get_one.ensures.none
+    (number_read ParseIntError Gives 32 c.args.name.now (found_of c.args.values.now) c.get_one.result (λ u x g. g.0) c.get_one.ensures.none
     c.get_one.ensures.value n).1 (has, small) in
     cc
 
 pub returns-then-number-high-clause-some : goal.returns-then-number-high-clause-some
 returns-then-number-high-clause-some c =
     let there : c.get_one.result ≡ Some c.in_ok-number.number = search rules in
-    let is = (number_read ParseIntError Gives 8 c.args.name.now (found_of c.args.values.now) c.get_one.result (λ u x g. g.0) c.get_one.ensures.none
+    let is = (number_read ParseIntError Gives 32 c.args.name.now (found_of c.args.values.now) c.get_one.result (λ u x g. g.0) c.get_one.ensures.none
     c.get_one.ensures.value c.in_ok-number.number).0 there in
     (is.0, search rules, search rules)
 
 pub returns-else-low-number-clause-none : goal.returns-else-low-number-clause-none
 returns-else-low-number-clause-none c none n above below has =
     let there : c.get_one.result ≡ Some c.in_ok-number.number = search rules in
-    let small : n < 2 ^ 8 = let top = c.ranges.high.fits in omega arith in
+    let small : n < 2 ^ 32 = let top = c.ranges.high.fits in omega arith in
     let read : c.get_one.result ≡ Some n =
-    (number_read ParseIntError Gives 8 c.args.name.now (found_of c.args.values.now) c.get_one.result (λ u x g. g.0) c.get_one.ensures.none
+    (number_read ParseIntError Gives 32 c.args.name.now (found_of c.args.values.now) c.get_one.result (λ u x g. g.0) c.get_one.ensures.none
     c.get_one.ensures.value n).1 (has, small) in
     let same : n ≡ c.in_ok-number.number = cc in
     elim c.else-low-number.branch [

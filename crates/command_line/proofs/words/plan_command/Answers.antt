@@ -1,27 +1,9 @@
-use Rattle.std.proofs.Common.{rules, ◌≡◌, ◌∙◌, ◌||◌, false, codes, ap}
-use Rattle.std.specs.Prelude.{IfOk, Ok, Err, Result}
-use Rattle.std.specs.declared.alloc.AllocError.{AllocError}
-use Rattle.clap.specs.Words.{AddsArg, App, Rule, app_of, new_app, rule_of, with_rule}
+use Rattle.std.proofs.Common.{rules, ◌≡◌, ◌∙◌, false, codes, ap}
+use Rattle.clap.specs.Words.{new_app, rule_of}
 use Rattle.clap.specs.declared.builder.arg.Arg.{Arg}
-use Rattle.clap.specs.declared.builder.command.Command.{Command}
-use Rattle.clap.specs.declared.builder.command.Command.TheViews.{out-Command as fields_of}
 use Rattle.command_line.specs.Words.{flag, number_option, numbers}
+use Rattle.command_line.proofs.CommandLemmas.{IsSo, last, more}
 use Rattle.command_line.proofs.words.plan_command.Goals as goal
-
-abbrev IsSo : App → Command → Type 0
-IsSo app c = (app_of c ≡ app) × ((fields_of c).has_globals ≡ false)
-
-more : (old : Command) (a : Arg) (new : Command) (app : App) (r : Rule) → IsSo app old → (rule_of a ≡ r) × (a.global ≡ false) → AddsArg old a new
-    → IsSo (with_rule app r) new
-more old a new app r so rule adds = (
-  adds.shape rule.1 ∙ ap (λ x. with_rule x (rule_of a)) so.0 ∙ ap (with_rule app) rule.0,
-  adds.globals ∙ ap (λ b. b || a.global) so.1 ∙ rule.1,
-)
-
-last : (old : Command) (a : Arg) (o : Result Command AllocError) (app : App) (r : Rule) → IsSo app old → (rule_of a ≡ r) × (a.global ≡ false)
-    → IfOk o (AddsArg old a) → IfOk o (IsSo (with_rule app r))
-last old a (Ok new) app r so rule adds = more old a new app r so rule adds
-last old a (Err e) app r so rule adds = tt
 
 pub returns : goal.returns
 returns c =

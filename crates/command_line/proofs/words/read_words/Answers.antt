@@ -1,9 +1,10 @@
-use Rattle.std.proofs.Common.{◌≡◌, List, refl, sym, subst, true, [], inl, inr, map}
-use Rattle.clap.specs.Words.{App, HasKind, HasMatchesOf, Text, fault_of, is_simple, is_simple_and_free}
+use Rattle.std.proofs.Common.{rules, ◌≡◌, List, refl, sym, subst, true, [], inl, inr, map}
+use Rattle.clap.specs.Words.{App, HasKind, HasMatchesOf, Text, fault_of, is_simple, is_simple_and_free, subcommand_rows_of}
 use Rattle.clap.proofs.OnLiterals.{clap_on_literals}
-use Rattle.command_line.specs.Words.{IsRefusal, IsRefusedBy, ReadsAs, program}
+use Rattle.command_line.specs.Words.{IsRefusal, IsRefusedBy, ReadsNot, program}
 use Rattle.command_line.specs.declared.words.WordsFault.{WordsFault}
-use Rattle.command_line.specs.declared.words.WordsFault.TheVariants.{Help, Usage, NotText, Memory}
+use Rattle.command_line.specs.declared.words.WordsFault.TheVariants.{Help, Usage, NotText, BadName, Memory}
+use Rattle.command_line.specs.declared.words.Unread.TheVariants as lacks
 use Rattle.command_line.proofs.words.read_words.Goals as goal
 
 free : is_simple_and_free program ≡ true
@@ -18,20 +19,31 @@ refused : (words : List Text) (fault : WordsFault) → IsRefusedBy (fault_of pro
 refused words (Help text) by = by
 refused words (Usage text) by = inl by
 refused words NotText by = by
+refused words BadName by = elim by [ ]
 refused words Memory by = tt
 
-pub returns-in-Some-clause-taken : goal.returns-in-Some-clause-taken
-returns-in-Some-clause-taken g c =
+pub returns-in-Ok-words_of-clause-taken : goal.returns-in-Ok-words_of-clause-taken
+returns-in-Ok-words_of-clause-taken g c =
     subst (λ (a : App). is_simple_and_free a ≡ true → fault_of a (map g.S.AsStr.text c.args.words.now) ≡ []) c.in_ok-program.ensures
     c.in-Ok.ensures.kinds free
 
-pub returns-in-Ok-clause-refusal : goal.returns-in-Ok-clause-refusal
-returns-in-Ok-clause-refusal g c =
+pub returns-in-Err-Nothing-clause-refusal : goal.returns-in-Err-Nothing-clause-refusal
+returns-in-Err-Nothing-clause-refusal g c =
+    let is : c.in-Err-Nothing.field-0 ≡ lacks.Nothing = search rules in
     let words = map g.S.AsStr.text c.args.words.now in
     let matched = subst (λ (a : App). HasMatchesOf a words c.in-Ok.matches) c.in_ok-program.ensures c.in-Ok.ensures.matches simple in
     inr (
       subst (λ (a : App). is_simple_and_free a ≡ true → fault_of a words ≡ []) c.in_ok-program.ensures c.in-Ok.ensures.kinds free,
-      (λ w range means. c.in-None.ensures.nothing refl w range (subst (λ sub. ReadsAs sub w) (sym matched.1) means)),
+      subst (λ sub. ReadsNot sub lacks.Nothing) matched.1 (subst (ReadsNot (subcommand_rows_of c.in-Ok.matches)) is c.in-Err-Nothing.ensures.unread),
+    )
+
+pub returns-in-Err-BadName-clause-refusal : goal.returns-in-Err-BadName-clause-refusal
+returns-in-Err-BadName-clause-refusal g c =
+    let is : c.in-Err-BadName.field-0 ≡ lacks.BadName = search rules in
+    let words = map g.S.AsStr.text c.args.words.now in
+    let matched = subst (λ (a : App). HasMatchesOf a words c.in-Ok.matches) c.in_ok-program.ensures c.in-Ok.ensures.matches simple in (
+      subst (λ (a : App). is_simple_and_free a ≡ true → fault_of a words ≡ []) c.in_ok-program.ensures c.in-Ok.ensures.kinds free,
+      subst (λ sub. ReadsNot sub lacks.BadName) matched.1 (subst (ReadsNot (subcommand_rows_of c.in-Ok.matches)) is c.in-Err-BadName.ensures.unread),
     )
 
 pub returns-clause-refusal : goal.returns-clause-refusal

@@ -11,4 +11,4 @@ returns-in-Ok-clause-crash g c clean d left =
 
 pub returns-in-Err-clause-late : goal.returns-in-Err-clause-late
 returns-in-Err-clause-late g c clean d left =
-    before_or_nothing c.same_rows_same_contents.ensures (state g.S.Store c.args.conn) (state g.S.Store c.create.new.conn) d left (c.create.ensures.crash clean left.1 left.2)
+    before_or_nothing c.same_rows_same_contents.ensures (state g.S.Store c.args.conn) (state g.S.Store c.create.new.conn) d left (c.create.ensures.crash clean left.0 left.1)

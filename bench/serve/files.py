@@ -1,0 +1,36 @@
+"""What C's SQLite reads in a copy of a server's file and of the log beside it."""
+import pathlib
+import shutil
+import sqlite3
+import tempfile
+from typing import Any, Callable, TypeVar
+
+TABLES = ("version", "product", "lot", "batch", "record", "grouping2", "session", "word", "blank", "remake", "reply", "mark")
+Found = TypeVar("Found")
+
+
+def looked(database: pathlib.Path, look: Callable[[sqlite3.Connection], Found]) -> Found:
+    """What a look at a copy finds. The server has the file for itself while it runs."""
+    with tempfile.TemporaryDirectory() as folder:
+        copy = pathlib.Path(folder) / "copy.db"
+        for end in ("", "-wal"):
+            if (path := pathlib.Path(f"{database}{end}")).exists():
+                shutil.copyfile(path, f"{copy}{end}")
+        link = sqlite3.connect(copy)
+        try:
+            return look(link)
+        finally:
+            link.close()
+
+
+def is_empty(link: sqlite3.Connection) -> bool:
+    return link.execute("SELECT count(*) FROM sqlite_schema").fetchone() == (0,)
+
+
+def is_whole(link: sqlite3.Connection) -> bool:
+    return link.execute("PRAGMA integrity_check").fetchall() == [("ok",)] and link.execute("PRAGMA foreign_key_check").fetchall() == []
+
+
+def all_rows(link: sqlite3.Connection) -> dict[str, list[Any]]:
+    """The rows of each table, in an order of their own."""
+    return {table: sorted(link.execute(f"SELECT * FROM {table}").fetchall()) for table in TABLES}

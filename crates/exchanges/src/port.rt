@@ -1,0 +1,78 @@
+//! Messages to a port of this machine.
+use crate::clock::{MOST_TIME, pause_after};
+use crate::peer::Peer;
+use feeding::Exchange;
+use std::alloc::{AllocError, Global};
+use std::net::{Ipv4Addr, Net, SocketAddr, SocketAddrV4};
+use std::time::{Clock, Duration, Instant};
+use text_io::{ReadFault, read_within, write_text};
+
+/// The most bytes of a reply: one to a machine has far fewer.
+const MOST_REPLY: u32 = 8_192;
+
+/// A port of 127.0.0.1, the message that was sent to it last, and how often in a row it was.
+#[derive(Drop)]
+pub struct Port<'a, R: Net + Clock> {
+    rt: &'a R,
+    alloc: Global,
+    port: u16,
+    last: Vec<u8>,
+    sent: u32,
+}
+
+impl<'a, R: Net + Clock> Port<'a, R> {
+    /// A port to which nothing was sent yet.
+    pub fn new(rt: &'a R, alloc: Global, port: u16) -> Port<'a, R> {
+        Port {
+            rt,
+            alloc,
+            port,
+            last: Vec::new(alloc),
+            sent: 0,
+        }
+    }
+
+    // A message that comes again waits, each time for longer.
+    fn wait_for(&mut self, message: &[u8]) -> Result<(), AllocError> {
+        if self.last.as_slice() == message {
+            self.rt.sleep(pause_after(self.sent));
+            self.sent = self.sent.saturating_add(1);
+        } else {
+            self.last = Vec::from_slice(self.alloc, message)?;
+            self.sent = 0;
+        }
+        Ok(())
+    }
+
+    // Sends a message whole, and reads what comes back to its end.
+    fn ask(&self, message: &[u8]) -> Result<Option<Vec<u8>>, ReadFault> {
+        let begun = Instant::now(self.rt)?;
+        let place = SocketAddr::V4(SocketAddrV4::new(Ipv4Addr::LOCALHOST, self.port));
+        let stream = self
+            .rt
+            .connect_timeout(place, Duration::from_secs(MOST_TIME))?;
+        let rt = self.rt;
+        let mut peer = Peer { rt, stream, begun };
+        if write_text(&mut peer, message).is_err() {
+            return Ok(None);
+        }
+        read_within(self.alloc, &mut peer, MOST_REPLY)
+    }
+}
+
+/// A connection that can't be had, a write or a read that fails, and a text too long for a reply are
+/// as nothing that came.
+impl<R: Net + Clock> Exchange for Port<'_, R> {
+    ghost use Rattle.std.specs.Prelude.{None};
+
+    ghost log = { λ _. None };
+
+    fn exchange(&mut self, message: &[u8]) -> Result<Option<Vec<u8>>, AllocError> {
+        self.wait_for(message)?;
+        match self.ask(message) {
+            Ok(came) => Ok(came),
+            Err(ReadFault::Failed) => Ok(None),
+            Err(ReadFault::Memory) => Err(AllocError),
+        }
+    }
+}

@@ -1,0 +1,21 @@
+-- What a crash leaves where a store begins, or goes on over what stood.
+use Rattle.std.specs.Prelude.{◌≡◌, ◌⊎◌, Option, None, Some}
+use Rattle.sqlite.specs.Effect.{Database}
+use Rattle.sqlite.specs.State.{HasCleanDisk, State}
+use Rattle.sqlite.specs.Tree.{Trees}
+use Rattle.job_core.specs.Contents.{Contents}
+use Rattle.rows_of_facts.specs.Image.{image}
+use Rattle.sql_base.specs.Columns.{no_schema}
+use Rattle.sql_base.specs.Ends.{IsLeft}
+use Rattle.sql_order.specs.declared.versions.Version.{Version}
+use Rattle.order_tables.specs.Holding.{HoldsRows}
+use Rattle.store_commits.specs.Founds.{Founds}
+
+-- the trees that it could leave before, or, where the database was empty, those of our tables without a row
+abbrev pub LeavesNoOther : State → State → Type 0
+LeavesNoOther old new = HasCleanDisk new → (trees : Trees) → new.may_leave trees → old.may_leave trees ⊎ ((old.now.schema ≡ no_schema) × IsLeft Founds old trees)
+
+-- its rows stood in tables of some version
+abbrev pub WasHeld : Option Contents → Database → Type 0
+WasHeld None db = ⊥
+WasHeld (Some c) db = (v : Version) × HoldsRows v (image c) db
