@@ -1,6 +1,5 @@
 -- A run whose text was printed into a buffer, which then goes out or doesn't.
 use Rattle.std.proofs.Common.{◌≡◌, ◌⊎◌, ℕ, List, [], Option, Result, Ok, Err, inl, inr, append-nil}
-use Rattle.std.specs.Prelude.{⊥}
 use Rattle.std.specs.Io.KnownBytes.{Appends, Keeps}
 use Rattle.std.proofs.KnownBytes.{Appends-kept}
 use Rattle.store_data.specs.declared.row.Product.{Product}

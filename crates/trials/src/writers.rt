@@ -225,16 +225,12 @@ fn drill_of_limited(rt: &impl Abort, alloc: Global, room: usize) -> Result<(), D
     if is_unavailable(writer.taken()) {
         return Err(DrillStop::Memory);
     }
-    let wanted = if end == Err(DrillStop::Memory) {
-        0
+    let told = TOLD.as_bytes();
+    if end == Err(DrillStop::Memory) {
+        assert!(rt; told.starts_with(writer.taken()), "at {room}");
     } else {
-        room
-    };
-    assert_eq!(rt;
-        Some(writer.taken()),
-        TOLD.as_bytes().get(..wanted),
-        "at {room}"
-    );
+        assert_eq!(rt; Some(writer.taken()), told.get(..room), "at {room}");
+    }
     end
 }
 

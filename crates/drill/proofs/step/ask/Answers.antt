@@ -13,12 +13,11 @@ unfolding asked_did
 returns-clause-asks g c = λ fl.
     let behind = map text_of c.args.behind.now in
     asks_by g.S.JobStore.state c.args.store.now c.serve.new.store fl c.args.line.now behind c.in-Some.message.items (drop c.in-Some.taken behind) _
-    (sym (rw c.in-Some.is at c.in_ok-message.ensures.value))
-    (
+    (sym (rw c.in-Some.is at c.in_ok-message.ensures.value)) (
       c.in_ok-reply.reply.items,
       c.in-Some.taken,
       c.in_ok-reply.ensures,
       refl,
       ap (asked_did fl c.in-Some.taken)
-      (c.in_ok-text.ensures ∙ ap (λ t. t ++ reply_line c.as_slice.result.now) c.new.ensures.items ∙ ap reply_line c.as_slice.ensures.value),
+          (c.in_ok-text.ensures ∙ ap (λ t. t ++ reply_line c.as_slice.result.now) c.new.ensures.items ∙ ap reply_line c.as_slice.ensures.value),
     )

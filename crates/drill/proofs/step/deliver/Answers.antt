@@ -16,8 +16,7 @@ returns-in_ok-stop-in-Before-clause-within g c = ap (λ (d : Did). d.taken) (c.i
 pub returns-in_ok-stop-in-After-clause-delivers : goal.returns-in_ok-stop-in-After-clause-delivers
 returns-in_ok-stop-in-After-clause-delivers g c =
     let reply = c.in_ok-serve-in-After.field-0.items in
-    delivers_by g.S.JobStore.state c.args.store.now c.serve.new.store c.args.floor.now c.args.delivery stop.After c.in-Some.packet.now _ c.in-After.is (sym c.in-Some.ensures)
-    (
+    delivers_by g.S.JobStore.state c.args.store.now c.serve.new.store c.args.floor.now c.args.delivery stop.After c.in-Some.packet.now _ c.in-After.is (sym c.in-Some.ensures) (
       reply,
       subst (λ m. Answers g.S.JobStore.state c.args.store.now c.serve.new.store m reply) (c.in_ok-message.ensures.items ∙ c.as_slice.ensures) c.in_ok-serve-in-After.ensures,
       ap Some (c.in_ok-stop-in-After.ensures c.args.floor.now),
