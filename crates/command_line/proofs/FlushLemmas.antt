@@ -1,5 +1,5 @@
 -- A run whose text was printed into a buffer, which then goes out or doesn't.
-use Rattle.std.proofs.Common.{◌≡◌, ◌⊎◌, ℕ, List, [], Option, None, Some, Ok, Err, inl, inr, append-nil}
+use Rattle.std.proofs.Common.{◌≡◌, ◌⊎◌, ℕ, List, [], Option, Result, Ok, Err, inl, inr, append-nil}
 use Rattle.std.specs.Io.KnownBytes.{Appends, Keeps}
 use Rattle.std.proofs.KnownBytes.{Appends-kept}
 use Rattle.store_data.specs.declared.row.Product.{Product}
@@ -7,8 +7,14 @@ use Rattle.text_io.specs.Inputs.{Tells}
 use Rattle.text_io.specs.Written.{AppendsBeginning}
 use Rattle.plan_print.specs.PlanEnds.{PlanEnds}
 use Rattle.plan_print.specs.declared.plan.PlanStop.TheVariants as plan
-use Rattle.drill.specs.Ends.{DrillEnds}
-use Rattle.drill.specs.declared.DrillStop.TheVariants as drill
+use Rattle.job_core.specs.Store.{State}
+use Rattle.job_core.specs.declared.store.StoreFault.{StoreFault}
+use Rattle.job_core.specs.declared.store.StoreFault.TheVariants as fault
+use Rattle.shop_floor.specs.Floors.{Floor}
+use Rattle.drill.specs.Ends.{IsWritten, Runs, printed, unopened}
+use Rattle.drill.specs.declared.stop.DrillStop.{DrillStop}
+use Rattle.drill.specs.declared.stop.DrillStop.TheVariants as drill
+use Rattle.drill_tables.specs.Drills.{DrillEnds}
 use Rattle.command_line.specs.Runs.{DrillRuns, PlanRuns}
 use Rattle.command_line.specs.declared.end.End.{End}
 use Rattle.command_line.specs.declared.end.End.TheVariants.{Done, BadLine, WriteFailed}
@@ -28,16 +34,53 @@ plan_flushed p known before mid after end buffer (raw, tells, (rows, few, is, wr
 plan_flushed p known before mid after end buffer (raw, tells, (rows, few, is, written)) kept (inr failed) =
     (raw, tells, Err plan.WriteFailed, failed, (rows, few, is, whole before mid after _ written kept))
 
+-- ---- a drill
+
+-- so far as the lines went, with what was written after them
+rewritten : {S : Type 0} (state : S → State) (usable : S → Type 0) (s : S) (fl : Floor) (count : ℕ) (ls : List (List ℕ)) (before mid after : Option (List ℕ)) (r : Result (Unit {0}) DrillStop) (runs : Runs state usable s fl count ls before mid r)
+    → IsWritten before after (printed runs.did) r → Runs state usable s fl count ls before after r
+rewritten state usable s fl count ls before mid after r runs written = record {
+  did = runs.did;
+  last = runs.last;
+  floor = runs.floor;
+  left = runs.left;
+  done = runs.done;
+  ends = runs.ends;
+  written = written;
+}
+
+lost : {S : Type 0} (state : S → State) (usable : S → Type 0) (s : S) (fl : Floor) (count : ℕ) (ls : List (List ℕ)) (before mid after : Option (List ℕ)) (r : Result (Unit {0}) DrillStop) (runs : Runs state usable s fl count ls before mid r)
+    → AppendsBeginning before after (printed runs.did) → Runs state usable s fl count ls before after (Err drill.WriteFailed)
+lost state usable s fl count ls before mid after r runs written = record {
+  did = runs.did;
+  last = runs.last;
+  floor = runs.floor;
+  left = runs.left;
+  done = runs.done;
+  ends = tt;
+  written = written;
+}
+
+never_unopened : (u : Unit {0}) (fault : StoreFault) → Ok u ≡ Err (unopened fault) → ⊥
+never_unopened u fault is = cc
+
+no_bad_line : (n : ℕ) (fault : StoreFault) → Err {A = Unit {0}} (drill.BadLine n) ≡ Err (unopened fault) → ⊥
+no_bad_line n fault.Memory is = cc
+no_bad_line n fault.Device is = cc
+no_bad_line n fault.Full is = cc
+
 pub drill_flushed : (known before mid after : Option (List ℕ)) (end : End) (buffer : List ℕ)
     → DrillEnds known before mid (Ok tt) → Keeps mid after → Flushes Done end buffer → DrillRuns known before after end
-drill_flushed known before mid after end buffer (text, prints, written) kept (inl done) =
-    (Ok tt, done.0, (text, prints, Appends-kept before mid after text written kept))
-drill_flushed known before mid after end buffer (text, prints, written) kept (inr failed) =
-    (Err drill.WriteFailed, failed, (None, text, prints, whole before mid after text written kept))
+drill_flushed known before mid after end buffer (inl (fault, is, stays)) kept flushes = absurd (never_unopened tt fault is)
+drill_flushed known before mid after end buffer (inr (s, holds, (raw, told, runs))) kept (inl done) =
+    (Ok tt, done.0, inr (s, holds, (raw, told, rewritten _ _ s _ _ _ before mid after _ runs (Appends-kept before mid after _ runs.written kept))))
+drill_flushed known before mid after end buffer (inr (s, holds, (raw, told, runs))) kept (inr failed) =
+    (Err drill.WriteFailed, failed, inr (s, holds, (raw, told, lost _ _ s _ _ _ before mid after _ runs (whole before mid after _ runs.written kept))))
 
 pub bad_line_flushed : (n : ℕ) (known before mid after : Option (List ℕ)) (end : End) (buffer : List ℕ)
     → DrillEnds known before mid (Err (drill.BadLine n)) → Keeps mid after → Flushes (BadLine n) end buffer → DrillRuns known before after end
-bad_line_flushed n known before mid after end buffer (text, prints, written) kept (inl done) =
-    (Err (drill.BadLine n), done.0, (text, prints, Appends-kept before mid after text written kept))
-bad_line_flushed n known before mid after end buffer (text, prints, written) kept (inr failed) =
-    (Err drill.WriteFailed, failed, (Some n, text, prints, whole before mid after text written kept))
+bad_line_flushed n known before mid after end buffer (inl (fault, is, stays)) kept flushes = absurd (no_bad_line n fault is)
+bad_line_flushed n known before mid after end buffer (inr (s, holds, (raw, told, runs))) kept (inl done) =
+    (Err (drill.BadLine n), done.0, inr (s, holds, (raw, told, rewritten _ _ s _ _ _ before mid after _ runs (Appends-kept before mid after _ runs.written kept))))
+bad_line_flushed n known before mid after end buffer (inr (s, holds, (raw, told, runs))) kept (inr failed) =
+    (Err drill.WriteFailed, failed, inr (s, holds, (raw, told, lost _ _ s _ _ _ before mid after _ runs (whole before mid after _ runs.written kept))))

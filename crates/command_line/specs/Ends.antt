@@ -14,8 +14,8 @@ use Rattle.store_files.specs.declared.fault.FileFault.{FileFault}
 use Rattle.store_files.specs.declared.fault.FileFault.TheVariants as file
 use Rattle.feeding.specs.declared.engine.FeedStop.{FeedStop}
 use Rattle.feeding.specs.declared.engine.FeedStop.TheVariants as feed
-use Rattle.drill.specs.declared.DrillStop.{DrillStop}
-use Rattle.drill.specs.declared.DrillStop.TheVariants as drill
+use Rattle.drill.specs.declared.stop.DrillStop.{DrillStop}
+use Rattle.drill.specs.declared.stop.DrillStop.TheVariants as drill
 use Rattle.command_line.specs.declared.end.End.{End}
 use Rattle.command_line.specs.declared.end.End.TheVariants as end
 use Rattle.command_line.specs.declared.end.Exit.{Exit}
@@ -76,6 +76,7 @@ end_of_plan (Err stop) = end_of_plan_stop stop
 
 abbrev pub end_of_drill_stop : DrillStop → End
 end_of_drill_stop (drill.BadLine line) = end.BadLine line
+end_of_drill_stop drill.Storage = end.Storage
 end_of_drill_stop drill.ReadFailed = end.ReadFailed
 end_of_drill_stop drill.WriteFailed = end.WriteFailed
 end_of_drill_stop drill.Memory = end.Memory

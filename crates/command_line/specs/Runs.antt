@@ -4,8 +4,8 @@ use Rattle.store_data.specs.declared.row.Product.{Product}
 use Rattle.text_io.specs.Inputs.{Tells}
 use Rattle.plan_print.specs.PlanEnds.{PlanEnds}
 use Rattle.plan_print.specs.declared.plan.PlanStop.{PlanStop}
-use Rattle.drill.specs.Ends.{DrillEnds}
-use Rattle.drill.specs.declared.DrillStop.{DrillStop}
+use Rattle.drill_tables.specs.Drills.{DrillEnds}
+use Rattle.drill.specs.declared.stop.DrillStop.{DrillStop}
 use Rattle.command_line.specs.Ends.{end_of_drill, end_of_plan}
 use Rattle.command_line.specs.declared.end.End.{End}
 use Rattle.command_line.specs.declared.end.End.TheVariants.{Done, BadLine}

@@ -75,6 +75,7 @@ impl From<DrillStop> for End {
     fn from(stop: DrillStop) -> End {
         match stop {
             DrillStop::BadLine(line) => End::BadLine(line),
+            DrillStop::Storage => End::Storage,
             DrillStop::ReadFailed => End::ReadFailed,
             DrillStop::WriteFailed => End::WriteFailed,
             DrillStop::Memory => End::Memory,

@@ -9,7 +9,8 @@ ghost use Rattle.command_line.specs.declared.end.End.TheVariants.{WriteFailed};
 
 use crate::end::End;
 use crate::words::Words;
-use drill::{DrillStop, drill_engine};
+use drill::DrillStop;
+use drill_tables::drill_engine;
 use plan_print::plan_engine;
 use std::alloc::Global;
 use std::io::{BufWriter, Read, Write};

@@ -1,3 +1,5 @@
-mod Lists
 mod ScriptLemmas
 mod ReplyLemmas
+mod LineLemmas
+mod Served
+mod Runs

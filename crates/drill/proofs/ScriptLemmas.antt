@@ -1,14 +1,14 @@
--- The steps of a script.
+-- The lines of a script that ask the server.
 use Rattle.std.proofs.Common.{◌≡◌, ℕ, ◌+◌, ◌-◌, ◌<◌, ◌≤◌, Bool, List, [], ◌∷◌, ◌++◌, codes, cond, drop, length, map, not, get_or, position, take, Bor, Option, Some, None, refl, sym, subst, ap, arith, ◌∙◌}
 use Rattle.std.specs.Prelude.{bytes_eq, nat_lt, option_and_then, option_map}
 use Rattle.std.specs.List.{flat_map, prefix_len, position_or_len}
 use Rattle.std.proofs.lemmas.List.{drop-drop, drop-map, drop_all, drop_more, length-drop, length-map, take_all, take-map}
 use Rattle.std.proofs.lemmas.List.Folds.{flat_map-map}
-use Rattle.drill.specs.Scripts.{Asks, Import, asked, IsScript, asked_by, lines, post, step_of}
+use Rattle.drill.specs.Scripts.{Import, asked, asked_by, post, step_of}
 use Rattle.text_io.specs.Written.{line}
 use Rattle.wire.specs.Asks.{import_tail}
 
-abbrev text_of : Bor (List ℕ) → List ℕ
+abbrev pub text_of : Bor (List ℕ) → List ℕ
 text_of l = l.now
 
 prefix-map : {A B : Type 0} (p : B → Bool) (f : A → B) (xs : List A) → prefix_len p (map f xs) ≡ prefix_len (λ x. p (f x)) xs
@@ -46,13 +46,8 @@ import_asked text number batch product m ls i step found is =
     ∙ sym (ap (option_and_then (λ s. asked_by s (map text_of ls))) step
     ∙ ap (λ o. import_by number batch product (file_by (map text_of ls) o)) (position-map (λ l. bytes_eq l (codes ".")) text_of ls ∙ found))
 
-pub asks_more : (ls ms : List (List ℕ)) (l m : List ℕ) (behind more : List (List ℕ)) → Asks ls ms (l ∷ behind) → asked l behind ≡ Some (m, more) → Asks ls (ms ++ m ∷ []) more
-asks_more ls [] l m behind more all next = subst (λ xs. Asks xs (m ∷ []) more) (sym all) (more, next, refl)
-asks_more [] (first ∷ ms) l m behind more all next = absurd all
-asks_more (one ∷ others) (first ∷ ms) l m behind more (left, is, rest) next = (left, is, asks_more left ms l m behind more rest next)
-
 -- the line here, and those behind it
-here : (ls behind : List (Bor (List ℕ))) (texts : List (List ℕ)) (at : ℕ) (one : Bor (List ℕ)) → map text_of ls ≡ texts → at < length ls → one ≡ get_or ls at one → behind ≡ drop (at + 1) ls
+pub here : (ls behind : List (Bor (List ℕ))) (texts : List (List ℕ)) (at : ℕ) (one : Bor (List ℕ)) → map text_of ls ≡ texts → at < length ls → one ≡ get_or ls at one → behind ≡ drop (at + 1) ls
     → drop at texts ≡ one.now ∷ map text_of behind
 here ls behind texts at one same within is rest =
     ap (drop at) (sym same) ∙ drop-map text_of at ls ∙ ap (map text_of) (drop_more ls at one within) ∙ ap (λ l. text_of l ∷ map text_of (drop (at + 1) ls)) (sym is)
@@ -60,29 +55,3 @@ here ls behind texts at one same within is rest =
 
 pub behind_is : (ls all : List (Bor (List ℕ))) (n : ℕ) → all ≡ ls → take (length all - n) (drop n all) ≡ drop n ls
 behind_is ls all n same = take_all (length all - n) (drop n all) (omega (arith, length-drop n all)) ∙ ap (drop n) same
-
--- after one more message
-pub asks_on : (ls behind : List (Bor (List ℕ))) (texts ms : List (List ℕ)) (at taken : ℕ) (one : Bor (List ℕ)) (m : List ℕ)
-    → map text_of ls ≡ texts → at < length ls → one ≡ get_or ls at one → behind ≡ drop (at + 1) ls
-    → Asks texts ms (drop at texts) → Some (m, drop taken (map text_of behind)) ≡ asked one.now (map text_of behind) → Asks texts (ms ++ m ∷ []) (drop (at + (1 + taken)) texts)
-asks_on ls behind texts ms at taken one m same within is rest all next =
-    let left : drop taken (map text_of behind) ≡ drop (at + (1 + taken)) texts =
-    ap (λ xs. drop taken (map text_of xs)) rest ∙ ap (drop taken) (sym (drop-map text_of (at + 1) ls)) ∙ ap (λ xs. drop taken (drop (at + 1) xs)) same
-    ∙ drop-drop taken (at + 1) texts ∙ ap (λ n. drop n texts) (omega arith) in
-    subst (Asks texts (ms ++ m ∷ [])) left
-    (asks_more texts ms one.now m (map text_of behind) (drop taken (map text_of behind)) (subst (Asks texts ms) (here ls behind texts at one same within is rest) all) (sym next))
-
--- at a bad line
-pub stops_at : (ls behind : List (Bor (List ℕ))) (text : List ℕ) (ms : List (List ℕ)) (at : ℕ) (one : Bor (List ℕ))
-    → map text_of ls ≡ lines text → at < length ls → one ≡ get_or ls at one → behind ≡ drop (at + 1) ls
-    → Asks (lines text) ms (drop at (lines text)) → None ≡ asked one.now (map text_of behind) → IsScript text ms (Some (at + 1))
-stops_at ls behind text ms at one same within is rest all none = (
-  one.now,
-  map text_of behind,
-  subst (Asks (lines text) ms) (here ls behind (lines text) at one same within is rest) all,
-  sym none,
-  omega (arith, within, length-map behind text_of, ap length rest, length-drop (at + 1) ls, length-map ls text_of, ap length same),
-)
-
-pub asks_all : (ls : List (Bor (List ℕ))) (text : List ℕ) (ms : List (List ℕ)) (at : ℕ) → map text_of ls ≡ lines text → length ls ≤ at → Asks (lines text) ms (drop at (lines text)) → IsScript text ms None
-asks_all ls text ms at same end all = subst (Asks (lines text) ms) (drop_all at (lines text) (omega (arith, end, length-map ls text_of, ap length same))) all

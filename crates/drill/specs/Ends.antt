@@ -1,55 +1,115 @@
--- What `persod drill` prints, and how it ends.
-use Rattle.std.specs.Prelude.{◌≡◌, ℕ, nat_eq, All, List, ◌∷◌, ◌++◌, codes, if◌then◌else◌, Option, None, Some, Result, Ok, Err}
+-- What a drill prints, and how it ends.
+use Rattle.std.specs.Prelude.{◌≡◌, ℕ, ◌+◌, Bool, true, false, List, [], ◌∷◌, ◌++◌, drop, length, codes, Option, None, Some, Result, Ok, Err, ⊤}
 use Rattle.std.specs.Fmt.{decimal}
-use Rattle.std.specs.List.{ends_with, flat_map}
+use Rattle.std.specs.List.{flat_map}
 use Rattle.std.specs.Io.KnownBytes.{Appends, Keeps}
-use Rattle.job_core.specs.Contents.{Contents}
+use Rattle.job_core.specs.Store.{State}
+use Rattle.job_core.specs.declared.store.StoreFault.{StoreFault}
+use Rattle.job_core.specs.declared.store.StoreFault.TheVariants as fault
 use Rattle.text_io.specs.Inputs.{Tells}
-use Rattle.text_io.specs.Written.{AppendsBeginning, line}
+use Rattle.text_io.specs.Written.{AppendsBeginning}
 use Rattle.text_io.specs.declared.reading.ReadFault.{ReadFault}
 use Rattle.text_io.specs.declared.reading.ReadFault.TheVariants as read
-use Rattle.wire.specs.ReplyParts.{body_behind, status_in}
-use Rattle.server.specs.declared.served.End.TheVariants.{Answered}
-use Rattle.server.specs.Exchanges.{Entry, Exchange, IsServed}
-use Rattle.drill.specs.Scripts.{IsScript}
-use Rattle.drill.specs.declared.DrillStop.{DrillStop}
-use Rattle.drill.specs.declared.DrillStop.TheVariants as stop
+use Rattle.line_words.specs.Lines.{lines}
+use Rattle.shop_floor.specs.Floors.{Floor, empty_floor}
+use Rattle.drill.specs.declared.stop.DrillStop.{DrillStop}
+use Rattle.drill.specs.declared.stop.DrillStop.TheVariants as stop
+use Rattle.reopening.specs.Reopening.{Reopens}
+use Rattle.drill.specs.Steps.{Did, Steps}
 
--- a body that doesn't end in LF gets one
-abbrev pub ended : List ℕ → List ℕ
-ended body = if ends_with nat_eq body (codes "\n") then body else line body
+-- what a line did, the store behind it, and the store at the next line
+pub record Done (S : Type 0) : Type 0 where
+  pub did : Did
+  pub served : S
+  pub store : S
 
--- a reply's status, a space and its body
-abbrev pub reply_line : List ℕ → List ℕ
-reply_line reply = status_in reply ++ 32 ∷ ended (body_behind reply)
+-- a server that stops is opened over again: unless a fault had shut its store, that holds what it held
+abbrev pub GoesOn : {S : Type 0} → (S → State) → (S → Type 0) → S → S → Bool → Type 0
+GoesOn state usable served store true = usable served → Reopens (state served) (state store)
+GoesOn state usable served store false = store ≡ served
 
--- these messages are served in turn by a server that begins empty, each gets its whole reply, and the replies' lines are this text
-abbrev pub AreServed : List (List ℕ) → List ℕ → Type 0
-AreServed messages text =
-    (es : List Exchange) × (done : List Entry) × (after : Contents) × IsServed messages done after es
-    × All (λ (e : Exchange). e.served.end ≡ Answered) es × (text ≡ flat_map (λ (e : Exchange). reply_line e.written) es)
+-- these lines did this one after the other, from a store and a shop floor to others, and then those are left
+abbrev pub AreDone : {S : Type 0} → (S → State) → (S → Type 0) → S → Floor → List (List ℕ) → List (Done S) → S → Floor → List (List ℕ) → Type 0
+AreDone state usable s fl ls [] last floor left = (s ≡ last) × (fl ≡ floor) × (ls ≡ left)
+AreDone state usable s fl [] (d ∷ ds) last floor left = ⊥
+AreDone state usable s fl (l ∷ behind) (d ∷ ds) last floor left =
+    Steps state s d.served fl l behind (Some d.did) × GoesOn state usable d.served d.store d.did.stops
+    × AreDone state usable d.store d.did.floor (drop d.did.taken behind) ds last floor left
 
--- what a script prints, up to its first bad line, if it has one
-abbrev pub Prints : Option (List ℕ) → Option ℕ → List ℕ → Type 0
-Prints known bad text = (raw : List ℕ) × Tells known raw × (messages : List (List ℕ)) × IsScript raw messages bad × AreServed messages text
+-- the next line has no form of the drill's, or names what isn't there; the first line is 1
+abbrev pub IsBadLine : {S : Type 0} → (S → State) → S → Floor → ℕ → ℕ → List (List ℕ) → Type 0
+IsBadLine {S} state s fl count n [] = ⊥
+IsBadLine {S} state s fl count n (l ∷ behind) = (after : S) × Steps state s after fl l behind None × (n + length behind ≡ count)
 
--- a script's text was written, or a beginning of it where the writer failed, or nothing; what the reader gives is the script
-abbrev pub DrillEnds : Option (List ℕ) → Option (List ℕ) → Option (List ℕ) → Result (Unit {0}) DrillStop → Type 0
-DrillEnds known before after (Ok u) = (text : List ℕ) × Prints known None text × Appends before after text
-DrillEnds known before after (Err (stop.BadLine n)) = (text : List ℕ) × Prints known (Some n) text × Appends before after text
-DrillEnds known before after (Err stop.WriteFailed) = (bad : Option ℕ) × (text : List ℕ) × Prints known bad text × AppendsBeginning before after text
-DrillEnds known before after (Err stop.ReadFailed) = Keeps before after
-DrillEnds known before after (Err stop.Memory) = Keeps before after
+-- the server stopped at the last of them
+abbrev pub HasStopped : {S : Type 0} → List (Done S) → Type 0
+HasStopped {S} ds = (before : List (Done S)) × (last : Done S) × (ds ≡ before ++ last ∷ []) × (last.did.stops ≡ true)
+
+-- why it ends where these lines were done, of so many, and those are left
+abbrev pub EndsAt : {S : Type 0} → (S → State) → S → Floor → ℕ → List (Done S) → List (List ℕ) → Result (Unit {0}) DrillStop → Type 0
+EndsAt state s fl count ds left (Ok u) = left ≡ []
+EndsAt state s fl count ds left (Err (stop.BadLine n)) = IsBadLine state s fl count n left
+EndsAt state s fl count ds left (Err stop.WriteFailed) = ⊤
+EndsAt state s fl count ds left (Err stop.Memory) = ⊤
+EndsAt state s fl count ds left (Err stop.Storage) = HasStopped ds
+EndsAt state s fl count ds left (Err stop.ReadFailed) = ⊥
+
+-- the text of these lines was written, or a beginning of it where the writer failed
+abbrev pub IsWritten : Option (List ℕ) → Option (List ℕ) → List ℕ → Result (Unit {0}) DrillStop → Type 0
+IsWritten before after text (Err stop.WriteFailed) = AppendsBeginning before after text
+IsWritten before after text (Ok u) = Appends before after text
+IsWritten before after text (Err (stop.BadLine n)) = Appends before after text
+IsWritten before after text (Err stop.Memory) = Appends before after text
+IsWritten before after text (Err stop.Storage) = Appends before after text
+IsWritten before after text (Err stop.ReadFailed) = ⊥
+
+abbrev pub printed : {S : Type 0} → List (Done S) → List ℕ
+printed ds = flat_map (λ d. d.did.text) ds
+
+-- the lines of a script, of so many in all, from a store and a shop floor on
+pub record Runs {S : Type 0} (state : S → State) (usable : S → Type 0) (s : S) (fl : Floor) (count : ℕ) (ls : List (List ℕ)) (before after : Option (List ℕ)) (result : Result (Unit {0}) DrillStop) : Type 0 where
+  pub did : List (Done S)
+  pub last : S
+  pub floor : Floor
+  pub left : List (List ℕ)
+  pub done : AreDone state usable s fl ls did last floor left
+  pub ends : EndsAt state last floor count did left result
+  pub written : IsWritten before after (printed did) result
+
+-- all lines of a script, from an empty shop floor; what the reader gives is the script
+abbrev pub RunsAll : {S : Type 0} → (S → State) → (S → Type 0) → S → Option (List ℕ) → Option (List ℕ) → Option (List ℕ) → Result (Unit {0}) DrillStop → Type 0
+RunsAll state usable s known before after result =
+    (raw : List ℕ) × Tells known raw × Runs state usable s empty_floor (length (lines raw)) (lines raw) before after result
+
+-- nothing was printed where the reader failed
+abbrev pub DrillsOver : {S : Type 0} → (S → State) → (S → Type 0) → S → Option (List ℕ) → Option (List ℕ) → Option (List ℕ) → Result (Unit {0}) DrillStop → Type 0
+DrillsOver state usable s known before after (Err stop.ReadFailed) = Keeps before after
+DrillsOver state usable s known before after (Ok u) = RunsAll state usable s known before after (Ok u)
+DrillsOver state usable s known before after (Err (stop.BadLine n)) = RunsAll state usable s known before after (Err (stop.BadLine n))
+DrillsOver state usable s known before after (Err stop.WriteFailed) = RunsAll state usable s known before after (Err stop.WriteFailed)
+DrillsOver state usable s known before after (Err stop.Memory) = RunsAll state usable s known before after (Err stop.Memory)
+DrillsOver state usable s known before after (Err stop.Storage) = RunsAll state usable s known before after (Err stop.Storage)
 
 -- the words of an end that is told
 abbrev pub stop_text : DrillStop → List ℕ
 stop_text (stop.BadLine n) = codes "bad line " ++ decimal n
+stop_text stop.Storage = codes "the store did not open"
 stop_text stop.ReadFailed = codes "the reader failed"
 stop_text stop.WriteFailed = codes "the writer failed"
 stop_text stop.Memory = codes "memory was refused"
 
 -- ---- the steps on the way
 
+-- from a store and a shop floor to others, with what was printed
+abbrev pub Goes : {S : Type 0} → (S → State) → (S → Type 0) → S → Floor → List (List ℕ) → Option (List ℕ) → Option (List ℕ) → S → Floor → List (List ℕ) → Type 0
+Goes {S} state usable s fl ls before after last floor left =
+    (ds : List (Done S)) × AreDone state usable s fl ls ds last floor left × Appends before after (printed ds)
+
 abbrev pub unread : ReadFault → DrillStop
 unread read.Failed = stop.ReadFailed
 unread read.Memory = stop.Memory
+
+abbrev pub unopened : StoreFault → DrillStop
+unopened fault.Memory = stop.Memory
+unopened fault.Device = stop.Storage
+unopened fault.Full = stop.Storage

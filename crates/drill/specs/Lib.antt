@@ -1,2 +1,5 @@
 pub mod Scripts
+pub mod Deliveries
+pub mod Steps
 pub mod Ends
+pub mod Drills

@@ -1,29 +1,13 @@
--- The scripts of a drill (this project's profile).
+-- The lines of a drill that ask the server (this project's profile).
 use Rattle.std.specs.Prelude.{◌≡◌, ℕ, ◌+◌, ◌-◌, ◌==◌, ◌&&◌, Bool, not, nat_eq, nat_lt, List, [], ◌∷◌, ◌++◌, length, take, drop, bytes_eq, codes, position, Option, Some, None, option_map, option_and_then, if◌then◌else◌}
 use Rattle.std.specs.List.{ends_with, flat_map, list_any, slice_split}
 use Rattle.store_data.specs.Name.{is_name}
+use Rattle.line_words.specs.Lines.{cut, word_of}
 use Rattle.wire.specs.Asks.{import_tail, is_number}
 use Rattle.text_io.specs.Written.{line}
 use Rattle.wire.specs.RequestHeads.{request_head}
 use Rattle.drill.specs.declared.script.Step.{Step as Parsed}
 use Rattle.drill.specs.declared.script.Step.TheVariants as parsed
-
--- ---- lines and words
-
-abbrev pub without_end : List ℕ → List ℕ
-without_end text = if ends_with nat_eq text (codes "\n") then take (length text - 1) text else text
-
--- the lines of a text, each without its LF; the last may lack it
-abbrev pub lines : List ℕ → List (List ℕ)
-lines text = if length text == 0 then [] else slice_split (λ b. b == 10) (without_end text)
-
--- what stands before the first that passes, and behind it
-abbrev pub cut : {T : Type 0} → (T → Bool) → List T → Option (List T × List T)
-cut passes xs = option_map (λ i. (take i xs, drop (i + 1) xs)) (position passes xs)
-
--- a line's first word, and what stands behind its space
-abbrev pub word_of : List ℕ → Option (List ℕ × List ℕ)
-word_of text = cut (λ b. b == 32) text
 
 -- ---- what lines ask
 
@@ -84,20 +68,6 @@ asked_by (Get target) behind = Some (get target, behind)
 
 abbrev pub asked : List ℕ → List (List ℕ) → Option (List ℕ × List (List ℕ))
 asked text behind = option_and_then (λ s. asked_by s behind) (step_of text)
-
--- ---- a whole script
-
--- these lines ask for these messages one after the other, and then those are left
-abbrev pub Asks : List (List ℕ) → List (List ℕ) → List (List ℕ) → Type 0
-Asks ls [] left = ls ≡ left
-Asks [] (m ∷ ms) left = ⊥
-Asks (l ∷ behind) (m ∷ ms) left = (more : List (List ℕ)) × (asked l behind ≡ Some (m, more)) × Asks more ms left
-
--- all of a script is asked for, or what stands before its first bad line, by its number
-abbrev pub IsScript : List ℕ → List (List ℕ) → Option ℕ → Type 0
-IsScript text messages None = Asks (lines text) messages []
-IsScript text messages (Some n) =
-    (l : List ℕ) × (behind : List (List ℕ)) × Asks (lines text) messages (l ∷ behind) × (asked l behind ≡ None) × (n + length behind ≡ length (lines text))
 
 -- ---- what the code calls them
 

@@ -1,71 +1,20 @@
-//! A drill's script, and the messages that its lines stand for.
-ghost use Rattle.std.specs.Prelude.{◌≡◌, ◌++◌, ◌==◌, ◌≤◌, IfOk, IfSome, bytes_eq, codes, drop};
+//! The lines of a drill that ask the server, and the messages that they stand for.
+ghost use Rattle.std.specs.Prelude.{◌≡◌, ◌++◌, ◌≤◌, IfOk, IfSome, bytes_eq, codes, drop};
 ghost use Rattle.std.specs.Prelude.{length, map, option_map, position};
 ghost use Rattle.std.specs.List.{flat_map};
 ghost use Rattle.wire.specs.Asks.{import_tail};
 ghost use Rattle.text_io.specs.Written.{line};
-ghost use Rattle.drill.specs.Scripts.{IsScript, asked, get, import_of, lines, numbered, office_of};
-ghost use Rattle.drill.specs.Scripts.{post, shown, step_by, step_of, target_of, without_end};
-ghost use Rattle.drill.specs.Scripts.{word_of};
+ghost use Rattle.drill.specs.Scripts.{asked, get, import_of, numbered, office_of};
+ghost use Rattle.drill.specs.Scripts.{post, shown, step_by, step_of, target_of};
 
 use itoa::Buffer;
+use line_words::word_of;
 use std::alloc::{AllocError, Global};
 use store_data::Name;
 use wire::is_number;
 
-/// The messages of a script up to its first bad line, and the number of that line, if there is one.
-#[derive(Drop)]
-pub(crate) struct Script {
-    pub(crate) messages: Vec<Vec<u8>>,
-    pub(crate) bad_line: Option<u64>,
-}
-
-/// Reads a script.
-pub(crate) fn read_script(alloc: Global, text: &[u8]) -> Result<Script, AllocError>
-    ensures { IfOk result
-        (λ s. IsScript text.now (map (λ m. m.items) s.messages.items) s.bad_line) }
-{
-    let lines = lines_of(alloc, text)?;
-    let mut messages = Vec::new(alloc);
-    let mut at = 0;
-    while at < lines.len() {
-        let behind = &lines[at + 1..];
-        let Some((message, taken)) = asked(alloc, lines[at], behind)? else {
-            let bad_line = Some((at + 1) as u64);
-            return Ok(Script { messages, bad_line });
-        };
-        messages.push(message)?;
-        at += 1 + taken;
-    }
-    Ok(Script {
-        messages,
-        bad_line: None,
-    })
-}
-
-// The lines of a text, each without its LF; the last may lack it.
-fn lines_of(alloc: Global, text: &[u8]) -> Result<Vec<&[u8]>, AllocError>
-    ensures { IfOk result (λ found. map (λ l. l.now) found.items ≡ lines text.now) }
-{
-    if text.is_empty() {
-        return Ok(Vec::new(alloc));
-    }
-    without_end(text).split(|b| *b == b'\n').collect(alloc)
-}
-
-// A text without its last LF, if it ends in one.
-fn without_end(text: &[u8]) -> &[u8]
-    ensures { result.now ≡ without_end text.now }
-{
-    if text.ends_with(b"\n") {
-        &text[..text.len() - 1]
-    } else {
-        text
-    }
-}
-
-// The message that a line asks for, and how many of the lines behind it are its file.
-fn asked(
+/// The message that a line asks for, and how many of the lines behind it are its file.
+pub(crate) fn asked(
     alloc: Global,
     line: &[u8],
     behind: &[&[u8]],
@@ -176,21 +125,6 @@ fn numbered(words: &[u8]) -> Option<(&[u8], &[u8])>
 {
     let (number, words) = word_of(words)?;
     is_number(number).then_some((number, words))
-}
-
-// What stands before the first space, and behind it.
-fn word_of(text: &[u8]) -> Option<(&[u8], &[u8])>
-    ensures { option_map (λ p. (p.0.now, p.1.now)) result ≡ word_of text.now }
-{
-    let at = space_in(text)?;
-    Some((&text[..at], &text[at + 1..]))
-}
-
-// Where the first space is.
-fn space_in(text: &[u8]) -> Option<usize>
-    ensures { result ≡ position (λ b. b == 32) text.now }
-{
-    text.iter().position(|b| *b == b' ')
 }
 
 // Where the first line `.` is.

@@ -6,7 +6,7 @@ use crate::batches::{FILE, product};
 use crate::exchanges::inputs;
 use crate::failing_readers::{Broken, Counted, Failing};
 use crate::failing_writers::Limited;
-use drill::{DrillStop, drill_engine, serve_inputs};
+use drill::{DrillStop, drill_over_lists, serve_inputs};
 use plan_print::{PlanStop, plan_engine};
 use server::{Connections, NextFault};
 use std::alloc::Global;
@@ -108,7 +108,7 @@ const SCRIPT: &[u8] =
 // How a drill ends whose reader fails behind these bytes; nothing is written.
 fn drill_of_broken(rt: &impl Abort, alloc: Global, front: &[u8]) -> Result<(), DrillStop> {
     let mut writer = Limited::new(512, 512);
-    let end = drill_engine(alloc, &mut Broken(front), &mut writer);
+    let end = drill_over_lists(alloc, &mut Broken(front), &mut writer);
     assert!(rt; writer.taken().is_empty());
     end
 }

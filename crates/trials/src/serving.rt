@@ -2,7 +2,7 @@
 use crate::again::{MayWantMemory, at_last};
 use crate::exchanges::{inputs, served};
 use crate::failing_writers::{Limited, LimitedConnections};
-use drill::{DrillStop, drill_engine, serve_inputs};
+use drill::{DrillStop, drill_over_lists, serve_inputs};
 use list_store::ListStore;
 use server::{End, MemoryConnections, NextFault, Served, serve_all};
 use std::alloc::{AllocError, Global};
@@ -84,7 +84,7 @@ fn connections_end_as_is_told(rt: HostRuntime) {
 // What is printed for a script, and how its drill ends; nothing where memory was refused.
 fn printed(alloc: Global, script: &str) -> Result<Limited, DrillStop> {
     let mut writer = Limited::new(512, 512);
-    drill_engine(alloc, &mut Cursor::new(script.as_bytes()), &mut writer)?;
+    drill_over_lists(alloc, &mut Cursor::new(script.as_bytes()), &mut writer)?;
     if writer.taken().starts_with(b"503 ") {
         return Err(DrillStop::Memory);
     }

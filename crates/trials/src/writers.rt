@@ -8,7 +8,7 @@ use crate::failing_writers::Limited;
 use crate::programs::program;
 use crate::stories::{CLOSING, SET_UP};
 use command_line::End as ProgramEnd;
-use drill::{DrillStop, drill_engine};
+use drill::{DrillStop, drill_over_lists};
 use list_store::ListStore;
 use plan_print::{PlanStop, plan_engine};
 use reports::{AccountFault, close_report};
@@ -221,20 +221,16 @@ fn is_unavailable(taken: &[u8]) -> bool {
 // How a drill ends whose writer has so much room, and takes one byte a call; the beginning is written where memory was not refused.
 fn drill_of_limited(rt: &impl Abort, alloc: Global, room: usize) -> Result<(), DrillStop> {
     let mut writer = Limited::new(room, 1);
-    let end = drill_engine(alloc, &mut Cursor::new(SCRIPT), &mut writer);
+    let end = drill_over_lists(alloc, &mut Cursor::new(SCRIPT), &mut writer);
     if is_unavailable(writer.taken()) {
         return Err(DrillStop::Memory);
     }
-    let wanted = if end == Err(DrillStop::Memory) {
-        0
+    let told = TOLD.as_bytes();
+    if end == Err(DrillStop::Memory) {
+        assert!(rt; told.starts_with(writer.taken()), "at {room}");
     } else {
-        room
-    };
-    assert_eq!(rt;
-        Some(writer.taken()),
-        TOLD.as_bytes().get(..wanted),
-        "at {room}"
-    );
+        assert_eq!(rt; Some(writer.taken()), told.get(..room), "at {room}");
+    }
     end
 }
 

@@ -1,10 +1,11 @@
 //! Scripts of drills, and what is printed.
 use case_exchanges::Scripted;
 use case_files::{Case, CaseFault, Line, check_bytes};
-use drill::{DrillStop, drill_engine};
+use drill::{DrillStop, drill_over_lists};
+use drill_tables::drill_engine;
 use std::alloc::{AllocError, Global};
 
-/// A script prints what it must.
+/// A script prints what it must, over tables.
 pub fn check_script(alloc: Global, case: &Case) -> Result<(), CaseFault> {
     let mut script = String::new(alloc);
     let mut wanted = String::new(alloc);
@@ -34,11 +35,11 @@ pub fn check_script(alloc: Global, case: &Case) -> Result<(), CaseFault> {
     )
 }
 
-/// A drill prints the status and the body of each reply.
+/// A drill over lists prints the status and the body of each reply.
 pub fn check_scripted(alloc: Global, scripted: &Scripted) -> Result<(), CaseFault> {
     let mut input = scripted.script.as_bytes();
     let mut printed = Vec::new(alloc);
-    if drill_engine(alloc, &mut input, &mut printed).is_err() {
+    if drill_over_lists(alloc, &mut input, &mut printed).is_err() {
         return Err(CaseFault::Memory);
     }
     let (wanted, came) = (scripted.printed.as_slice(), printed.as_slice());

@@ -2,7 +2,7 @@
 use crate::again::{MayWantMemory, at_last};
 use crate::exchanges::{UNAVAILABLE, inputs};
 use crate::failing_writers::Limited;
-use drill::{DrillStop, drill_engine, serve_inputs};
+use drill::{DrillStop, drill_over_lists, serve_inputs};
 use list_store::ListStore;
 use server::{End, NextFault, Replied, Served, serve_one};
 use std::alloc::Global;
@@ -80,11 +80,15 @@ const TOLD: [&str; 3] = [
 
 const LINE: &str = "503 {\"code\":503,\"refused\":\"storage\"}";
 
-// How many lines of a drill tell refused memory; each other line tells what it must.
+fn lines_in(printed: &[u8]) -> usize {
+    printed.iter().filter(|byte| **byte == b'\n').count()
+}
+
+// How many of the lines that a drill printed tell refused memory; each other line tells what it must.
 fn unavailable(rt: &impl Abort, printed: &[u8]) -> usize {
     let mut count = 0usize;
     let mut rest = printed;
-    for wanted in TOLD {
+    for wanted in TOLD.iter().copied().take(lines_in(printed)) {
         let line = if rest.starts_with(LINE.as_bytes()) {
             count = count.saturating_add(1);
             LINE
@@ -100,19 +104,22 @@ fn unavailable(rt: &impl Abort, printed: &[u8]) -> usize {
     count
 }
 
-// Where memory is refused nothing is printed, or one message is told 503; a second drill prints it all.
+// Where memory is refused the lines before it are printed, or one message is told 503; a second drill prints it all.
 #[test]
 fn refused_memory_is_no_half_drill(rt: HostRuntime) {
     for is_again in [false, true] {
         let mut writer = Limited::new(512, 512);
-        match drill_engine(rt.alloc(), &mut Cursor::new(SCRIPT), &mut writer) {
-            Ok(()) => match unavailable(&rt, writer.taken()) {
-                0 => return,
-                count => assert!(rt; count == 1 && !is_again),
-            },
+        match drill_over_lists(rt.alloc(), &mut Cursor::new(SCRIPT), &mut writer) {
+            Ok(()) => {
+                assert_eq!(rt; lines_in(writer.taken()), TOLD.len());
+                match unavailable(&rt, writer.taken()) {
+                    0 => return,
+                    count => assert!(rt; count == 1 && !is_again),
+                }
+            }
             Err(stop) => {
                 assert_eq!(rt; stop, DrillStop::Memory);
-                assert!(rt; writer.taken().is_empty() && !is_again);
+                assert!(rt; unavailable(&rt, writer.taken()) == 0 && !is_again);
             }
         }
     }

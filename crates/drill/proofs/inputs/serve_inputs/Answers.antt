@@ -1,6 +1,6 @@
 use Rattle.list_store.specs.Lists.{contents}
 use Rattle.server.specs.Memory.{queue, texts}
-use Rattle.drill.proofs.Lists.{served_is}
+use Rattle.drill.proofs.Served.{served_is}
 use Rattle.drill.proofs.inputs.serve_inputs.Goals as goal
 
 pub returns-clause-served : goal.returns-clause-served

@@ -1,6 +1,6 @@
 use Rattle.std.proofs.Common.{◌∙◌, sym}
 use Rattle.drill.proofs.ReplyLemmas.{line_ended, line_stays}
-use Rattle.drill.proofs.put_line.Goals as goal
+use Rattle.drill.proofs.step.put_line.Goals as goal
 
 pub returns-in_ok-push-2 : goal.returns-in_ok-push-2
 returns-in_ok-push-2 c =

@@ -1,0 +1,8 @@
+use Rattle.std.proofs.lemmas.Result.{err_from_is_err_and}
+use Rattle.drill.proofs.Runs.{unread_all}
+use Rattle.drill.proofs.engine.drill_over.Goals as goal
+
+pub returns-in_err-raw : goal.returns-in_err-raw
+returns-in_err-raw g c =
+    let p = err_from_is_err_and c.from_residual.result c.from_residual.ensures.1 in
+    unread_all g.S.JobStore.state g.S.Reopen.usable c.args.store (g.R.Read.remaining c.args.reader.now) (g.W.Write.contents c.args.writer.now) c.from_residual.result p.0 _ p.1 p.2

@@ -1,0 +1,11 @@
+-- A drill over lists.
+use Rattle.std.specs.Prelude.{ℕ, List, Option, Result, ⊤}
+use Rattle.job_core.specs.Contents.{no_contents}
+use Rattle.list_store.specs.Lists.{state}
+use Rattle.list_store.specs.declared.store.ListStore.{ListStore}
+use Rattle.drill.specs.declared.stop.DrillStop.{DrillStop}
+use Rattle.drill.specs.Ends.{DrillsOver}
+
+-- lists that begin empty do the lines
+abbrev pub DrillEnds : Option (List ℕ) → Option (List ℕ) → Option (List ℕ) → Result (Unit {0}) DrillStop → Type 0
+DrillEnds known before after result = (s : ListStore) × (state s).holds no_contents × DrillsOver state (λ lists. ⊤) s known before after result

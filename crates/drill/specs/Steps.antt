@@ -1,0 +1,115 @@
+-- What each line of a drill does, and prints (this project's profile).
+use Rattle.std.specs.Prelude.{◌≡◌, ℕ, ◌+◌, nat_eq, Bool, true, false, if◌then◌else◌, List, [], ◌∷◌, ◌++◌, drop, length, codes, Option, Some, None, option_map}
+use Rattle.std.specs.Fmt.{decimal}
+use Rattle.std.specs.List.{ends_with}
+use Rattle.text_io.specs.Written.{line}
+use Rattle.job_core.specs.Store.{State}
+use Rattle.wire.specs.ReplyParts.{body_behind, status_in}
+use Rattle.server.specs.declared.served.End.TheVariants.{Answered}
+use Rattle.server.specs.Exchanges.{Exchange, Serves}
+use Rattle.feeder.specs.declared.world.Stop.{Stop}
+use Rattle.feeder.specs.declared.world.Stop.TheVariants as stop
+use Rattle.shop_floor.specs.declared.sent.Packet.{Packet}
+use Rattle.shop_floor.specs.declared.turn.Turn.{Turn}
+use Rattle.shop_floor.specs.Floors.{Floor, Turned, Turns, packet_at, with_reply}
+use Rattle.shop_floor.specs.Turns.{turn_of}
+use Rattle.drill.specs.declared.delivery.Delivery.{Delivery}
+use Rattle.drill.specs.declared.step.Did.{Did as DidValue}
+use Rattle.drill.specs.Deliveries.{delivery_of}
+use Rattle.drill.specs.Scripts.{asked}
+
+-- what is there after a line, how many lines behind it were its file, what it printed, and whether the server stops then
+pub record Did : Type 0 where
+  pub floor : Floor
+  pub taken : ℕ
+  pub text : List ℕ
+  pub stops : Bool
+
+-- ---- texts
+
+-- a body that doesn't end in LF gets one
+abbrev pub ended : List ℕ → List ℕ
+ended body = if ends_with nat_eq body (codes "\n") then body else line body
+
+-- a reply's status, a space and its body
+abbrev pub reply_line : List ℕ → List ℕ
+reply_line reply = status_in reply ++ 32 ∷ ended (body_behind reply)
+
+abbrev pub reply_number : ℕ → List ℕ
+reply_number j = codes "reply " ++ (decimal j ++ 32 ∷ [])
+
+-- ---- the server
+
+-- a message is served, and its reply comes whole
+abbrev pub Answers : {S : Type 0} → (S → State) → S → S → List ℕ → List ℕ → Type 0
+Answers state old new message reply =
+    (e : Exchange) × (e.input ≡ message) × Serves (state old) (state new) e × (e.served.end ≡ Answered) × (e.written ≡ reply)
+
+-- ---- lines that ask the server
+
+-- with the lines that are its file
+abbrev pub AsksBy : {S : Type 0} → (S → State) → S → S → Floor → List (List ℕ) → Option (List ℕ × List (List ℕ)) → Option Did → Type 0
+AsksBy state old new fl behind None did = did ≡ None
+AsksBy state old new fl behind (Some p) did =
+    (reply : List ℕ) × (taken : ℕ) × Answers state old new p.0 reply × (drop taken behind ≡ p.1)
+    × (did ≡ Some (record { floor = fl; taken = taken; text = reply_line reply; stops = false }))
+
+abbrev pub Asks : {S : Type 0} → (S → State) → S → S → Floor → List ℕ → List (List ℕ) → Option Did → Type 0
+Asks state old new fl text behind did = AsksBy state old new fl behind (asked text behind) did
+
+-- ---- lines that bring a packet
+
+-- its reply is kept
+abbrev pub delivered : Packet → List ℕ → Floor → Did
+delivered p reply fl = record {
+  floor = with_reply p.machine p.number reply fl;
+  taken = 0;
+  text = reply_number (length fl.replies + 1) ++ reply_line reply;
+  stops = false;
+}
+
+-- the server stops
+abbrev pub stopped : Floor → Did
+stopped fl = record { floor = fl; taken = 0; text = line (codes "stopped"); stops = true }
+
+-- for the first time or again; at a stop before the commit nothing is handed to the store, and at one behind it nobody gets the reply
+abbrev pub Brings : {S : Type 0} → (S → State) → S → S → Floor → Stop → Option Packet → Option Did → Type 0
+Brings state old new fl stop.No (Some p) did = (reply : List ℕ) × Answers state old new p.message reply × (did ≡ Some (delivered p reply fl))
+Brings state old new fl stop.Before (Some p) did = (new ≡ old) × (did ≡ Some (stopped fl))
+Brings state old new fl stop.After (Some p) did = (reply : List ℕ) × Answers state old new p.message reply × (did ≡ Some (stopped fl))
+Brings state old new fl stop.No None did = did ≡ None
+Brings state old new fl stop.Before None did = did ≡ None
+Brings state old new fl stop.After None did = did ≡ None
+
+abbrev pub Delivers : {S : Type 0} → (S → State) → S → S → Floor → Delivery → Option Did → Type 0
+Delivers state old new fl d did = Brings state old new fl d.stop (packet_at fl d.packet) did
+
+-- ---- lines that the server has no part in
+
+abbrev pub plain : Turned → Did
+plain t = record { floor = t.0; taken = 0; text = t.1; stops = false }
+
+abbrev pub Moves : Floor → Turn → Option Did → Type 0
+Moves fl t did = (made : Option Turned) × Turns fl t made × (did ≡ option_map plain made)
+
+-- ---- any line
+
+abbrev pub ByDelivery : {S : Type 0} → (S → State) → S → S → Floor → List ℕ → List (List ℕ) → Option Delivery → Option Did → Type 0
+ByDelivery state old new fl text behind None did = Asks state old new fl text behind did
+ByDelivery state old new fl text behind (Some d) did = Delivers state old new fl d did
+
+abbrev pub ByTurn : {S : Type 0} → (S → State) → S → S → Floor → List ℕ → List (List ℕ) → Option Turn → Option Did → Type 0
+ByTurn state old new fl text behind None did = ByDelivery state old new fl text behind (delivery_of text) did
+ByTurn state old new fl text behind (Some t) did = (new ≡ old) × Moves fl t did
+
+-- what a line does with the lines behind it; nothing where it has no form of the drill's, or names what isn't there
+abbrev pub Steps : {S : Type 0} → (S → State) → S → S → Floor → List ℕ → List (List ℕ) → Option Did → Type 0
+Steps state old new fl text behind did = ByTurn state old new fl text behind (turn_of text) did
+
+-- ---- what the code calls them
+
+abbrev pub did_view : Floor → DidValue → Did
+did_view fl did = record { floor = fl; taken = did.taken; text = did.text.items; stops = did.stops }
+
+abbrev pub did_of : Floor → Option DidValue → Option Did
+did_of fl did = option_map (did_view fl) did

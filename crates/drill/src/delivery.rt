@@ -1,0 +1,48 @@
+//! The lines that bring a packet to the server.
+ghost use Rattle.std.specs.Prelude.{◌≡◌, ◌≤◌, IfSome};
+ghost use Rattle.drill.specs.Deliveries.{delivery_of, delivery_to, stop_of};
+
+use feeder::Stop;
+use line_words::word_of;
+use shop_floor::count_of;
+
+/// A packet that arrives, and whether the server stops then.
+#[derive(Clone, Copy)]
+pub(crate) struct Delivery {
+    /// They count from 1.
+    pub(crate) packet: u64,
+    pub(crate) stop: Stop,
+}
+
+/// What a line brings, if it has the form `deliver K`, `stop-before K` or `stop-after K`.
+pub(crate) fn delivery_of(line: &[u8]) -> Option<Delivery>
+    ensures value { result ≡ delivery_of line.now }
+    ensures least { IfSome result (λ d. 1 ≤ d.packet) }
+{
+    let (word, words) = word_of(line)?;
+    let stop = stop_of(word)?;
+    delivery_to(stop, words)
+}
+
+// By the line's first word.
+fn stop_of(word: &[u8]) -> Option<Stop>
+    ensures { result ≡ stop_of word.now }
+{
+    if word == b"deliver".as_slice() {
+        Some(Stop::No)
+    } else if word == b"stop-before".as_slice() {
+        Some(Stop::Before)
+    } else if word == b"stop-after".as_slice() {
+        Some(Stop::After)
+    } else {
+        None
+    }
+}
+
+fn delivery_to(stop: Stop, words: &[u8]) -> Option<Delivery>
+    ensures value { result ≡ delivery_to words.now stop }
+    ensures least { IfSome result (λ d. 1 ≤ d.packet) }
+{
+    let packet = count_of(words)?;
+    Some(Delivery { packet, stop })
+}

@@ -1,0 +1,215 @@
+//! What one line of a drill does, and prints.
+ghost use Rattle.std.specs.Prelude.{◌≡◌, ◌++◌, ◌≤◌, List, ℕ, IfOk, IfSome, OnOk, Some, length, map};
+ghost use Rattle.shop_floor.specs.Floors.{Floor as FloorState};
+ghost use Rattle.shop_floor.specs.Turns.{IsTurn};
+ghost use Rattle.drill.specs.Deliveries.{delivery_of};
+ghost use Rattle.drill.specs.Steps.{Answers, Asks, ByDelivery, Delivers, Moves, Steps, delivered};
+ghost use Rattle.drill.specs.Steps.{did_of, did_view, reply_line, reply_number, stopped};
+
+use crate::delivery::{Delivery, delivery_of};
+use crate::script::asked;
+use feeder::Stop;
+use itoa::Buffer;
+use job_core::JobStore;
+use server::{End, MemoryReader, serve_one};
+use shop_floor::{Floor, Turn, text_line, turn_of};
+use std::alloc::{AllocError, Global};
+use store_data::{Bytes, Name};
+use wire::reply_parts;
+
+/// What a line printed, how many lines behind it were its file, and whether the server stops now.
+#[derive(Drop)]
+pub(crate) struct Did {
+    pub(crate) taken: usize,
+    pub(crate) text: Vec<u8>,
+    pub(crate) stops: bool,
+}
+
+/// Does what a line says. `None` where it has no form of the drill's, or names what isn't there.
+pub(crate) fn step<S: JobStore>(
+    alloc: Global,
+    floor: &mut Floor,
+    store: &mut S,
+    line: &[u8],
+    behind: &[&[u8]],
+) -> Result<Option<Did>, AllocError>
+    ensures steps { IfOk result (λ did. Steps S.state store.old store.new floor.old line.now
+        (map (λ l. l.now) behind.now) (did_of floor.new did)) }
+    ensures within { IfOk result (λ did. IfSome did (λ d. d.taken ≤ length behind.now)) }
+{
+    match turn_of(line) {
+        Some(turn) => move_by(alloc, floor, turn),
+        None => reach(alloc, floor, store, line, behind),
+    }
+}
+
+// A line that moves a machine or a reply.
+fn move_by(alloc: Global, floor: &mut Floor, turn: Turn) -> Result<Option<Did>, AllocError>
+    requires { IsTurn turn }
+    ensures moves { IfOk result (λ did. Moves floor.old turn (did_of floor.new did)) }
+    ensures within { IfOk result (λ did. IfSome did (λ d. d.taken ≡ 0)) }
+{
+    let Some(text) = floor.turn(alloc, turn)? else {
+        return Ok(None);
+    };
+    Ok(Some(Did {
+        taken: 0,
+        text,
+        stops: false,
+    }))
+}
+
+// A line that reaches the server.
+fn reach<S: JobStore>(
+    alloc: Global,
+    floor: &mut Floor,
+    store: &mut S,
+    line: &[u8],
+    behind: &[&[u8]],
+) -> Result<Option<Did>, AllocError>
+    ensures reaches { IfOk result (λ did. ByDelivery S.state store.old store.new floor.old
+        line.now (map (λ l. l.now) behind.now) (delivery_of line.now) (did_of floor.new did)) }
+    ensures within { IfOk result (λ did. IfSome did (λ d. d.taken ≤ length behind.now)) }
+{
+    match delivery_of(line) {
+        Some(delivery) => deliver(alloc, floor, store, delivery),
+        None => ask(alloc, store, line, behind),
+    }
+}
+
+// Sends what a line asks of the server.
+fn ask<S: JobStore>(
+    alloc: Global,
+    store: &mut S,
+    line: &[u8],
+    behind: &[&[u8]],
+) -> Result<Option<Did>, AllocError>
+    ensures asks { (fl : FloorState) → IfOk result (λ did. Asks S.state store.old store.new fl
+        line.now (map (λ l. l.now) behind.now) (did_of fl did)) }
+    ensures within { IfOk result (λ did. IfSome did (λ d. d.taken ≤ length behind.now)) }
+{
+    let Some((message, taken)) = asked(alloc, line, behind)? else {
+        return Ok(None);
+    };
+    let reply = serve(alloc, store, message)?;
+    let text = told(Vec::new(alloc), reply.as_slice())?;
+    Ok(Some(Did {
+        taken,
+        text,
+        stops: false,
+    }))
+}
+
+// A packet arrives.
+fn deliver<S: JobStore>(
+    alloc: Global,
+    floor: &mut Floor,
+    store: &mut S,
+    delivery: Delivery,
+) -> Result<Option<Did>, AllocError>
+    requires { 1 ≤ delivery.packet }
+    ensures delivers { IfOk result (λ did. Delivers S.state store.old store.new floor.old
+        delivery (did_of floor.new did)) }
+    ensures within { IfOk result (λ did. IfSome did (λ d. d.taken ≡ 0)) }
+{
+    let Some(packet) = floor.packet(delivery.packet) else {
+        return Ok(None);
+    };
+    let (machine, number) = (packet.machine, packet.number);
+    let message = Vec::from_slice(alloc, packet.message.as_slice())?;
+    match delivery.stop {
+        Stop::No => Ok(Some(answer(alloc, floor, store, machine, number, message)?)),
+        Stop::Before => Ok(Some(stop(alloc)?)),
+        Stop::After => {
+            let _ = serve(alloc, store, message)?;
+            Ok(Some(stop(alloc)?))
+        }
+    }
+}
+
+// A packet is served, and its reply kept.
+fn answer<S: JobStore>(
+    alloc: Global,
+    floor: &mut Floor,
+    store: &mut S,
+    machine: Name,
+    number: u64,
+    message: Vec<u8>,
+) -> Result<Did, AllocError>
+    ensures { IfOk result (λ did. (reply : List ℕ)
+        × Answers S.state store.old store.new message.items reply
+        × (did_view floor.new did ≡ delivered (record {
+          machine = machine;
+          number = number;
+          message = message.items;
+        }) reply floor.old)) }
+{
+    let reply = serve(alloc, store, message)?;
+    let kept = Bytes::from_vec(reply.to_vec(alloc)?);
+    let count = floor.keep(machine, number, kept)?;
+    let text = told(numbered(alloc, count)?, reply.as_slice())?;
+    Ok(Did {
+        taken: 0,
+        text,
+        stops: false,
+    })
+}
+
+// The server stops.
+fn stop(alloc: Global) -> Result<Did, AllocError>
+    ensures { IfOk result (λ did. (fl : FloorState) → did_view fl did ≡ stopped fl) }
+{
+    Ok(Did {
+        taken: 0,
+        text: text_line(alloc, b"stopped")?,
+        stops: true,
+    })
+}
+
+// Serves a message, and brings its whole reply.
+fn serve<S: JobStore>(alloc: Global, store: &mut S, message: Vec<u8>) -> Result<Vec<u8>, AllocError>
+    ensures { IfOk result (λ reply. Answers S.state store.old store.new message.items
+        reply.items) }
+{
+    let mut incoming = MemoryReader::new(message, usize::MAX);
+    let mut reply = Vec::new(alloc);
+    let served = serve_one(alloc, store, &mut incoming, &mut reply);
+    // A message here comes whole, and memory takes a reply unless it is refused.
+    if served.end != End::Answered {
+        return Err(AllocError);
+    }
+    Ok(reply)
+}
+
+// How a reply's line begins.
+fn numbered(alloc: Global, count: usize) -> Result<Vec<u8>, AllocError>
+    ensures { IfOk result (λ t. t.items ≡ reply_number count) }
+{
+    let mut number = Buffer::new();
+    let mut text = Vec::from_slice(alloc, b"reply ")?;
+    text.extend_from_slice(number.format(count).as_bytes())?;
+    text.push(b' ')?;
+    Ok(text)
+}
+
+// A text with a reply's status, a space and its body behind it, which ends the line.
+fn told(mut text: Vec<u8>, reply: &[u8]) -> Result<Vec<u8>, AllocError>
+    ensures { IfOk result (λ t. t.items ≡ text.items ++ reply_line reply.now) }
+{
+    put_line(&mut text, reply)?;
+    Ok(text)
+}
+
+// Adds the line that is printed for a reply.
+fn put_line(text: &mut Vec<u8>, reply: &[u8]) -> Result<(), AllocError>
+    ensures { OnOk result (text.new.items ≡ text.old.items ++ reply_line reply.now) }
+{
+    let (status, body) = reply_parts(reply);
+    text.extend_from_slice(status)?;
+    text.push(b' ')?;
+    text.extend_from_slice(body)?;
+    if !body.ends_with(b"\n") {
+        text.push(b'\n')?;
+    }
+    Ok(())
+}

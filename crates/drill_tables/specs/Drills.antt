@@ -1,0 +1,20 @@
+-- A drill over the tables of a database in memory.
+use Rattle.std.specs.Prelude.{◌≡◌, ◌⊎◌, ℕ, IsTrue, List, Option, Result, Err}
+use Rattle.std.specs.Io.KnownBytes.{Keeps}
+use Rattle.sqlite.specs.Held.{state}
+use Rattle.sqlite.specs.Steps.{over_memory}
+use Rattle.sqlite_trees.specs.declared.memory.MemStore.{MemStore}
+use Rattle.job_core.specs.Contents.{no_contents}
+use Rattle.job_core.specs.Store.{IsHonest}
+use Rattle.job_core.specs.declared.store.StoreFault.{StoreFault}
+use Rattle.schema.specs.Stores.{connection, stands_for}
+use Rattle.schema.specs.declared.store.SqlStore.{SqlStore}
+use Rattle.drill.specs.declared.stop.DrillStop.{DrillStop}
+use Rattle.drill.specs.Ends.{DrillsOver, unopened}
+
+-- no store could be made, or one that begins empty does the lines
+abbrev pub DrillEnds : Option (List ℕ) → Option (List ℕ) → Option (List ℕ) → Result (Unit {0}) DrillStop → Type 0
+DrillEnds known before after result =
+    ((fault : StoreFault) × (result ≡ Err (unopened fault)) × Keeps before after)
+    ⊎ ((s : SqlStore MemStore over_memory) × (IsHonest (stands_for over_memory s) → (stands_for over_memory s).holds no_contents)
+    × DrillsOver (stands_for over_memory) (λ store. IsTrue (state over_memory (connection store)).is_open) s known before after result)
