@@ -1,5 +1,5 @@
 -- A run whose text was printed into a buffer, which then goes out or doesn't.
-use Rattle.std.proofs.Common.{◌≡◌, ◌⊎◌, ℕ, List, [], Option, Result, Ok, Err, inl, inr, append-nil}
+use Rattle.std.proofs.Common.{◌≡◌, ◌⊎◌, ℕ, List, [], Option, Result, Ok, Err, inl, inr, refl, append-nil}
 use Rattle.std.specs.Io.KnownBytes.{Appends, Keeps}
 use Rattle.std.proofs.KnownBytes.{Appends-kept}
 use Rattle.store_data.specs.declared.row.Product.{Product}
@@ -64,10 +64,10 @@ lost state usable s fl count ls before mid after r runs written = record {
 never_unopened : (u : Unit {0}) (fault : StoreFault) → Ok u ≡ Err (unopened fault) → ⊥
 never_unopened u fault is = cc
 
-no_bad_line : (n : ℕ) (fault : StoreFault) → Err {A = Unit {0}} (drill.BadLine n) ≡ Err (unopened fault) → ⊥
-no_bad_line n fault.Memory is = cc
-no_bad_line n fault.Device is = cc
-no_bad_line n fault.Full is = cc
+no_bad_line : (r : Result (Unit {0}) DrillStop) (n : ℕ) (fault : StoreFault) → r ≡ Err (drill.BadLine n) → r ≡ Err (unopened fault) → ⊥
+no_bad_line r n fault.Memory is at = cc
+no_bad_line r n fault.Device is at = cc
+no_bad_line r n fault.Full is at = cc
 
 pub drill_flushed : (known before mid after : Option (List ℕ)) (end : End) (buffer : List ℕ)
     → DrillEnds known before mid (Ok tt) → Keeps mid after → Flushes Done end buffer → DrillRuns known before after end
@@ -79,7 +79,7 @@ drill_flushed known before mid after end buffer (inr (s, holds, (raw, told, runs
 
 pub bad_line_flushed : (n : ℕ) (known before mid after : Option (List ℕ)) (end : End) (buffer : List ℕ)
     → DrillEnds known before mid (Err (drill.BadLine n)) → Keeps mid after → Flushes (BadLine n) end buffer → DrillRuns known before after end
-bad_line_flushed n known before mid after end buffer (inl (fault, is, stays)) kept flushes = absurd (no_bad_line n fault is)
+bad_line_flushed n known before mid after end buffer (inl (fault, is, stays)) kept flushes = absurd (no_bad_line (Err (drill.BadLine n)) n fault refl is)
 bad_line_flushed n known before mid after end buffer (inr (s, holds, (raw, told, runs))) kept (inl done) =
     (Err (drill.BadLine n), done.0, inr (s, holds, (raw, told, rewritten _ _ s _ _ _ before mid after _ runs (Appends-kept before mid after _ runs.written kept))))
 bad_line_flushed n known before mid after end buffer (inr (s, holds, (raw, told, runs))) kept (inr failed) =
