@@ -4,8 +4,9 @@ making anew where the tables aren't our own; and the close, which copies the log
 and `PRAGMA foreign_key_check` by Python's sqlite3 on the same file in the same run. Linux alone.
 
 bench/adopt.sh builds the program of measure_adopt.txt and calls this with its path. A second word names the folder for the files, which
-are removed. The files are made by plain SQL, of sound contents in which all cards are good: in our own tables, where they stay as they
-are, and in those of version 1 in a mixed order, where they are made anew.
+are removed. The files are made by plain SQL, of sound contents in which all cards are good, or of one batch whose file is as long as it may
+be and of which no card was made yet: in our own tables, where they stay as they are, and in those of versions 1 and 2 in a mixed order, where
+they are made anew.
 
 Both take turns, and what is told is the median round: seconds of the processor, which other work on the machine moves least, and their
 ratios. Memory is the highest resident size so far, which is read while the program waits for its next step; so is the length of the log.
@@ -20,8 +21,9 @@ import sys
 import tempfile
 import time
 from collections import Counter
-from typing import NamedTuple
+from typing import Callable, NamedTuple
 
+from make_batch import coded
 from process import high_water
 
 sys.path.insert(0, str(pathlib.Path(__file__).resolve().parent / "audit"))
@@ -33,6 +35,8 @@ from sound_files import OURS, Shape, make  # noqa: E402
 
 MEASURE = sys.argv[1]
 CARDS = 1_024
+ROWS = 4_096
+MOST_FILE = 16_777_216
 MACHINES = 50
 GOOD = (0x9000, 0x9000)
 ROUNDS = 3
@@ -52,18 +56,34 @@ class Size(NamedTuple):
     replies: int
 
 
-SIZES = {"100,000 sessions": Size(98, 0), "90 MB": Size(196, 1)}
-SHAPES = {"our own tables": Shape(indices=OURS), "version 1, mixed": Shape(1, "mixed")}
+SHAPES = {"our own tables": Shape(indices=OURS), "version 1, mixed": Shape(1, "mixed"), "version 2, mixed": Shape(2, "mixed")}
 
 
-def contents(size: Size) -> Contents:
+def holding(batches: dict[str, bytes], sessions: list[Session], replies: list[Reply]) -> Contents:
+    files = {name: ("P1", raw) for name, raw in batches.items()}
+    return Contents({"P1": Product(255, 0, 0)}, [Lot("L1", "P1", 0, 1_000_000)], files, sessions, [], Counter(), set(), set(), replies, {})
+
+
+def all_good(size: Size) -> Contents:
     raw = "\n".join([HEADER, *(f"R{card},F00000000101,1,0,0,0101027000" for card in range(CARDS)), ""]).encode()
     count = size.batches * CARDS
     sessions = [Session(f"m{n % MACHINES}", f"B{n // CARDS}", f"R{n % CARDS}", n, GOOD) for n in range(count)]
-    lots = [Lot("L1", "P1", 0, 1_000_000)]
     replies = [Reply(f"m{n % MACHINES}", n // MACHINES + 1, ASK, 200, BODY) for n in range(count * size.replies)]
-    return Contents({"P1": Product(255, 0, 0)}, lots, {f"B{n}": ("P1", raw) for n in range(size.batches)}, sessions, [], Counter(), set(),
-                    set(), replies, {})
+    return holding({f"B{n}": raw for n in range(size.batches)}, sessions, replies)
+
+
+def long_file() -> Contents:
+    """A batch whose file is as long as it may be, filled up by empty lines."""
+    groupings = (coded(f"{0x9001 + row % 4:04X}", bytes([row % 256]) * 2_030) for row in range(ROWS))
+    lines = [HEADER, *(f"R{row // 4},F00000000101,1,0,0,{grouping}" for row, grouping in enumerate(groupings)), ""]
+    return holding({"B0": "\n".join(lines).encode().ljust(MOST_FILE, b"\n")}, [], [])
+
+
+FILES: dict[str, Callable[[], Contents]] = {
+    "100,000 sessions": lambda: all_good(Size(98, 0)),
+    "90 MB": lambda: all_good(Size(196, 1)),
+    "a batch of 16 MB": long_file,
+}
 
 
 # ---- ours
@@ -181,8 +201,8 @@ def main() -> None:
     columns = ("rows", "MiB", "open s", "take s", "close s", "tests s", "open/t", "take/t", "take/open", "open MiB", "take MiB", "log MiB")
     print(f"{'':36}" + "".join(f"{name:>9}" if len(name) < 9 else f" {name}" for name in columns), flush=True)
     with tempfile.TemporaryDirectory(dir=sys.argv[2] if len(sys.argv) > 2 else None) as folder:
-        for told, size in SIZES.items():
-            made = rows(contents(size))
+        for told, contents in FILES.items():
+            made = rows(contents())
             for shape_told, shape in SHAPES.items():
                 database = pathlib.Path(folder) / "file.db"
                 make(database, made, shape)
