@@ -1,7 +1,11 @@
 //! Tests of the store over tables: files that stop at each of their calls, refused
-//! memory, and tables of earlier versions.
+//! memory, damage, and tables of earlier versions.
 #![tactic(auto)]
 
+#[cfg(test)]
+mod carried;
+#[cfg(test)]
+mod damaged;
 #[cfg(test)]
 mod disks;
 #[cfg(test)]

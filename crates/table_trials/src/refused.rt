@@ -1,6 +1,6 @@
-//! Stories over tables in memory. Each test is right with ample memory, and says the same
-//! whichever one allocation is refused: a call tells its want of memory, leaves all as it was, and
-//! answers right when it comes again.
+//! Stories over lists, and over tables in memory. Each test is right with ample memory, and says
+//! the same whichever one allocation is refused: a call tells its want of memory, leaves all as it
+//! was, and answers right when it comes again.
 ghost use Rattle.job_core.specs.Requests.{IsArrival};
 
 use crate::exchanges::{Exchange, arrival, at_last, check_told, told};
@@ -9,6 +9,7 @@ use crate::stories::{
 };
 use arrivals::Kept;
 use job_core::{Arrival, JobStore, StoreFault};
+use list_store::ListStore;
 use schema::SqlStore;
 use sqlite::{Connection, MemStore};
 use std::alloc::Global;
@@ -117,8 +118,8 @@ pub(crate) fn tables(alloc: Global) -> Result<SqlStore<MemStore>, Fail> {
 }
 
 fn check(rt: &impl Abort, alloc: Global, story: &Story) -> Result<(), Fail> {
-    let mut store = tables(alloc)?;
-    check_over(rt, alloc, &mut store, story)
+    check_over(rt, alloc, &mut ListStore::new(alloc), story)?;
+    check_over(rt, alloc, &mut tables(alloc)?, story)
 }
 
 #[test]

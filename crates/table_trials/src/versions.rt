@@ -17,8 +17,8 @@ use std::test::Fail;
 
 // A version: the releases that its office asked for, and what turns our own tables into its.
 #[derive(Clone, Copy)]
-struct Version {
-    releases: &'static [Exchange],
+pub(crate) struct Version {
+    pub(crate) releases: &'static [Exchange],
     texts: &'static [&'static str],
 }
 
@@ -31,7 +31,7 @@ const GROUPING: &str = "CREATE TABLE grouping (batch INTEGER NOT NULL, line INTE
 const GROUPINGS: &str = "INSERT INTO grouping SELECT * FROM grouping2";
 
 // It knows two marks of encipherment, and no released numbers.
-const ONE: Version = Version {
+pub(crate) const ONE: Version = Version {
     releases: &[],
     texts: &[
         GROUPING,
@@ -46,7 +46,7 @@ const ONE: Version = Version {
 };
 
 // It knows released numbers.
-const TWO: Version = Version {
+pub(crate) const TWO: Version = Version {
     releases: &[RELEASE],
     texts: &[
         GROUPING,
@@ -73,7 +73,7 @@ struct Done {
 }
 
 // The rows of all tables, and those of the schema.
-fn all_rows<S: Alter>(alloc: Global, conn: &mut Connection<S>) -> Result<String, Error> {
+pub(crate) fn all_rows<S: Alter>(alloc: Global, conn: &mut Connection<S>) -> Result<String, Error> {
     let mut text = rows_of(alloc, conn)?;
     put_rows(alloc, conn, "sqlite_master", &mut text)?;
     Ok(text)
@@ -95,7 +95,7 @@ fn check_same(rt: &impl Abort, alloc: Global, found: &str, wanted: &str) -> Resu
 }
 
 // Exchanges are told to a store.
-fn tell<S: JobStore>(
+pub(crate) fn tell<S: JobStore>(
     rt: &impl Abort,
     alloc: Global,
     store: &mut S,
@@ -110,7 +110,7 @@ fn tell<S: JobStore>(
 
 // Tables of a version, from a store without facts that is told the set-up, the releases, and a card
 // that is spoiled and made again. Answers their rows in our own tables too.
-fn turned<S: Alter + Drop>(
+pub(crate) fn turned<S: Alter + Drop>(
     rt: &impl Abort,
     alloc: Global,
     version: &Version,

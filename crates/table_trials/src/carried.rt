@@ -1,0 +1,198 @@
+//! Files of earlier versions, taken up and served: what was told is told again, a refusal that was
+//! kept stays, a card more is made, and the batches are reported.
+use crate::disks::{Ended, Left, close, nothing, open};
+use crate::exchanges::Exchange;
+use crate::stops::{NO_STOP, adopted, created};
+use crate::stories::{MADE_AGAIN, NUMBER_RELEASED, SET_UP};
+use crate::versions::{ONE, TWO, Version, tell, turned};
+use job_core::JobStore;
+use reports::close_report;
+use sqlite::types::ValueRef;
+use sqlite::{Alter, Connection};
+use std::alloc::Global;
+use std::process::Abort;
+use std::test::Fail;
+use store_data::Name;
+
+const MIXED: &str = "record,aid,rank,enc,tol,dgi\nR1,F00000000101,1,2,0,9002021122\n";
+
+// The import was refused for its mark, which these versions don't know.
+const REFUSED: Exchange = Exchange(
+    "/c/office/6/batch/B2/P1",
+    MIXED,
+    409,
+    r#"{"code":35,"refused":"mark","row":2}"#,
+);
+
+// What is kept of it as its ask.
+const ASK: &[u8] = b"/batch/B2/P1\0record,aid,rank,enc,tol,dgi\nR1,F00000000101,1,2,0,9002021122\n";
+
+// The same import under a new number, and its card.
+const ANEW: [Exchange; 4] = [
+    Exchange(
+        "/c/office/7/batch/B2/P1",
+        MIXED,
+        200,
+        r#"{"batch":"B2","records":1,"result":"created","rows":1}"#,
+    ),
+    Exchange(
+        "/c/m1/7",
+        r#"{"do":"open","batch":"B2","blank":1002}"#,
+        200,
+        r#"{"batch":"B2","blank":1002,"command":"00A4040006F00000000101","index":0,"record":"R1","result":"command","session":3}"#,
+    ),
+    Exchange(
+        "/c/m1/8",
+        r#"{"do":"answer","session":3,"index":0,"sw":"9000"}"#,
+        200,
+        r#"{"command":"80E2A000059002021122","index":1,"result":"command","session":3}"#,
+    ),
+    Exchange(
+        "/c/m1/9",
+        r#"{"do":"answer","session":3,"index":1,"sw":"9000"}"#,
+        200,
+        r#"{"result":"good","session":3}"#,
+    ),
+];
+
+const REPORTS: [(&[u8], &str); 2] = [
+    (
+        b"B1",
+        "batch B1
+product P1
+state open
+record R1 good 2 1001
+records            1
+waiting            0
+running            0
+failed             0
+withdrawn          0
+good               1
+sessions           2
+spoiled            1
+",
+    ),
+    (
+        b"B2",
+        "batch B2
+product P1
+state open
+record R1 good 1 1002
+records            1
+waiting            0
+running            0
+failed             0
+withdrawn          0
+good               1
+sessions           1
+spoiled            0
+",
+    ),
+];
+
+// What is done to files.
+#[derive(Clone, Copy)]
+enum Part {
+    // Tables of a version are made in them.
+    Made,
+    // They are taken up, and served.
+    Served,
+}
+
+// A database of a version, in which the refusal is kept.
+fn made<S: Alter + Drop>(
+    rt: &impl Abort,
+    alloc: Global,
+    version: &Version,
+    conn: Connection<S>,
+) -> Result<Connection<S>, Fail> {
+    let store = created(alloc, conn).ok().ok_or("no tables are made")?;
+    let (_, mut conn) = turned(rt, alloc, version, store)?;
+    conn.execute(
+        "INSERT INTO reply (client, number, ask, status, body) VALUES ('office', 6, ?1, 409, ?2)",
+        &[ValueRef::Blob(ASK), ValueRef::Blob(REFUSED.3.as_bytes())],
+    )?;
+    Ok(conn)
+}
+
+// What the set-up is told again where its numbers were released, and where they weren't.
+fn set_up_again(version: &Version) -> [Exchange; 3] {
+    let mut again = SET_UP;
+    if !version.releases.is_empty() {
+        for exchange in again.iter_mut() {
+            *exchange = Exchange(exchange.0, exchange.1, 409, NUMBER_RELEASED);
+        }
+    }
+    again
+}
+
+// A store that was taken up from a database of a version serves as it did, and reports.
+fn check_served<S: JobStore>(
+    rt: &impl Abort,
+    alloc: Global,
+    version: &Version,
+    store: &mut S,
+) -> Result<(), Fail> {
+    tell(rt, alloc, store, &set_up_again(version))?;
+    tell(rt, alloc, store, version.releases)?;
+    tell(rt, alloc, store, MADE_AGAIN.exchanges)?;
+    tell(rt, alloc, store, &[REFUSED])?;
+    tell(rt, alloc, store, &ANEW)?;
+    tell(rt, alloc, store, &[REFUSED])?;
+    for (batch, report) in REPORTS {
+        let batch = Name::new(batch).ok_or("no name")?;
+        let mut text = Vec::new(alloc);
+        close_report(alloc, store, &batch, &mut text)?;
+        assert_eq!(rt; text.as_slice(), report.as_bytes());
+    }
+    Ok(())
+}
+
+fn served<S: Alter + Drop>(
+    rt: &impl Abort,
+    alloc: Global,
+    version: &Version,
+    conn: Connection<S>,
+) -> Result<Connection<S>, Fail> {
+    let mut store = adopted(alloc, conn)?;
+    check_served(rt, alloc, version, &mut store)?;
+    Ok(store.close())
+}
+
+// Opens files that hold this, does a part, and closes them.
+fn over_files(
+    rt: &impl Abort,
+    alloc: Global,
+    version: &Version,
+    part: Part,
+    left: &Left,
+) -> Result<Ended, Fail> {
+    match open(alloc, left, NO_STOP) {
+        Ok(conn) => {
+            let conn = match part {
+                Part::Made => made(rt, alloc, version, conn)?,
+                Part::Served => served(rt, alloc, version, conn)?,
+            };
+            Ok(close(alloc, conn)?)
+        }
+        Err(_) => Err(Fail::new("the files aren't opened")),
+    }
+}
+
+fn check(rt: &impl Abort, alloc: Global, version: &Version) -> Result<(), Fail> {
+    let made = over_files(rt, alloc, version, Part::Made, &nothing(alloc))?;
+    let files = made.lefts.first().ok_or("no files")?;
+    let served = over_files(rt, alloc, version, Part::Served, files)?;
+    assert!(rt; served.is_closed);
+    Ok(())
+}
+
+#[test]
+fn files_of_version_one_are_served_as_before(rt: HostRuntime) -> Result<(), Fail> {
+    check(&rt, rt.alloc(), &ONE)
+}
+
+#[test]
+fn files_of_version_two_are_served_as_before(rt: HostRuntime) -> Result<(), Fail> {
+    check(&rt, rt.alloc(), &TWO)
+}

@@ -1,0 +1,241 @@
+//! Databases that are refused, each a sound one with one thing changed: it stays as it is.
+use crate::exchanges::Exchange;
+use crate::refused::tables;
+use crate::stops::adopted;
+use crate::stories::{MADE_AGAIN, SET_UP};
+use crate::versions::{all_rows, tell};
+use schema::{OpenFault, SqlStore};
+use sqlite::{Alter, Connection};
+use std::alloc::Global;
+use std::process::Abort;
+use std::test::Fail;
+
+// What is changed, the statements that change it, and why the database is refused then.
+#[derive(Clone, Copy)]
+struct Damage(&'static str, &'static [&'static str], OpenFault);
+
+// Other tables.
+const NOT_OURS: [Damage; 4] = [
+    Damage(
+        "a table missing",
+        &["DROP TABLE remake"],
+        OpenFault::NotOurs,
+    ),
+    Damage(
+        "a table more",
+        &["CREATE TABLE note (id INTEGER NOT NULL PRIMARY KEY) STRICT"],
+        OpenFault::NotOurs,
+    ),
+    Damage(
+        "a column more",
+        &[
+            "DROP TABLE mark",
+            "CREATE TABLE mark (client TEXT NOT NULL PRIMARY KEY, upto INTEGER NOT NULL CHECK \
+            (upto BETWEEN 1 AND 999999999999999999), note TEXT NOT NULL) STRICT",
+        ],
+        OpenFault::NotOurs,
+    ),
+    Damage(
+        "another version",
+        &[
+            "DROP TABLE version",
+            "CREATE TABLE version (id INTEGER NOT NULL PRIMARY KEY CHECK (id = 1), number INTEGER \
+            NOT NULL CHECK (number = 4)) STRICT",
+            "INSERT INTO version (id, number) VALUES (1, 4)",
+        ],
+        OpenFault::NotOurs,
+    ),
+];
+
+// Rows that are those of no sound contents.
+const DAMAGED: [Damage; 15] = [
+    Damage(
+        "a session's state",
+        &["UPDATE session SET state = 0 WHERE id = 1"],
+        OpenFault::Damaged,
+    ),
+    Damage(
+        "a session's words",
+        &["UPDATE session SET words = 1 WHERE id = 1"],
+        OpenFault::Damaged,
+    ),
+    Damage(
+        "a cursor's application",
+        &["UPDATE session SET app = app + 1 WHERE id = 1"],
+        OpenFault::Damaged,
+    ),
+    Damage(
+        "a cursor's segment",
+        &["UPDATE session SET segment = segment + 1 WHERE id = 1"],
+        OpenFault::Damaged,
+    ),
+    Damage(
+        "a cursor's place in its segment",
+        &["UPDATE session SET at_offset = at_offset + 1 WHERE id = 1"],
+        OpenFault::Damaged,
+    ),
+    Damage(
+        "a cursor's block",
+        &["UPDATE session SET block = block + 1 WHERE id = 1"],
+        OpenFault::Damaged,
+    ),
+    Damage(
+        "a word missing",
+        &["DELETE FROM word WHERE session = 1 AND place = 1"],
+        OpenFault::Damaged,
+    ),
+    Damage(
+        "a blank row missing",
+        &["DELETE FROM blank WHERE serial = 1000"],
+        OpenFault::Damaged,
+    ),
+    Damage(
+        "a batch's counter one higher",
+        &["UPDATE batch SET spoiled = spoiled + 1 WHERE id = 1"],
+        OpenFault::Damaged,
+    ),
+    Damage(
+        "a lot's counter one higher",
+        &["UPDATE lot SET discarded = discarded + 1 WHERE name = 'L1'"],
+        OpenFault::Damaged,
+    ),
+    Damage(
+        "a grouping's coded form",
+        &["UPDATE grouping2 SET coded = X'0101027001' WHERE batch = 1"],
+        OpenFault::Damaged,
+    ),
+    Damage(
+        "overlapping lots",
+        &[
+            "INSERT INTO lot (name, product, low_serial, amount, discarded) \
+            VALUES ('L9', 'P1', 1002, 5, 0)",
+        ],
+        OpenFault::Damaged,
+    ),
+    Damage(
+        "a second running session of a machine",
+        &["UPDATE session SET machine = 'm1' WHERE id = 4"],
+        OpenFault::Damaged,
+    ),
+    Damage(
+        "a closed batch with a failed record",
+        &["UPDATE batch SET closed = 1 WHERE name = 'B3'"],
+        OpenFault::Damaged,
+    ),
+    Damage(
+        "a reply of status 500",
+        &["UPDATE reply SET status = 500 WHERE client = 'office' AND number = 1"],
+        OpenFault::Damaged,
+    ),
+];
+
+// Two machines that have a card each, and a batch whose only record failed.
+const FURTHER: [Exchange; 7] = [
+    Exchange(
+        "/c/office/6",
+        r#"{"do":"lot","lot":"L2","product":"P1","first":2000,"count":5}"#,
+        200,
+        r#"{"lot":"L2","result":"created"}"#,
+    ),
+    Exchange(
+        "/c/office/7/batch/B2/P1",
+        "record,aid,rank,enc,tol,dgi\n\
+        R1,F00000000101,1,0,0,0101027000\n\
+        R2,F00000000101,1,0,0,0101027000\n",
+        200,
+        r#"{"batch":"B2","records":2,"result":"created","rows":2}"#,
+    ),
+    Exchange(
+        "/c/m1/7",
+        r#"{"do":"open","batch":"B2","blank":2000}"#,
+        200,
+        r#"{"batch":"B2","blank":2000,"command":"00A4040006F00000000101","index":0,"record":"R1","result":"command","session":3}"#,
+    ),
+    Exchange(
+        "/c/m2/1",
+        r#"{"do":"open","batch":"B2","blank":2001}"#,
+        200,
+        r#"{"batch":"B2","blank":2001,"command":"00A4040006F00000000101","index":0,"record":"R2","result":"command","session":4}"#,
+    ),
+    Exchange(
+        "/c/office/8/batch/B3/P1",
+        "record,aid,rank,enc,tol,dgi\nR1,F00000000101,1,0,0,0101027000\n",
+        200,
+        r#"{"batch":"B3","records":1,"result":"created","rows":1}"#,
+    ),
+    Exchange(
+        "/c/m3/1",
+        r#"{"do":"open","batch":"B3","blank":2002}"#,
+        200,
+        r#"{"batch":"B3","blank":2002,"command":"00A4040006F00000000101","index":0,"record":"R1","result":"command","session":5}"#,
+    ),
+    Exchange(
+        "/c/m3/2",
+        r#"{"do":"abort","session":5}"#,
+        200,
+        r#"{"result":"spoiled","session":5}"#,
+    ),
+];
+
+// A sound database, from a store without facts.
+fn sound<S: Alter + Drop>(
+    rt: &impl Abort,
+    alloc: Global,
+    mut store: SqlStore<S>,
+) -> Result<Connection<S>, Fail> {
+    tell(rt, alloc, &mut store, &SET_UP)?;
+    tell(rt, alloc, &mut store, MADE_AGAIN.exchanges)?;
+    tell(rt, alloc, &mut store, &FURTHER)?;
+    Ok(store.close())
+}
+
+// A database that has this damage is refused, and its rows and its schema stay.
+fn check_refused<S: Alter + Drop>(
+    rt: &impl Abort,
+    alloc: Global,
+    damage: &Damage,
+    mut conn: Connection<S>,
+) -> Result<(), Fail> {
+    let Damage(name, texts, wanted) = *damage;
+    for text in texts {
+        assert_eq!(rt; conn.execute(text, &[]).err(), None, "{name}");
+    }
+    let rows = all_rows(alloc, &mut conn)?;
+    if !conn.is_autocommit() {
+        return Err(Fail::new("a transaction is open"));
+    }
+    match SqlStore::adopt(alloc, conn) {
+        Ok(_) => Err(Fail::new(format_args!("{name} is taken"))),
+        Err((mut conn, fault)) => {
+            assert_eq!(rt; fault, wanted, "{name}");
+            assert_eq!(rt; all_rows(alloc, &mut conn)?, rows, "{name}");
+            Ok(())
+        }
+    }
+}
+
+// The same of each of these.
+fn check_all(rt: &impl Abort, alloc: Global, damages: &[Damage]) -> Result<(), Fail> {
+    for damage in damages {
+        let conn = sound(rt, alloc, tables(alloc)?)?;
+        check_refused(rt, alloc, damage, conn)?;
+    }
+    Ok(())
+}
+
+#[test]
+fn a_database_without_damage_is_taken(rt: HostRuntime) -> Result<(), Fail> {
+    let conn = sound(&rt, rt.alloc(), tables(rt.alloc())?)?;
+    adopted(rt.alloc(), conn)?;
+    Ok(())
+}
+
+#[test]
+fn other_tables_are_not_ours(rt: HostRuntime) -> Result<(), Fail> {
+    check_all(&rt, rt.alloc(), &NOT_OURS)
+}
+
+#[test]
+fn other_rows_are_damage(rt: HostRuntime) -> Result<(), Fail> {
+    check_all(&rt, rt.alloc(), &DAMAGED)
+}
