@@ -118,7 +118,7 @@ fn made<S: Alter + Drop>(
 // What the set-up is told again where its numbers were released, and where they weren't.
 fn set_up_again(version: &Version) -> [Exchange; 3] {
     let mut again = SET_UP;
-    if !version.releases.is_empty() {
+    if !version.asked.is_empty() {
         for exchange in again.iter_mut() {
             *exchange = Exchange(exchange.0, exchange.1, 409, NUMBER_RELEASED);
         }
@@ -134,7 +134,7 @@ fn check_served<S: JobStore>(
     store: &mut S,
 ) -> Result<(), Fail> {
     tell(rt, alloc, store, &set_up_again(version))?;
-    tell(rt, alloc, store, version.releases)?;
+    tell(rt, alloc, store, version.asked)?;
     tell(rt, alloc, store, MADE_AGAIN.exchanges)?;
     tell(rt, alloc, store, &[REFUSED])?;
     tell(rt, alloc, store, &ANEW)?;

@@ -9,7 +9,7 @@ use std::alloc::Global;
 use std::io;
 
 /// What the log and the database hold.
-#[derive(Drop)]
+#[derive(Debug, PartialEq, Drop)]
 pub(crate) struct Left {
     log: Vec<u8>,
     db: Vec<u8>,

@@ -1,5 +1,5 @@
 //! Tables of earlier versions are adopted: files that stop at each call of their making anew, and
-//! refused memory.
+//! refused memory. Files of our own tables stay as they are.
 //!
 //! The rows and the schema of what is adopted are those of the same exchanges in our own tables.
 //! The tests over tables in memory say the same whichever one allocation is refused.
@@ -15,10 +15,10 @@ use std::alloc::{AllocError, Global};
 use std::process::Abort;
 use std::test::Fail;
 
-// A version: the releases that its office asked for, and what turns our own tables into its.
+// A version: what is asked behind the set-up, and what turns our own tables into its.
 #[derive(Clone, Copy)]
 pub(crate) struct Version {
-    pub(crate) releases: &'static [Exchange],
+    pub(crate) asked: &'static [Exchange],
     texts: &'static [&'static str],
 }
 
@@ -32,7 +32,7 @@ const GROUPINGS: &str = "INSERT INTO grouping SELECT * FROM grouping2";
 
 // It knows two marks of encipherment, and no released numbers.
 pub(crate) const ONE: Version = Version {
-    releases: &[],
+    asked: &[],
     texts: &[
         GROUPING,
         GROUPINGS,
@@ -47,7 +47,7 @@ pub(crate) const ONE: Version = Version {
 
 // It knows released numbers.
 pub(crate) const TWO: Version = Version {
-    releases: &[RELEASE],
+    asked: &[RELEASE],
     texts: &[
         GROUPING,
         GROUPINGS,
@@ -61,7 +61,22 @@ pub(crate) const TWO: Version = Version {
 
 // Our own.
 const THREE: Version = Version {
-    releases: &[RELEASE],
+    asked: &[RELEASE],
+    texts: &[],
+};
+
+// A product whose name comes before that of the set-up, so that in order of their names products
+// stand in another order than they were put in.
+const EARLIER_NAME: Exchange = Exchange(
+    "/c/other/1",
+    r#"{"do":"product","product":"P0","max":255,"low":0,"check":false}"#,
+    200,
+    r#"{"product":"P0","result":"created"}"#,
+);
+
+// Our own, with such products.
+const OUT_OF_ORDER: Version = Version {
+    asked: &[RELEASE, EARLIER_NAME],
     texts: &[],
 };
 
@@ -108,8 +123,8 @@ pub(crate) fn tell<S: JobStore>(
     Ok(())
 }
 
-// Tables of a version, from a store without facts that is told the set-up, the releases, and a card
-// that is spoiled and made again. Answers their rows in our own tables too.
+// Tables of a version, from a store without facts that is told the set-up, what is asked behind it,
+// and a card that is spoiled and made again. Answers their rows in our own tables too.
 pub(crate) fn turned<S: Alter + Drop>(
     rt: &impl Abort,
     alloc: Global,
@@ -117,7 +132,7 @@ pub(crate) fn turned<S: Alter + Drop>(
     mut store: SqlStore<S>,
 ) -> Result<(String, Connection<S>), Fail> {
     tell(rt, alloc, &mut store, &SET_UP)?;
-    tell(rt, alloc, &mut store, version.releases)?;
+    tell(rt, alloc, &mut store, version.asked)?;
     tell(rt, alloc, &mut store, MADE_AGAIN.exchanges)?;
     let mut conn = store.close();
     let rows = at_last!(all_rows(alloc, &mut conn))?;
@@ -211,6 +226,26 @@ fn has_met(
     Ok(stopped.rows.is_none() || !stopped.ended.is_closed)
 }
 
+// Opens files and closes them.
+fn reopened(alloc: Global, files: &Left) -> Result<Ended, Fail> {
+    match open(alloc, files, NO_STOP) {
+        Ok(conn) => Ok(close(alloc, conn)?),
+        Err(_) => Err(Fail::new("the files aren't opened")),
+    }
+}
+
+// Adopts files of a version, which have the same rows then. Answers whether each of their bytes is
+// as it is after an open and a close alone, so that nothing was written.
+fn stay(rt: &impl Abort, alloc: Global, version: &Version) -> Result<bool, Fail> {
+    let made = over_files(rt, alloc, Some(version), &nothing(alloc), NO_STOP)?;
+    let rows = made.rows.ok_or("no rows")?;
+    let files = made.ended.lefts.first().ok_or("no files")?;
+    let adopted = over_files(rt, alloc, None, files, NO_STOP)?;
+    let found = adopted.rows.ok_or("the files aren't adopted")?;
+    check_same(rt, alloc, found.as_str(), rows.as_str())?;
+    Ok(adopted.ended.lefts == reopened(alloc, files)?.lefts)
+}
+
 // A stop at each call of the log, or of the database, until files of a version meet none.
 fn check_stops(
     rt: &impl Abort,
@@ -275,6 +310,13 @@ fn a_stop_at_each_call_of_files_of_version_one(rt: HostRuntime) -> Result<(), Fa
 fn a_stop_at_each_call_of_files_of_version_two(rt: HostRuntime) -> Result<(), Fail> {
     check_stops(&rt, rt.alloc(), &TWO, true)?;
     check_stops(&rt, rt.alloc(), &TWO, false)
+}
+
+#[test]
+fn files_of_our_own_tables_stay_and_others_do_not(rt: HostRuntime) -> Result<(), Fail> {
+    assert!(&rt; stay(&rt, rt.alloc(), &OUT_OF_ORDER)?);
+    assert!(&rt; !stay(&rt, rt.alloc(), &ONE)?);
+    Ok(())
 }
 
 #[test]
