@@ -2,7 +2,7 @@
 # Builds the tests of `trials` and of `table_trials`, and refuses each of their allocations in turn, one in each run of a test. It fails
 # where a run fails, is killed, or takes over 60 seconds, and names those. A word given here picks the tests whose names have it:
 # bench/refused.sh memory:: picks those over lists, and bench/refused.sh refused:: those over both stores. Of the tests of `faults`, `readers`
-# and `writers`, which take far more than the others, it refuses some 2000 each, evenly spread. It leaves out those of files that stop at
+# and `writers`, some of which take far more than the others, it refuses at most some 2000 each, evenly spread. It leaves out those of files that stop at
 # each call or stay, of damaged tables and of earlier versions served, which fail where memory is refused.
 set -euo pipefail
 cd "$(dirname "$0")/.."
