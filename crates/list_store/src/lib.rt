@@ -3,6 +3,7 @@
 #![tactic(auto)]
 
 mod accounts;
+mod again;
 mod blanks;
 mod changes;
 mod cursors;

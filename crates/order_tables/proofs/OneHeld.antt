@@ -1,44 +1,21 @@
 -- A database holds the rows of one image alone, in any order.
-use Rattle.std.proofs.Common.{◌≡◌, ℕ, Bool, true, false, List, [], ◌∷◌, map, refl, sym, subst}
+use Rattle.std.proofs.Common.{◌≡◌, ℕ, Bool, true, false, List, [], map, refl, sym, subst}
 use Rattle.std.specs.List.Sorted.{IsPermutation}
-use Rattle.std.proofs.lemmas.List.Sorted.{IsPermutation-map, IsPermutation-refl, IsPermutation-sym, IsPermutation-trans}
+use Rattle.std.proofs.lemmas.List.Sorted.{IsPermutation-refl}
 use Rattle.sqlite.specs.Effect.{Database}
 use Rattle.sqlite.specs.Order.{Row}
 use Rattle.sqlite.specs.Table.{Table}
-use Rattle.store_data.specs.declared.row.Product.{Product}
 use Rattle.job_core.specs.Contents.{Mark}
-use Rattle.table_rows.specs.Tables.{HaveSameRows, StoredBatch, StoredBlank, StoredGrouping, StoredRecord, StoredSession, Tables}
+use Rattle.table_rows.specs.Tables.{HaveSameRows, Tables}
 use Rattle.sql_rows.specs.Decoding.{batch_of, blank_of, grouping_of, lot_of, mark_of, product_of, record_of, remake_of, reply_of, session_of, word_of}
 use Rattle.sql_rows.specs.Encoding.{batch_row, blank_row, grouping_row, lot_row, mark_row, product_row, record_row, remake_row, reply_row, session_row, word_row}
 use Rattle.sql_rows.specs.Image.{told}
-use Rattle.sql_rows.proofs.OneImage.{enc_back, flag_back, record_state_back, session_state_back}
+use Rattle.sql_rows.proofs.OneImage.{batch_back, blank_back, grouping_back, product_back, record_back, same_typed, session_back}
 use Rattle.sql_tables.specs.Tables.{batch_at, blank_at, lot_at, mark_at, product_at, record_at, remake_at, reply_at, session_at, word_at}
 use Rattle.sql_order.specs.declared.versions.Version.{Version}
 use Rattle.sql_order.specs.declared.versions.Version.TheVariants.{One, Two, Three}
 use Rattle.order_tables.specs.Holding.{Holds, HoldsMarks, HoldsRows, groupings_at}
 use Rattle.order_tables.proofs.OneVersion.{IsNumbered, one_number, one_version}
-
-product_back : (p : Product) → product_of (product_row p) ≡ p
-product_back p = rw (flag_back p.check) refl
-
-batch_back : (b : StoredBatch) → batch_of (batch_row b) ≡ b
-batch_back b = rw (flag_back b.closed) refl
-
-record_back : (r : StoredRecord) → record_of (record_row r) ≡ r
-record_back r = rw (record_state_back r.state) refl
-
-grouping_back : (g : StoredGrouping) → grouping_of (grouping_row g) ≡ g
-grouping_back g = rw (enc_back g.enc, flag_back g.tol) refl
-
-session_back : (s : StoredSession) → session_of (session_row s) ≡ s
-session_back s = rw (session_state_back s.state, flag_back s.ended) refl
-
-blank_back : (b : StoredBlank) → blank_of (blank_row b) ≡ b
-blank_back b = rw (flag_back b.discarded) refl
-
-decoded : {X : Type 0} (encode : X → Row) (decode : Row → X) → ((x : X) → decode (encode x) ≡ x) → (xs : List X) → map decode (map encode xs) ≡ xs
-decoded encode decode back [] = refl
-decoded encode decode back (x ∷ xs) = rw (back x, decoded encode decode back xs) refl
 
 -- a table holds one list of typed rows, in any order
 one_list : {X : Type 0} (table : ℕ → Table) (by_rowid : Bool) (encode : X → Row) (decode : Row → X) → IsNumbered table → ((x : X) → decode (encode x) ≡ x)
@@ -46,8 +23,7 @@ one_list : {X : Type 0} (table : ℕ → Table) (by_rowid : Bool) (encode : X �
 one_list table by_rowid encode decode is back db xs ys one two =
     let e = one_number db.schema table one.number two.number is one.finds two.finds in
     let there = subst (λ k. IsPermutation (map encode ys) (told by_rowid (db.trees k))) (sym e) two.rows_are in
-    subst (λ zs. IsPermutation zs ys) (decoded encode decode back xs) (subst (IsPermutation (map decode (map encode xs))) (decoded encode decode back ys)
-    (IsPermutation-map decode (map encode xs) (map encode ys) (IsPermutation-trans _ _ _ one.rows_are (IsPermutation-sym _ _ there))))
+    same_typed encode decode back xs ys _ one.rows_are there
 
 groupings_numbered : (v : Version) → IsNumbered (groupings_at v)
 groupings_numbered One = record { named = λ n m. refl; numbered = λ n. refl }

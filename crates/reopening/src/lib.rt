@@ -1,8 +1,6 @@
-//! A server that stops, and opens its store over again.
+//! What a store promises that is closed and opened over again.
 #![tactic(auto)]
 
-mod lists;
 mod reopen;
-mod tables;
 
 pub use reopen::Reopen;

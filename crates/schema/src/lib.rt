@@ -1,6 +1,7 @@
 //! The store over SQLite: its facts, kept replies and marks in the tables of one database.
 #![tactic(auto)]
 
+mod again;
 mod faults;
 mod keeping;
 pub mod opening;

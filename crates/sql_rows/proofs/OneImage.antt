@@ -37,22 +37,22 @@ enc_back enc.Plain = refl
 enc_back enc.All = refl
 enc_back enc.Mixed = refl
 
-product_back : (p : Product) → product_of (product_row p) ≡ p
+pub product_back : (p : Product) → product_of (product_row p) ≡ p
 product_back p = rw (flag_back p.check) refl
 
-batch_back : (b : StoredBatch) → batch_of (batch_row b) ≡ b
+pub batch_back : (b : StoredBatch) → batch_of (batch_row b) ≡ b
 batch_back b = rw (flag_back b.closed) refl
 
-record_back : (r : StoredRecord) → record_of (record_row r) ≡ r
+pub record_back : (r : StoredRecord) → record_of (record_row r) ≡ r
 record_back r = rw (record_state_back r.state) refl
 
-grouping_back : (g : StoredGrouping) → grouping_of (grouping_row g) ≡ g
+pub grouping_back : (g : StoredGrouping) → grouping_of (grouping_row g) ≡ g
 grouping_back g = rw (enc_back g.enc, flag_back g.tol) refl
 
-session_back : (s : StoredSession) → session_of (session_row s) ≡ s
+pub session_back : (s : StoredSession) → session_of (session_row s) ≡ s
 session_back s = rw (session_state_back s.state, flag_back s.ended) refl
 
-blank_back : (b : StoredBlank) → blank_of (blank_row b) ≡ b
+pub blank_back : (b : StoredBlank) → blank_of (blank_row b) ≡ b
 blank_back b = rw (flag_back b.discarded) refl
 
 module _ {X : Type 0} (encode : X → Row) (decode : Row → X) (back : (x : X) → decode (encode x) ≡ x) where
@@ -61,7 +61,7 @@ module _ {X : Type 0} (encode : X → Row) (decode : Row → X) (back : (x : X) 
   decoded (x ∷ xs) = rw (back x, decoded xs) refl
 
   -- two lists stand as the same rows
-  same_typed : (xs ys : List X) (rows : List Row) → IsPermutation (map encode xs) rows → IsPermutation (map encode ys) rows → IsPermutation xs ys
+  pub same_typed : (xs ys : List X) (rows : List Row) → IsPermutation (map encode xs) rows → IsPermutation (map encode ys) rows → IsPermutation xs ys
   same_typed xs ys rows one two =
       subst (λ zs. IsPermutation zs ys) (decoded xs) (subst (IsPermutation (map decode (map encode xs))) (decoded ys)
       (IsPermutation-map decode (map encode xs) (map encode ys) (IsPermutation-trans _ _ _ one (IsPermutation-sym _ _ two))))

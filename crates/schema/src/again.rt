@@ -1,8 +1,9 @@
 //! The tables of a database are closed, and adopted again.
-use crate::reopen::Reopen;
+use crate::opening::OpenFault;
+use crate::store::SqlStore;
 use job_core::StoreFault;
 use order_tables::our_rows_are_an_image;
-use schema::{OpenFault, SqlStore};
+use reopening::Reopen;
 use sqlite::Alter;
 use std::alloc::Global;
 

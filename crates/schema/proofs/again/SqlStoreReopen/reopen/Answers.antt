@@ -3,7 +3,7 @@ use Rattle.sqlite.specs.Held.{state}
 use Rattle.rows_of_facts.specs.Image.{image}
 use Rattle.sql_order.specs.declared.versions.Version.TheVariants.{Three}
 use Rattle.order_tables.specs.Holding.{HoldsRows}
-use Rattle.reopening.proofs.tables.SqlStoreReopen.reopen.Goals as goal
+use Rattle.schema.proofs.again.SqlStoreReopen.reopen.Goals as goal
 
 pub returns-in-Ok : goal.returns-in-Ok
 returns-in-Ok g c = λ shut clean d held.

@@ -1,7 +1,7 @@
 //! Lists have nothing to close.
-use crate::reopen::Reopen;
+use crate::store::ListStore;
 use job_core::StoreFault;
-use list_store::ListStore;
+use reopening::Reopen;
 use std::alloc::Global;
 
 impl Reopen for ListStore {
