@@ -1,11 +1,14 @@
 -- What a connection to our tables stands for.
-use Rattle.std.specs.Prelude.{◌≡◌, ℕ, IsErr, IsTrue, Option, None, Some, Result, Ok, Err}
+use Rattle.std.specs.Prelude.{◌≡◌, ℕ, IsTrue, Option, None, Some, Result, Ok, Err}
 use Rattle.sqlite.specs.Effect.{Database}
 use Rattle.sqlite.specs.State as sqlite
 use Rattle.sqlite.specs.Tree.{Trees}
 use Rattle.sqlite.specs.declared.error.Error.{Error}
+use Rattle.sqlite.specs.declared.error.Error.TheVariants.{SqliteFailure}
+use Rattle.sqlite.specs.declared.error.ErrorCode.TheVariants.{DiskFull, OutOfMemory}
 use Rattle.sqlite_trees.specs.View.{doubt}
 use Rattle.job_core.specs.declared.store.StoreFault.{StoreFault}
+use Rattle.job_core.specs.declared.store.StoreFault.TheVariants.{Device, Full, Memory}
 use Rattle.job_core.specs.Contents.{AreSound, Contents}
 use Rattle.job_core.specs.Store.{State}
 use Rattle.rows_of_facts.specs.Image.{image}
@@ -30,7 +33,13 @@ link s failed full = record {
   may_leave = λ d. (trees : Trees) × s.may_leave trees × Stands d trees;
 }
 
--- what went well is told as it is, and an error as a fault
+-- want of memory and of room are told as such, and any other error of the device
+abbrev pub fault_for : Error → StoreFault
+fault_for (SqliteFailure OutOfMemory) = Memory
+fault_for (SqliteFailure DiskFull) = Full
+fault_for _ = Device
+
+-- what went well is told as it is, and an error as its fault
 abbrev pub IsTold : {T : Type 0} → Result T Error → Result T StoreFault → Type 0
 IsTold (Ok answer) told = told ≡ Ok answer
-IsTold (Err error) told = IsErr told
+IsTold (Err error) told = told ≡ Err (fault_for error)

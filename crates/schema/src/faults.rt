@@ -1,7 +1,7 @@
 //! What a store says of an error, and how often it said so.
 ghost use Rattle.std.specs.Prelude.{◌≡◌};
 ghost use Rattle.job_core.specs.Store.{failed_after, full_after};
-ghost use Rattle.schema.specs.Link.{IsTold};
+ghost use Rattle.schema.specs.Link.{IsTold, fault_for};
 
 use job_core::StoreFault;
 use sqlite::{Error, ErrorCode};
@@ -14,7 +14,9 @@ pub(crate) struct Counts {
 }
 
 // Rows of sound contents are refused nothing, so what is no want of memory is told of the device.
-pub(crate) fn fault_of(error: Error) -> StoreFault {
+pub(crate) fn fault_of(error: Error) -> StoreFault
+    ensures { result ≡ fault_for error }
+{
     match error {
         Error::SqliteFailure(ErrorCode::OutOfMemory) => StoreFault::Memory,
         Error::SqliteFailure(ErrorCode::DiskFull) => StoreFault::Full,

@@ -11,7 +11,7 @@ ghost use Rattle.sql_order.specs.declared.versions.Version.{Version};
 ghost use Rattle.order_tables.specs.Holding.{HoldsRows, HoldsSoundRows, IsOfVersion};
 ghost use Rattle.adoption.specs.Adopts.{Adopts};
 ghost use Rattle.schema.specs.Begun.{LeavesNoOther, WasHeld};
-ghost use Rattle.schema.specs.Link.{link};
+ghost use Rattle.schema.specs.Link.{fault_for, link};
 ghost use Rattle.schema.specs.Stores.{connection, stands_for};
 
 use crate::faults::{Counts, fault_of};
@@ -39,6 +39,9 @@ pub enum OpenFault {
 fn told(fault: CreateFault) -> OpenFault
     ensures not_ours { result ≡ OpenFault.NotOurs → fault ≡ CreateFault.NotEmpty }
     ensures unread { result ≢ OpenFault.Damaged }
+    ensures full { fault ≡ CreateFault.NotEmpty → result ≡ OpenFault.NotOurs }
+    ensures own { (error : _) → fault ≡ CreateFault.Sqlite error
+        → result ≡ OpenFault.Store (fault_for error) }
 {
     match fault {
         CreateFault::NotEmpty => OpenFault::NotOurs,
@@ -51,6 +54,10 @@ fn told(fault: CreateFault) -> OpenFault
 fn refusal(fault: AdoptFault) -> OpenFault
     ensures not_ours { result ≡ OpenFault.NotOurs → fault ≡ AdoptFault.NotOurs }
     ensures damaged { result ≡ OpenFault.Damaged → fault ≡ AdoptFault.Damaged }
+    ensures theirs { fault ≡ AdoptFault.NotOurs → result ≡ OpenFault.NotOurs }
+    ensures unsound { fault ≡ AdoptFault.Damaged → result ≡ OpenFault.Damaged }
+    ensures own { (error : _) → fault ≡ AdoptFault.Sqlite error
+        → result ≡ OpenFault.Store (fault_for error) }
 {
     match fault {
         AdoptFault::NotOurs => OpenFault::NotOurs,
