@@ -44,9 +44,11 @@ fn reply_to<S: Alter>(
     port: &mut Loopback<'_, HostRuntime>,
     message: &[u8],
 ) -> io::Result<String> {
-    let mut peer = TcpStream::connect(rt, port.local_addr()?)?;
+    let place = port.local_addr()?;
+    let mut peer = TcpStream::connect(rt, place)?;
     peer.write_all(message)?;
-    if serve_over_tables(rt.alloc(), store, port, 1).is_err() {
+    let mut told = Vec::new(rt.alloc());
+    if serve_over_tables(rt.alloc(), store, port, &mut told, place.port(), 1).is_err() {
         return Err(ErrorKind::ConnectionRefused.into());
     }
     io::read_to_string(rt.alloc(), peer)

@@ -1,4 +1,8 @@
 //! A socket that listens on 127.0.0.1, and the connections that it takes.
+ghost use Rattle.std.specs.Prelude.{◌≡◌, IfOk, None};
+ghost use Rattle.std.specs.IoError.{error_kind};
+ghost use Rattle.loopback.specs.Faults.{fault_of};
+
 use crate::peer::{PeerReader, PeerWriter};
 use heads::ByteSource;
 use server::{Connections, NextFault, Served};
@@ -32,7 +36,9 @@ impl<'a, R: Net + Clock> Loopback<'a, R> {
     }
 
     // Takes the next connection, as its two ends.
-    fn take(&self) -> io::Result<(PeerReader<'a, R>, PeerWriter<'a, R>)> {
+    fn take(&self) -> io::Result<(PeerReader<'a, R>, PeerWriter<'a, R>)>
+        ensures { IfOk result (λ ends. ends.1.begun ≡ None) }
+    {
         let (stream, _) = self.listener.accept()?;
         let begun = Instant::now(self.rt)?;
         let replies = PeerWriter::new(self.rt, stream.try_clone()?);
@@ -41,7 +47,9 @@ impl<'a, R: Net + Clock> Loopback<'a, R> {
 }
 
 // What is told of an error once it came so often.
-fn fault_of(error: io::Error) -> NextFault {
+fn fault_of(error: io::Error) -> NextFault
+    ensures { result ≡ fault_of (error_kind error) }
+{
     match error.kind() {
         ErrorKind::OutOfMemory => NextFault::Memory,
         _ => NextFault::Device,

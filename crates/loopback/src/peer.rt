@@ -1,7 +1,8 @@
 //! The two ends of a connection: what brings its bytes, and what takes the reply's.
+ghost use Rattle.std.specs.Prelude.{◌≡◌, IfOk, IfSome};
 ghost use Rattle.std.specs.Io.{ReadsAtMost};
 
-use crate::clock::wait_now;
+use crate::clock::wait_at;
 use heads::ByteSource;
 use std::io::{self, Read, Write};
 use std::net::{Net, OpenStream, Shutdown};
@@ -17,15 +18,18 @@ pub struct PeerReader<'a, R: Net + Clock> {
 }
 
 impl<'a, R: Net + Clock> PeerReader<'a, R> {
-    pub(crate) fn new(rt: &'a R, stream: R::Stream, begun: Instant) -> PeerReader<'a, R> {
+    pub(crate) fn new(rt: &'a R, stream: R::Stream, begun: Instant) -> PeerReader<'a, R>
+        ensures { result.begun ≡ begun }
+    {
         PeerReader { rt, stream, begun }
     }
 
     // Reads, for as long as the peer has.
     fn read_in_time(&mut self, buf: &mut [u8]) -> io::Result<usize>
-        ensures { ReadsAtMost result buf.new }
+        ensures count { ReadsAtMost result buf.new }
+        ensures begun { self.new.begun ≡ self.old.begun }
     {
-        let wait = wait_now(self.rt, self.begun)?;
+        let wait = wait_at(self.begun, Instant::now(self.rt)?)?;
         self.stream.set_read_timeout(Some(wait))?;
         self.stream.read(buf)
     }
@@ -51,7 +55,9 @@ pub struct PeerWriter<'a, R: Net + Clock> {
 }
 
 impl<'a, R: Net + Clock> PeerWriter<'a, R> {
-    pub(crate) fn new(rt: &'a R, stream: R::Stream) -> PeerWriter<'a, R> {
+    pub(crate) fn new(rt: &'a R, stream: R::Stream) -> PeerWriter<'a, R>
+        ensures { result.begun ≡ None }
+    {
         let begun = None;
         PeerWriter { rt, stream, begun }
     }
@@ -62,7 +68,10 @@ impl<'a, R: Net + Clock> PeerWriter<'a, R> {
     }
 
     // When the reply was begun, which is now if it wasn't.
-    fn begun(&mut self) -> io::Result<Instant> {
+    fn begun(&mut self) -> io::Result<Instant>
+        ensures once { IfSome self.old.begun (λ begun. result ≡ Ok begun) }
+        ensures kept { IfOk result (λ begun. self.new.begun ≡ Some begun) }
+    {
         if let Some(begun) = self.begun {
             return Ok(begun);
         }
@@ -75,7 +84,7 @@ impl<'a, R: Net + Clock> PeerWriter<'a, R> {
 impl<R: Net + Clock> Write for PeerWriter<'_, R> {
     fn write(&mut self, buf: &[u8]) -> io::Result<usize> {
         let begun = self.begun()?;
-        let wait = wait_now(self.rt, begun)?;
+        let wait = wait_at(begun, Instant::now(self.rt)?)?;
         self.stream.set_write_timeout(Some(wait))?;
         self.stream.write(buf)
     }

@@ -11,7 +11,6 @@ use sqlite::Alter;
 use std::io;
 use store_data::Name;
 use store_files::StoreTask;
-use told_lines::{ServeStop, tell_listening, tell_served};
 
 /// Serves so many connections to a port of 127.0.0.1.
 #[derive(Drop)]
@@ -30,25 +29,19 @@ impl StoreTask for ServeTask<'_> {
             Ok(connections) => connections,
             Err(_) => return End::PortFailed,
         };
-        match serve(rt, store, &mut connections, port, turns) {
+        let mut writer = io::writer(rt);
+        match serve_over_tables(
+            rt.alloc(),
+            store,
+            &mut connections,
+            &mut writer,
+            port,
+            turns,
+        ) {
             Ok(()) => End::Done,
             Err(stop) => End::from(stop),
         }
     }
-}
-
-// Tells the port, serves, and tells how many were served.
-fn serve<S: Alter>(
-    rt: &HostRuntime,
-    store: &mut SqlStore<S>,
-    connections: &mut Loopback<'_, HostRuntime>,
-    port: u16,
-    turns: u32,
-) -> Result<(), ServeStop> {
-    let mut writer = io::writer(rt);
-    tell_listening(rt.alloc(), u32::from(port), &mut writer)?;
-    serve_over_tables(rt.alloc(), store, connections, u64::from(turns))?;
-    tell_served(rt.alloc(), turns, &mut writer)
 }
 
 /// Prints the report of a batch.
