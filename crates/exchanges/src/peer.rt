@@ -1,5 +1,5 @@
 //! A server at the other end of a connection.
-use crate::clock::left_now;
+use crate::clock::left_at;
 use std::io::{self, Read, Write};
 use std::net::{Net, OpenStream};
 use std::time::{Clock, Instant};
@@ -14,7 +14,7 @@ pub(crate) struct Peer<'a, R: Net + Clock> {
 
 impl<R: Net + Clock> Read for Peer<'_, R> {
     fn read(&mut self, buf: &mut [u8]) -> io::Result<usize> {
-        let left = left_now(self.rt, self.begun)?;
+        let left = left_at(self.begun, Instant::now(self.rt)?)?;
         self.stream.set_read_timeout(Some(left))?;
         self.stream.read(buf)
     }
@@ -22,7 +22,7 @@ impl<R: Net + Clock> Read for Peer<'_, R> {
 
 impl<R: Net + Clock> Write for Peer<'_, R> {
     fn write(&mut self, buf: &[u8]) -> io::Result<usize> {
-        let left = left_now(self.rt, self.begun)?;
+        let left = left_at(self.begun, Instant::now(self.rt)?)?;
         self.stream.set_write_timeout(Some(left))?;
         self.stream.write(buf)
     }

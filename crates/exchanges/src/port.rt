@@ -1,4 +1,6 @@
 //! Messages to a port of this machine.
+ghost use Rattle.std.specs.Prelude.{◌≡◌, ◌≢◌, ◌+◌, [], OnOk, min};
+
 use crate::clock::{MOST_TIME, pause_after};
 use crate::peer::Peer;
 use feeding::Exchange;
@@ -22,7 +24,11 @@ pub struct Port<'a, R: Net + Clock> {
 
 impl<'a, R: Net + Clock> Port<'a, R> {
     /// A port to which nothing was sent yet.
-    pub fn new(rt: &'a R, alloc: Global, port: u16) -> Port<'a, R> {
+    pub fn new(rt: &'a R, alloc: Global, port: u16) -> Port<'a, R>
+        ensures port { result.port ≡ port }
+        ensures none { result.last.items ≡ [] }
+        ensures first { result.sent ≡ 0 }
+    {
         Port {
             rt,
             alloc,
@@ -33,7 +39,13 @@ impl<'a, R: Net + Clock> Port<'a, R> {
     }
 
     // A message that comes again waits, each time for longer.
-    fn wait_for(&mut self, message: &[u8]) -> Result<(), AllocError> {
+    fn wait_for(&mut self, message: &[u8]) -> Result<(), AllocError>
+        ensures last { OnOk result (self.new.last.items ≡ message.now) }
+        ensures first { self.old.last.items ≢ message.now → OnOk result (self.new.sent ≡ 0) }
+        ensures again { self.old.last.items ≡ message.now
+            → self.new.sent ≡ min (self.old.sent + 1) u32.MAX }
+        ensures port { self.new.port ≡ self.old.port }
+    {
         if self.last.as_slice() == message {
             self.rt.sleep(pause_after(self.sent));
             self.sent = self.sent.saturating_add(1);

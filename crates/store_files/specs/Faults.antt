@@ -26,3 +26,8 @@ of_sqlite (SqliteFailure code.SystemIoFailure) = Storage
 of_sqlite (SqliteFailure code.DiskFull) = Storage
 of_sqlite (SqliteFailure code.Closed) = Storage
 of_sqlite _ = NotOurs
+
+-- the tables of a file that isn't closed were taken, so nothing is told of them any more
+abbrev pub of_close : Error → FileFault
+of_close (SqliteFailure code.OutOfMemory) = Memory
+of_close _ = Storage

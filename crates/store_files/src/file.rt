@@ -1,22 +1,13 @@
 //! The store in the file at a path.
-ghost use Rattle.std.specs.Prelude.{◌≡◌, false};
+ghost use Rattle.std.specs.Prelude.{◌≡◌};
+ghost use Rattle.store_files.specs.Faults.{of_close};
 
 use crate::fault::FileFault;
-use crate::opening::store_over;
+use crate::opening::{Wanted, store_over};
 use schema::SqlStore;
 use sqlite::{Alter, Connection, Error, ErrorCode};
 use sqlite_disk::Start;
-use std::alloc::Global;
 use std::fs;
-
-/// Which files are wanted.
-#[derive(Clone, Copy, Debug, PartialEq, Eq)]
-pub enum Wanted {
-    /// One that is missing or empty, which gets our tables, or one that has them.
-    Any,
-    /// One that has our tables.
-    Ours,
-}
 
 /// What is done with the store of a file.
 pub trait StoreTask {
@@ -40,14 +31,17 @@ pub fn with_store<T: StoreTask + Drop, S: Start>(
     if wanted == Wanted::Ours && is_missing(rt, path) {
         return Err(FileFault::NotOurs);
     }
-    match Connection::open_from(rt, path, false, start) {
-        Ok(conn) => {
-            let (done, conn) = perform_over(rt.alloc(), conn, wanted, task)?;
-            conn.close().map_err(unclosed)?;
-            Ok(done)
-        }
-        Err((error, _)) => Err(FileFault::from(error)),
-    }
+    let conn = match Connection::open_from(rt, path, false, start) {
+        Ok(conn) => conn,
+        Err((error, _)) => return Err(FileFault::from(error)),
+    };
+    let mut store = match store_over(rt.alloc(), conn, wanted) {
+        Ok(store) => store,
+        Err((_, fault)) => return Err(FileFault::from(fault)),
+    };
+    let done = task.perform(&mut store);
+    store.close().close().map_err(unclosed)?;
+    Ok(done)
 }
 
 // Whether no file has this path.
@@ -56,31 +50,11 @@ fn is_missing(rt: &HostRuntime, path: &str) -> bool {
 }
 
 // Why a file isn't closed: its tables were taken, so nothing is told of them any more.
-fn unclosed(error: Error) -> FileFault {
+fn unclosed(error: Error) -> FileFault
+    ensures { result ≡ of_close error }
+{
     match error {
         Error::SqliteFailure(ErrorCode::OutOfMemory) => FileFault::Memory,
         _ => FileFault::Storage,
-    }
-}
-
-// Does the task over the store of a database, and hands the connection back.
-fn perform_over<T: StoreTask + Drop, S: Alter + Drop>(
-    alloc: Global,
-    conn: Connection<S>,
-    wanted: Wanted,
-    task: T,
-) -> Result<(T::Done, Connection<S>), FileFault>
-    requires { conn.in_transaction ≡ false }
-{
-    let opened = match wanted {
-        Wanted::Any => store_over(alloc, conn),
-        Wanted::Ours => SqlStore::adopt(alloc, conn),
-    };
-    match opened {
-        Ok(mut store) => {
-            let done = task.perform(&mut store);
-            Ok((done, store.close()))
-        }
-        Err((_, fault)) => Err(FileFault::from(fault)),
     }
 }

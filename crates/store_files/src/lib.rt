@@ -6,5 +6,5 @@ mod file;
 mod opening;
 
 pub use fault::FileFault;
-pub use file::{StoreTask, Wanted, with_store};
-pub use opening::store_over;
+pub use file::{StoreTask, with_store};
+pub use opening::{Wanted, store_over};

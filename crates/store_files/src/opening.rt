@@ -1,42 +1,52 @@
 //! The store over a database that is opened.
-ghost use Rattle.std.specs.Prelude.{◌≡◌, ◌≢◌, false, IfErr, IfOk, IsTrue};
+ghost use Rattle.std.specs.Prelude.{◌≡◌, false, IfErr, IfOk, IsTrue};
 ghost use Rattle.sqlite.specs.Held.{state};
 ghost use Rattle.sqlite.specs.State.{HasCleanDisk};
 ghost use Rattle.job_core.specs.Contents.{AreSound, Contents, no_contents};
 ghost use Rattle.rows_of_facts.specs.Image.{image};
-ghost use Rattle.sql_base.specs.Columns.{no_schema};
 ghost use Rattle.sql_base.specs.Ends.{IsKept};
 ghost use Rattle.sql_order.specs.declared.versions.Version.{Version};
 ghost use Rattle.order_tables.specs.Holding.{HoldsRows, HoldsSoundRows, IsOfVersion};
 ghost use Rattle.schema.specs.Stores.{connection, stands_for};
+ghost use Rattle.store_files.specs.Opens.{Begins};
 
 use schema::{OpenFault, SqlStore};
 use sql_base::is_empty;
 use sqlite::{Alter, Connection};
 use std::alloc::Global;
 
-/// The store over a database: a new one where it is empty, and else the one whose rows it holds, in
-/// our tables of any version. Any other is refused and stays as it is, and its connection is handed
-/// back.
+/// Which databases are wanted.
+#[derive(Clone, Copy, Debug, PartialEq, Eq)]
+pub enum Wanted {
+    /// One that is empty, as a new file's is, which gets our tables, or one that has them.
+    Any,
+    /// One that has our tables.
+    Ours,
+}
+
+/// The store over a database: a new one where it is empty and may be, and else the one whose rows
+/// it holds, in our tables of any version. Any other is refused and stays as it is, and its
+/// connection is handed back.
 pub fn store_over<S: Alter>(
     alloc: Global,
     conn: Connection<S>,
+    wanted: Wanted,
 ) -> Result<SqlStore<S>, (Connection<S>, OpenFault)>
     requires { conn.in_transaction ≡ false }
     ensures begun { IfOk result (λ store. HasCleanDisk (state S.Store (connection store))
-        → (state S.Store conn).now.schema ≡ no_schema
+        → Begins wanted (state S.Store conn).now
         → (stands_for S.Store store).holds no_contents) }
     ensures taken { IfOk result (λ store. HasCleanDisk (state S.Store (connection store))
-        → (state S.Store conn).now.schema ≢ no_schema
+        → ¬ Begins wanted (state S.Store conn).now
         → (v : Version) × HoldsSoundRows v (state S.Store conn).now) }
     ensures holds { IfOk result (λ store. HasCleanDisk (state S.Store (connection store))
-        → (state S.Store conn).now.schema ≢ no_schema
+        → ¬ Begins wanted (state S.Store conn).now
         → (v : Version) (c : Contents) → AreSound c
         → HoldsRows v (image c) (state S.Store conn).now → (stands_for S.Store store).holds c) }
     ensures counts { IfOk result (λ store. ((stands_for S.Store store).failed ≡ 0)
         × ((stands_for S.Store store).full ≡ 0)) }
     ensures not_empty { IfErr result (λ e. e.1 ≡ OpenFault.NotOurs
-        → (state S.Store conn).now.schema ≢ no_schema) }
+        → ¬ Begins wanted (state S.Store conn).now) }
     ensures not_ours { IfErr result (λ e. HasCleanDisk (state S.Store e.0)
         → e.1 ≡ OpenFault.NotOurs → (v : Version) → ¬ IsOfVersion v (state S.Store conn).now) }
     ensures damaged { IfErr result (λ e. HasCleanDisk (state S.Store e.0)
@@ -48,9 +58,14 @@ pub fn store_over<S: Alter>(
         → IsKept (state S.Store conn) (state S.Store e.0)) }
     ensures idle { IfErr result (λ e. e.0.in_transaction ≡ false) }
 {
-    if is_empty(conn.schema()) {
-        SqlStore::create(alloc, conn)
-    } else {
-        SqlStore::adopt(alloc, conn)
+    match wanted {
+        Wanted::Any => {
+            if is_empty(conn.schema()) {
+                SqlStore::create(alloc, conn)
+            } else {
+                SqlStore::adopt(alloc, conn)
+            }
+        }
+        Wanted::Ours => SqlStore::adopt(alloc, conn),
     }
 }
