@@ -1,5 +1,5 @@
 //! Tests of the store over tables: files that stop at each of their calls, refused
-//! memory, damage, and tables of earlier versions.
+//! memory, damage, tables of earlier versions, and a file behind a socket.
 #![tactic(auto)]
 
 #[cfg(test)]
@@ -12,6 +12,8 @@ mod disks;
 mod exchanges;
 #[cfg(test)]
 mod refused;
+#[cfg(test)]
+mod served;
 #[cfg(test)]
 mod stops;
 #[cfg(test)]

@@ -100,7 +100,7 @@ pub(crate) const MADE_AGAIN: Story = Story {
     stock: &SET_UP,
     exchanges: &[
         OPENING,
-        Exchange("/c/m1/2", FIRST_WORD, 200, SECOND_COMMAND),
+        IN,
         Exchange(
             "/c/m1/3",
             r#"{"do":"answer","session":1,"index":1,"sw":"6A80"}"#,
