@@ -1,5 +1,5 @@
-//! Tests of the store over tables: files that stop at each of their calls, refused
-//! memory, damage, tables of earlier versions, and a file behind a socket.
+//! Tests of stores: devices that fail, are full or lie; refused memory, over lists and over tables;
+//! files that stop at each of their calls, damage, tables of earlier versions, and a file behind a socket.
 #![tactic(auto)]
 
 #[cfg(test)]
@@ -10,6 +10,8 @@ mod damaged;
 mod disks;
 #[cfg(test)]
 mod exchanges;
+#[cfg(test)]
+mod faults;
 #[cfg(test)]
 mod refused;
 #[cfg(test)]
