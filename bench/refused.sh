@@ -1,9 +1,9 @@
 #!/usr/bin/env bash
 # Builds the tests of `trials` and of `table_trials`, and refuses each of their allocations in turn, one in each run of a test. It fails
 # where a run fails, is killed, or takes over 60 seconds, and names those. A word given here picks the tests whose names have it:
-# bench/refused.sh memory:: picks those over lists, and bench/refused.sh refused:: those over both stores. Of the tests of `faults`, `readers`
-# and `writers`, some of which take far more than the others, it refuses at most some 2000 each, evenly spread. It leaves out those of files that stop at
-# each call or stay, of damaged tables and of earlier versions served, which fail where memory is refused.
+# bench/refused.sh memory:: picks those of single calls, and bench/refused.sh refused:: those over both stores. Of the tests of `faults`, `feeds`,
+# `readers` and `writers`, some of which take far more than the others, it refuses at most some 2000 each, evenly spread. It leaves out those of files
+# that stop at each call or stay, of damaged tables, of earlier versions served and of a file behind a socket, which fail where memory is refused.
 set -euo pipefail
 cd "$(dirname "$0")/.."
 folder=$(mktemp -d)
@@ -31,11 +31,11 @@ tests=0 total=0
 for crate in trials table_trials; do
     (cd "crates/$crate" && rt test)
     export PROGRAM=$PWD/crates/$crate/out/${crate}_tests
-    for test in $("$PROGRAM" --list | sed -n 's/: test$//p' | grep -v -e '::a_stop_at_each_call_' -e '::files_' -e '^damaged::' -e '^carried::' | grep -F -- "${1:-}"); do
+    for test in $("$PROGRAM" --list | sed -n 's/: test$//p' | grep -v -e '::a_stop_at_each_call_' -e '::files_' -e '^damaged::' -e '^carried::' -e '^served::' | grep -F -- "${1:-}"); do
         COUNT=$folder/count run "$test" 0 >/dev/null
         count=$(cat "$folder/count")
         step=1
-        case $test in faults::* | readers::* | writers::*) step=$((count / 2000 + 1)) ;; esac
+        case $test in faults::* | feeds::* | readers::* | writers::*) step=$((count / 2000 + 1)) ;; esac
         seq 1 "$step" "$count" | xargs -r -P "$(nproc)" -n 50 bash -c 'runs "$@"' runs "$test" >>"$folder/failed"
         count=$(seq 1 "$step" "$count" | wc -l)
         echo "$test: $count"

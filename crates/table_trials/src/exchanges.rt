@@ -5,11 +5,11 @@ ghost use Rattle.asks.specs.Asks.{IsInRange};
 
 use arrivals::Kept;
 use asks::{AskFault, Asked, to_ask};
-use case_files::post;
+use case_files::{JSON, post, reply_bytes};
 use heads::{FixedReply, Pieces, Reading, read_message};
 use job_core::{Arrival, JobStore, StoreFault};
 use reply_store::handle;
-use std::alloc::Global;
+use std::alloc::{AllocError, Global};
 use std::process::Abort;
 use std::test::Fail;
 
@@ -21,6 +21,20 @@ pub(crate) struct Exchange(
     pub(crate) u16,
     pub(crate) &'static str,
 );
+
+impl Exchange {
+    /// The message's bytes.
+    pub(crate) fn message(&self, alloc: Global) -> Result<Vec<u8>, AllocError> {
+        let Exchange(target, body, ..) = *self;
+        post(alloc, target, body.as_bytes())
+    }
+
+    /// The reply's bytes.
+    pub(crate) fn reply(&self, alloc: Global) -> Result<Vec<u8>, AllocError> {
+        let Exchange(_, _, status, body) = *self;
+        reply_bytes(alloc, status, JSON, None, body.as_bytes())
+    }
+}
 
 /// What a call answers, at once or when it comes again.
 macro_rules! at_last {
@@ -50,8 +64,7 @@ fn asked(alloc: Global, bytes: &[u8]) -> Result<Asked, AskFault>
 pub(crate) fn arrival(alloc: Global, exchange: &Exchange) -> Result<Arrival, Fail>
     ensures { IfOk result IsArrival }
 {
-    let Exchange(target, body, ..) = *exchange;
-    let bytes = at_last!(post(alloc, target, body.as_bytes()))?;
+    let bytes = at_last!(exchange.message(alloc))?;
     match at_last!(asked(alloc, bytes.as_slice()))? {
         Asked::Arrival(arrival) => Ok(arrival),
         Asked::Account(_) => Err(Fail::new("an account")),

@@ -1,5 +1,5 @@
-//! Tests of the store over tables: files that stop at each of their calls, refused
-//! memory, damage, and tables of earlier versions.
+//! Tests of stores: devices that fail, are full or lie; refused memory, over lists and over tables;
+//! files that stop at each of their calls, damage, tables of earlier versions, and a file behind a socket.
 #![tactic(auto)]
 
 #[cfg(test)]
@@ -11,7 +11,11 @@ mod disks;
 #[cfg(test)]
 mod exchanges;
 #[cfg(test)]
+mod faults;
+#[cfg(test)]
 mod refused;
+#[cfg(test)]
+mod served;
 #[cfg(test)]
 mod stops;
 #[cfg(test)]

@@ -100,7 +100,7 @@ pub(crate) const MADE_AGAIN: Story = Story {
     stock: &SET_UP,
     exchanges: &[
         OPENING,
-        Exchange("/c/m1/2", FIRST_WORD, 200, SECOND_COMMAND),
+        IN,
         Exchange(
             "/c/m1/3",
             r#"{"do":"answer","session":1,"index":1,"sw":"6A80"}"#,
@@ -241,12 +241,7 @@ pub(crate) const WORDS: Story = Story {
         ),
     ],
     exchanges: &[
-        Exchange(
-            "/c/m1/1",
-            r#"{"do":"open","batch":"B1","blank":1000}"#,
-            200,
-            r#"{"batch":"B1","blank":1000,"command":"00A4040006F00000000101","index":0,"record":"R1","result":"command","session":1}"#,
-        ),
+        OPENING,
         Exchange(
             "/c/m1/2",
             r#"{"do":"answer","session":1,"index":0,"sw":"6110"}"#,
@@ -267,7 +262,7 @@ pub(crate) const WORDS: Story = Story {
         ),
         Exchange(
             "/c/m1/5",
-            r#"{"do":"open","batch":"B1","blank":1001}"#,
+            OPEN_NEXT,
             200,
             r#"{"batch":"B1","blank":1001,"command":"00A4040006F00000000101","index":0,"record":"R2","result":"command","session":2}"#,
         ),
@@ -412,17 +407,20 @@ pub(crate) const RELEASE: Exchange = Exchange(
 /// What is told of one of these numbers then.
 pub(crate) const NUMBER_RELEASED: &str = r#"{"code":73,"mark":3,"refused":"number-released"}"#;
 
+/// One of these comes late.
+pub(crate) const LATE: Exchange = Exchange(
+    "/c/office/2",
+    r#"{"do":"lot","lot":"L1","product":"P1","first":1000,"count":3}"#,
+    409,
+    NUMBER_RELEASED,
+);
+
 /// Numbers that are released, in turn and out of it.
 pub(crate) const RELEASES: Story = Story {
     stock: &SET_UP,
     exchanges: &[
         RELEASE,
-        Exchange(
-            "/c/office/2",
-            r#"{"do":"lot","lot":"L1","product":"P1","first":1000,"count":3}"#,
-            409,
-            NUMBER_RELEASED,
-        ),
+        LATE,
         Exchange(
             "/c/office/21",
             r#"{"do":"release","upto":21}"#,

@@ -3,6 +3,7 @@ use batch_import::ImportFault;
 use command_line::WordsFault;
 use dgi::DgiFault;
 use drill::DrillStop;
+use feeding::FeedStop;
 use job_core::StoreFault;
 use plan_print::PlanStop;
 use reports::AccountFault;
@@ -67,6 +68,12 @@ impl MayWantMemory for NextFault {
 impl MayWantMemory for DrillStop {
     fn is_memory(&self) -> bool {
         *self == DrillStop::Memory
+    }
+}
+
+impl MayWantMemory for FeedStop {
+    fn is_memory(&self) -> bool {
+        *self == FeedStop::Memory
     }
 }
 

@@ -1,8 +1,5 @@
-//! Writers that fail, and connections that write to them. They take no memory, so that they fail where they are told to.
-use server::{Connections, NextFault, Served};
-use std::alloc::{AllocError, Global};
+//! A writer that fails. It takes no memory, so that it fails where it is told to.
 use std::io::{self, ErrorKind, Write};
-use wire::Pieces;
 
 /// Takes so many bytes in all, at most 512, and at most so many at a call; then a write fails. It may also fail to flush.
 #[derive(Clone, Copy)]
@@ -61,59 +58,5 @@ impl Write for Limited {
         } else {
             Err(io::Error::from(ErrorKind::BrokenPipe))
         }
-    }
-}
-
-/// Connections that bring these bytes in pieces of at most so many, each to a writer with so much room that takes one byte at a call.
-#[derive(Drop)]
-pub(crate) struct LimitedConnections<'a> {
-    most: usize,
-    inputs: &'a [(&'a [u8], usize)],
-    fault: NextFault,
-    /// What was written, and what became of each.
-    pub(crate) replies: Vec<(Limited, Served)>,
-}
-
-impl<'a> LimitedConnections<'a> {
-    /// These bytes, each with the room of its writer, and what is told where they are used up.
-    pub(crate) fn new(
-        alloc: Global,
-        inputs: &'a [(&'a [u8], usize)],
-        most: usize,
-        fault: NextFault,
-    ) -> Result<LimitedConnections<'a>, AllocError> {
-        Ok(LimitedConnections {
-            most,
-            inputs,
-            fault,
-            replies: Vec::with_capacity(alloc, inputs.len())?,
-        })
-    }
-}
-
-impl<'a> Connections for LimitedConnections<'a> {
-    ghost use Rattle.std.specs.Prelude.{None, ⊤};
-
-    type In = Pieces<'a>;
-
-    type Out = Limited;
-
-    // The tests look at what was written; the prover is told nothing.
-    ghost queue = { λ _. None };
-
-    ghost awaits = { λ _. ⊤ };
-
-    ghost refuses = { λ _ _. ⊤ };
-
-    fn next(&mut self) -> Result<(Pieces<'a>, Limited), NextFault> {
-        let Some((bytes, room)) = self.inputs.get(self.replies.len()) else {
-            return Err(self.fault);
-        };
-        Ok((Pieces::new(bytes, self.most), Limited::new(*room, 1)))
-    }
-
-    fn back(&mut self, _incoming: Pieces<'a>, writer: Limited, served: Served) {
-        // There is room for it.
-        let _ = self.replies.push((writer, served));
     }
 }

@@ -1,4 +1,4 @@
-//! Tests of what no file of worked examples can say: readers, writers and devices that fail, refused memory, and the program's words.
+//! Tests of what no file of worked examples can say: readers and writers that fail, refused memory, and the program's words.
 #![tactic(auto)]
 
 #[cfg(test)]
@@ -12,7 +12,7 @@ mod failing_readers;
 #[cfg(test)]
 mod failing_writers;
 #[cfg(test)]
-mod faults;
+mod feeds;
 #[cfg(test)]
 mod memory;
 #[cfg(test)]
@@ -20,11 +20,7 @@ mod programs;
 #[cfg(test)]
 mod readers;
 #[cfg(test)]
-mod rows;
-#[cfg(test)]
 mod serving;
-#[cfg(test)]
-mod stories;
 #[cfg(test)]
 mod words;
 #[cfg(test)]

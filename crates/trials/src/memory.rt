@@ -5,5 +5,4 @@ mod batches;
 mod exchanges;
 mod messages;
 mod serving;
-mod stores;
 mod words;

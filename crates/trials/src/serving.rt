@@ -1,55 +1,21 @@
 //! Connections that are used up, how connections end, and a drill's last line.
 use crate::again::{MayWantMemory, at_last};
-use crate::exchanges::{inputs, served};
-use crate::failing_writers::{Limited, LimitedConnections};
+use crate::exchanges::served;
+use crate::failing_writers::Limited;
 use drill::{DrillStop, drill_over_lists, serve_inputs};
 use list_store::ListStore;
-use server::{End, MemoryConnections, NextFault, Served, serve_all};
-use std::alloc::{AllocError, Global};
+use server::{End, NextFault, Served};
+use std::alloc::Global;
 use std::io::Cursor;
-use std::process::Abort;
 use std::test::Fail;
 
 const RESET: &[u8] = b"POST /c/m1/1 HTTP/1.1\r\nContent-Length: 14\r\n\r\n{\"do\":\"reset\"}";
 
-const TOLD: &[u8] =
-    b"HTTP/1.1 200 OK\r\nContent-Type: application/json\r\nContent-Length: 30\r\nConnection: close\r\n\r\n{\"result\":\"reset\",\"session\":0}";
-
-// How many of two turns are served where there is one connection, and the fault of the other.
-fn one_of_two(rt: &impl Abort, alloc: Global) -> Result<(usize, NextFault), NextFault> {
-    let inputs = inputs(alloc, &[RESET])?;
-    let mut connections = MemoryConnections::new(alloc, inputs, 7);
-    let mut store = ListStore::new(alloc);
-    let Err(fault) = serve_all(alloc, &mut store, &mut connections, 2) else {
-        assert!(rt; false, "two were served");
-        return Err(NextFault::Device);
-    };
-    match connections.replies() {
-        [one] if one.written.as_slice() == TOLD => Ok((1, fault)),
-        _ => Err(NextFault::Memory),
-    }
-}
-
-// What is told of this many turns where there is no connection, and this fault.
-fn ended(alloc: Global, fault: NextFault, turns: u64) -> Result<Result<(), NextFault>, AllocError> {
-    let mut connections = LimitedConnections::new(alloc, &[], 1, fault)?;
-    let mut store = ListStore::new(alloc);
-    Ok(serve_all(alloc, &mut store, &mut connections, turns))
-}
-
+// Where connections in memory are used up, that is told.
 #[test]
-fn the_fault_of_connections_is_told(rt: HostRuntime) -> Result<(), Fail> {
-    let alloc = rt.alloc();
-    for fault in [NextFault::Device, NextFault::Memory] {
-        assert_eq!(rt; at_last!(ended(alloc, fault, 1))?, Err(fault));
-        assert_eq!(rt; at_last!(ended(alloc, fault, 0))?, Ok(()));
-    }
-    // Where connections in memory are used up, what was served stands.
-    let told = at_last!(one_of_two(&rt, alloc));
-    assert_eq!(rt; told, Ok((1, NextFault::Device)));
-    let none = at_last!(serve_inputs(alloc, Vec::new(alloc), 1, 1));
+fn the_end_of_connections_is_told(rt: HostRuntime) {
+    let none = at_last!(serve_inputs(rt.alloc(), Vec::new(rt.alloc()), 1, 1));
     assert_eq!(rt; none.err(), Some(NextFault::Device));
-    Ok(())
 }
 
 #[test]
@@ -94,7 +60,6 @@ fn printed(alloc: Global, script: &str) -> Result<Limited, DrillStop> {
 #[test]
 fn a_last_line_needs_no_end(rt: HostRuntime) -> Result<(), Fail> {
     let table = [
-        ("", ""),
         (
             "office 1 {\"do\":\"reset\"}",
             "200 {\"result\":\"reset\",\"session\":0}\n",

@@ -3,10 +3,9 @@ ghost use Rattle.store_data.specs.Sequence.{IsProduct};
 
 use crate::again::{MayWantMemory, at_last};
 use crate::batches::{FILE, PRINTED, product};
-use crate::exchanges::{name, served, store_after, tell};
+use crate::exchanges::{REPORT, name, served, stocked};
 use crate::failing_writers::Limited;
 use crate::programs::program;
-use crate::stories::{CLOSING, SET_UP};
 use command_line::End as ProgramEnd;
 use drill::{DrillStop, drill_over_lists};
 use list_store::ListStore;
@@ -76,7 +75,7 @@ fn plan_of_limited(
 #[test]
 fn a_plan_has_its_beginning_where_a_writer_fails(rt: HostRuntime) -> Result<(), Fail> {
     let product = product(255, 0, false)?;
-    for room in [0, 1, 9, 10, 33, 100, PRINTED.len() - 1] {
+    for room in 0..PRINTED.len() {
         let end = at_last!(plan_of_limited(&rt, rt.alloc(), &product, room));
         assert_eq!(rt; end, Err(PlanStop::WriteFailed), "at {room}");
     }
@@ -101,20 +100,6 @@ fn a_failed_flush_is_a_failed_write(rt: HostRuntime) -> Result<(), Fail> {
     Ok(())
 }
 
-const REPORT: &str = "batch B1
-product P1
-state closed
-record R1 withdrawn 1 -
-records            1
-waiting            0
-running            0
-failed             0
-withdrawn          1
-good               0
-sessions           1
-spoiled            1
-";
-
 // How a report ends whose writer has so much room, and takes so many bytes a call.
 fn report_of_limited(
     rt: &impl Abort,
@@ -137,9 +122,8 @@ fn report_of_limited(
 #[test]
 fn a_report_has_its_beginning_where_a_writer_fails(rt: HostRuntime) -> Result<(), Fail> {
     let alloc = rt.alloc();
-    let mut store = store_after(&rt, alloc, &SET_UP)?;
-    tell(&rt, alloc, &mut store, CLOSING.exchanges)?;
-    for room in [0, 1, 8, 9, 19, 20, 33, 57, 100, REPORT.len() - 1] {
+    let mut store = stocked(alloc)?;
+    for room in 0..REPORT.len() {
         let end = report_of_limited(&rt, alloc, &mut store, room, 1)?;
         assert_eq!(rt; end, Err(AccountFault::Write), "at {room}");
     }
@@ -182,19 +166,7 @@ fn check_told_again(rt: &impl Abort, alloc: Global, room: usize, at_a_call: usiz
 
 #[test]
 fn a_failed_reply_is_told_again(rt: HostRuntime) {
-    for room in [
-        0,
-        1,
-        15,
-        16,
-        17,
-        50,
-        89,
-        90,
-        91,
-        CREATED.len() - 1,
-        CREATED.len(),
-    ] {
+    for room in 0..=CREATED.len() {
         check_told_again(&rt, rt.alloc(), room, 1 + room % 8);
     }
     check_told_again(&rt, rt.alloc(), CREATED.len(), 512);
@@ -237,7 +209,7 @@ fn drill_of_limited(rt: &impl Abort, alloc: Global, room: usize) -> Result<(), D
 // A failed write is told before a bad line.
 #[test]
 fn a_drill_has_its_beginning_where_a_writer_fails(rt: HostRuntime) {
-    for room in [0, 1, 20, 34, 35, 36, 50, TOLD.len() - 1] {
+    for room in 0..TOLD.len() {
         let end = at_last!(drill_of_limited(&rt, rt.alloc(), room));
         assert_eq!(rt; end, Err(DrillStop::WriteFailed), "at {room}");
     }

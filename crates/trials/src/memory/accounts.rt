@@ -1,10 +1,8 @@
 //! Accounts and reports.
 use crate::again::{MayWantMemory, at_last};
-use crate::exchanges::{blank_account, name, store_after};
+use crate::exchanges::{REPORT, name, stocked};
 use crate::failing_writers::Limited;
-use crate::stories::SET_UP;
 use job_core::Refusal;
-use list_store::ListStore;
 use reports::{AccountFault, batch_counts, blank_counts, close_report};
 use std::test::Fail;
 
@@ -14,29 +12,15 @@ const BATCH: &str =
 const BLANKS: &str =
     r#"{"charged":0,"discarded":0,"free":3,"good":0,"lots":1,"product":"P1","running":0,"spoiled":0,"total":3}"#;
 
-const REPORT: &str = "batch B1
-product P1
-state open
-record R1 waiting 0 -
-records            1
-waiting            1
-running            0
-failed             0
-withdrawn          0
-good               0
-sessions           0
-spoiled            0
-";
-
 // Where memory was refused nothing is written.
 #[test]
 fn accounts_are_told_after_refused_memory(rt: HostRuntime) -> Result<(), Fail> {
     let alloc = rt.alloc();
-    let mut store = store_after(&rt, alloc, &SET_UP)?;
-    let batch = name("B1")?;
+    let mut store = stocked(alloc)?;
+    let (batch, product) = (name("B1")?, name("P1")?);
     let told = at_last!(batch_counts(alloc, &mut store, &batch))?;
     assert_eq!(rt; told.as_slice(), BATCH.as_bytes());
-    let told = blank_account(alloc, &mut store)?;
+    let told = at_last!(blank_counts(alloc, &mut store, &product))?;
     assert_eq!(rt; told.as_slice(), BLANKS.as_bytes());
     let mut writer = Limited::new(512, 512);
     at_last!(close_report(alloc, &mut store, &batch, &mut writer))?;

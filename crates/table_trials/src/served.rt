@@ -1,12 +1,13 @@
 //! The store in a file, behind a socket that one thread serves and asks.
-use crate::exchanges::{CREATED, EXCHANGES, PRODUCT, REPORT};
+use crate::exchanges::Exchange;
+use crate::stories::{CLOSING, SET_UP};
 use loopback::Loopback;
 use reports::{AccountFault, close_report};
 use schema::SqlStore;
 use serving::serve_over_tables;
 use sqlite::Alter;
 use sqlite_disk::Unknown;
-use std::alloc::Global;
+use std::alloc::{AllocError, Global};
 use std::io::{self, ErrorKind, Write};
 use std::net::TcpStream;
 use std::process::{self, Abort};
@@ -14,6 +15,38 @@ use std::test::Fail;
 use std::{env, fs};
 use store_data::Name;
 use store_files::{FileFault, StoreTask, Wanted, with_store};
+
+// The first message, a product, byte for byte.
+const PRODUCT: &[u8] =
+    b"POST /c/office/1 HTTP/1.1\r\nHost: localhost\r\nContent-Length: 63\r\n\r\n{\"do\":\"product\",\"product\":\"P1\",\"max\":255,\"low\":0,\"check\":false}";
+
+// Its reply.
+const CREATED: &[u8] =
+    b"HTTP/1.1 200 OK\r\nContent-Type: application/json\r\nContent-Length: 35\r\nConnection: close\r\n\r\n{\"product\":\"P1\",\"result\":\"created\"}";
+
+// The batch's report at the end.
+const REPORT: &str = "batch B1
+product P1
+state closed
+record R1 withdrawn 1 -
+records            1
+waiting            0
+running            0
+failed             0
+withdrawn          1
+good               0
+sessions           1
+spoiled            1
+";
+
+// A batch whose only card is spoiled, and which is closed.
+fn exchanges(alloc: Global) -> Result<Vec<Exchange>, AllocError> {
+    let mut all = Vec::new(alloc);
+    for exchanges in [SET_UP.as_slice(), CLOSING.exchanges] {
+        all.extend_from_slice(exchanges)?;
+    }
+    Ok(all)
+}
 
 // Serves each message at a free port, one at a time, and keeps what comes back.
 #[derive(Drop)]
@@ -28,8 +61,7 @@ impl StoreTask for Asked<'_> {
         let rt = self.rt;
         let mut port = Loopback::listen(rt, 0)?;
         let mut replies = Vec::new(rt.alloc());
-        replies.push(reply_to(rt, store, &mut port, PRODUCT)?)?;
-        for exchange in EXCHANGES {
+        for exchange in exchanges(rt.alloc())?.as_slice() {
             let message = exchange.message(rt.alloc())?;
             replies.push(reply_to(rt, store, &mut port, message.as_slice())?)?;
         }
@@ -87,11 +119,13 @@ fn replies_of(rt: &HostRuntime, path: &str) -> Result<io::Result<Vec<String>>, F
 
 // Each reply is the one to its message.
 fn check_replies(rt: &impl Abort, alloc: Global, replies: &[String]) -> Result<(), Fail> {
-    assert_eq!(rt; replies.len(), 1 + EXCHANGES.len());
-    assert_eq!(rt; replies[0].as_bytes(), CREATED);
-    for (reply, exchange) in replies.iter().skip(1).zip(EXCHANGES) {
+    let exchanges = exchanges(alloc)?;
+    assert_eq!(rt; replies.len(), exchanges.len());
+    for (reply, exchange) in replies.iter().zip(exchanges.as_slice()) {
         assert_eq!(rt; reply.as_bytes(), exchange.reply(alloc)?.as_slice());
     }
+    assert_eq!(rt; SET_UP[0].message(alloc)?.as_slice(), PRODUCT);
+    assert_eq!(rt; SET_UP[0].reply(alloc)?.as_slice(), CREATED);
     Ok(())
 }
 

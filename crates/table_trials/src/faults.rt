@@ -2,9 +2,9 @@
 //!
 //! A run is a list of lines, each of which a client sends and is told: the set-up, a release of its numbers, a late repeat of one of
 //! these, a story, and the accounts.
-use crate::again::{MayWantMemory, at_last};
-use crate::exchanges::{Exchange, UNAVAILABLE, message};
-use crate::stories::{SET_UP, STORIES, Story};
+use crate::exchanges::at_last;
+use crate::stories::{CLOSING, LATE, MADE_AGAIN, RELEASE, SET_UP, Story, WITHDRAWAL};
+use case_files::{JSON, get, reply_bytes};
 use faulty_store::{Device, Fault, FaultyStore, Plan};
 use job_core::JobStore;
 use server::{End, MemoryConnections, NextFault, Replied, serve_all};
@@ -12,28 +12,37 @@ use std::alloc::{AllocError, Global};
 use std::process::Abort;
 use std::test::Fail;
 
-const NUMBER_RELEASED: &str = r#"{"code":73,"mark":3,"refused":"number-released"}"#;
+// What is told where the store failed, or memory was refused.
+const UNAVAILABLE: &[u8] =
+    b"HTTP/1.1 503 Service Unavailable\r\nContent-Type: application/json\r\nContent-Length: 32\r\nConnection: close\r\n\r\n{\"code\":503,\"refused\":\"storage\"}";
 
-// The office releases the numbers of the set-up, and one of these comes late.
-const RELEASES: [Exchange; 2] = [
-    Exchange(
-        "office/20",
-        r#"{"do":"release","upto":3}"#,
-        200,
-        r#"{"mark":3,"result":"released"}"#,
+// Stories, and the accounts of batch B1 and of the blanks of P1 at their ends.
+static STORIES: [(&Story, [&str; 2]); 3] = [
+    (
+        &MADE_AGAIN,
+        [
+            r#"{"batch":"B1","closed":false,"failed":0,"good":1,"product":"P1","records":1,"running":0,"sessions":2,"spoiled":1,"waiting":0,"withdrawn":0}"#,
+            r#"{"charged":2,"discarded":0,"free":1,"good":1,"lots":1,"product":"P1","running":0,"spoiled":1,"total":3}"#,
+        ],
     ),
-    Exchange(
-        "office/2",
-        r#"{"do":"lot","lot":"L1","product":"P1","first":1000,"count":3}"#,
-        409,
-        NUMBER_RELEASED,
+    (
+        &CLOSING,
+        [
+            r#"{"batch":"B1","closed":true,"failed":0,"good":0,"product":"P1","records":1,"running":0,"sessions":1,"spoiled":1,"waiting":0,"withdrawn":1}"#,
+            r#"{"charged":1,"discarded":0,"free":2,"good":0,"lots":1,"product":"P1","running":0,"spoiled":1,"total":3}"#,
+        ],
+    ),
+    (
+        &WITHDRAWAL,
+        [
+            r#"{"batch":"B1","closed":false,"failed":0,"good":0,"product":"P1","records":1,"running":0,"sessions":2,"spoiled":2,"waiting":0,"withdrawn":1}"#,
+            r#"{"charged":3,"discarded":1,"free":0,"good":0,"lots":1,"product":"P1","running":0,"spoiled":2,"total":3}"#,
+        ],
     ),
 ];
 
-const ACCOUNTS: [&[u8]; 2] = [
-    b"GET /batch/B1 HTTP/1.1\r\n\r\n",
-    b"GET /blanks/P1 HTTP/1.1\r\n\r\n",
-];
+// Where the accounts are told.
+const ACCOUNTS: [&str; 2] = ["/batch/B1", "/blanks/P1"];
 
 // More turns than a run takes.
 const MANY_TURNS: u64 = 1000;
@@ -52,36 +61,26 @@ struct Run {
     released: Vec<u8>,
 }
 
-fn run_of(alloc: Global, story: &Story) -> Result<Run, AllocError> {
+fn run_of(alloc: Global, story: &Story, accounts: &[&str; 2]) -> Result<Run, AllocError> {
     let mut lines = Vec::new(alloc);
-    for exchanges in [SET_UP.as_slice(), RELEASES.as_slice(), story.exchanges] {
+    for exchanges in [SET_UP.as_slice(), &[RELEASE, LATE], story.exchanges] {
         for exchange in exchanges {
-            let Exchange(_, _, status, body) = *exchange;
             lines.push(Line {
-                message: message(alloc, exchange)?,
-                reply: reply(alloc, status, body)?,
+                message: exchange.message(alloc)?,
+                reply: exchange.reply(alloc)?,
             })?;
         }
     }
-    for (asks, account) in ACCOUNTS.iter().zip(story.accounts.iter()) {
+    for (target, account) in ACCOUNTS.iter().zip(accounts.iter()) {
         lines.push(Line {
-            message: asks.to_vec(alloc)?,
-            reply: reply(alloc, 200, account)?,
+            message: get(alloc, target)?,
+            reply: reply_bytes(alloc, 200, JSON, None, account.as_bytes())?,
         })?;
     }
     Ok(Run {
         lines,
-        released: reply(alloc, 409, NUMBER_RELEASED)?,
+        released: LATE.reply(alloc)?,
     })
-}
-
-fn reply(alloc: Global, status: u16, body: &str) -> Result<Vec<u8>, AllocError> {
-    let reason = if status == 200 { "OK" } else { "Conflict" };
-    let size = body.len();
-    let text = format!(in alloc;
-        "HTTP/1.1 {status} {reason}\r\nContent-Type: application/json\r\nContent-Length: {size}\r\nConnection: close\r\n\r\n{body}"
-    )?;
-    Ok(text.into_bytes())
 }
 
 // What the line at this place is told, where so many lines had reached the device before it was sent.
@@ -260,8 +259,8 @@ fn check_fault(rt: &impl Abort, alloc: Global, run: &Run, plan: Plan) -> Result<
 
 // A fault in each turn of each story's run, until it strikes no more.
 fn check_turns(rt: &impl Abort, alloc: Global, fault: Fault) -> Result<(), Fail> {
-    for story in STORIES {
-        let run = at_last!(run_of(alloc, story))?;
+    for (story, accounts) in &STORIES {
+        let run = at_last!(run_of(alloc, story, accounts))?;
         let mut strikes = true;
         for turns in 0..MANY_TURNS {
             strikes = at_last!(check_fault(rt, alloc, &run, Plan { turns, fault }))?;

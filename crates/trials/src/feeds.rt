@@ -1,0 +1,155 @@
+//! Feeds over replies in memory: a reader or a writer that fails, and messages that are no replies to a machine.
+use crate::again::{MayWantMemory, at_last};
+use crate::exchanges::name;
+use crate::failing_readers::Broken;
+use crate::failing_writers::Limited;
+use feeding::{Exchange, FeedStop, feed_engine};
+use std::alloc::{AllocError, Global};
+use std::process::Abort;
+use std::test::Fail;
+use store_data::Name;
+
+// The replies to a machine that makes one card of two commands with boot 1.
+const REPLIES: [&[u8]; 5] = [
+    b"HTTP/1.1 200 OK\r\nContent-Type: application/json\r\nContent-Length: 37\r\nConnection: close\r\n\r\n{\"mark\":10000000,\"result\":\"released\"}",
+    b"HTTP/1.1 200 OK\r\nContent-Type: application/json\r\nContent-Length: 30\r\nConnection: close\r\n\r\n{\"result\":\"reset\",\"session\":0}",
+    b"HTTP/1.1 200 OK\r\nContent-Type: application/json\r\nContent-Length: 117\r\nConnection: close\r\n\r\n{\"batch\":\"B1\",\"blank\":1000,\"command\":\"00A4040006F00000000101\",\"index\":0,\"record\":\"R1\",\"result\":\"command\",\"session\":1}",
+    b"HTTP/1.1 200 OK\r\nContent-Type: application/json\r\nContent-Length: 75\r\nConnection: close\r\n\r\n{\"command\":\"80E28000050101027000\",\"index\":1,\"result\":\"command\",\"session\":1}",
+    b"HTTP/1.1 200 OK\r\nContent-Type: application/json\r\nContent-Length: 29\r\nConnection: close\r\n\r\n{\"result\":\"good\",\"session\":1}",
+];
+
+const PRINTED: &[u8] =
+    b"1000 00A4040006F00000000101 9000\n1000 80E28000050101027000 9000\n1000 good\n";
+
+const STORAGE: &[u8] =
+    b"HTTP/1.1 503 Service Unavailable\r\nContent-Type: application/json\r\nContent-Length: 32\r\nConnection: close\r\n\r\n{\"code\":503,\"refused\":\"storage\"}";
+
+const MALFORMED: &[u8] =
+    b"HTTP/1.1 400 Bad Request\r\nContent-Type: application/json\r\nContent-Length: 34\r\nConnection: close\r\n\r\n{\"code\":400,\"refused\":\"malformed\"}";
+
+// The card's line.
+const CARD: &[u8] = b"1000\n";
+
+// Gives these replies, one for each ask, and then none.
+#[derive(Drop)]
+struct Replies<'a> {
+    alloc: Global,
+    replies: &'a [&'a [u8]],
+    asked: usize,
+}
+
+impl Exchange for Replies<'_> {
+    ghost use Rattle.std.specs.Prelude.{None};
+
+    ghost log = { λ _. None };
+
+    fn exchange(&mut self, _message: &[u8]) -> Result<Option<Vec<u8>>, AllocError> {
+        let came = match self.replies.get(self.asked) {
+            Some(reply) => Some(Vec::from_slice(self.alloc, reply)?),
+            None => None,
+        };
+        self.asked = self.asked.saturating_add(1);
+        Ok(came)
+    }
+}
+
+// How a feed of one card ends to which these replies come, and whose writer has so much room and takes one byte a call; the beginning is
+// written where memory was not refused.
+fn feed_of_limited(
+    rt: &impl Abort,
+    alloc: Global,
+    machine: Name,
+    replies: &[&[u8]],
+    room: usize,
+) -> Result<(), FeedStop> {
+    let asked = 0;
+    let mut exchange = Replies {
+        alloc,
+        replies,
+        asked,
+    };
+    let mut input = CARD;
+    let mut writer = Limited::new(room, 1);
+    let end = feed_engine(
+        alloc,
+        machine,
+        1,
+        machine,
+        &mut input,
+        &mut writer,
+        &mut exchange,
+    );
+    if end != Err(FeedStop::Memory) {
+        let wanted = PRINTED.get(..room);
+        assert_eq!(rt; Some(writer.taken()), wanted, "at {room}");
+    }
+    end
+}
+
+#[test]
+fn a_feed_has_its_beginning_where_a_writer_fails(rt: HostRuntime) -> Result<(), Fail> {
+    let (alloc, machine) = (rt.alloc(), name("m1")?);
+    for room in 0..PRINTED.len() {
+        let end = at_last!(feed_of_limited(&rt, alloc, machine, &REPLIES, room));
+        assert_eq!(rt; end, Err(FeedStop::WriteFailed), "at {room}");
+    }
+    let end = at_last!(feed_of_limited(&rt, alloc, machine, &REPLIES, PRINTED.len()));
+    assert_eq!(rt; end, Ok(()));
+    Ok(())
+}
+
+#[test]
+fn a_storage_fault_and_a_malformed_message_are_no_replies(rt: HostRuntime) -> Result<(), Fail> {
+    let (alloc, machine) = (rt.alloc(), name("m1")?);
+    let [released, reset, open, answer, good] = REPLIES;
+    let replies = [
+        STORAGE, released, MALFORMED, reset, STORAGE, open, STORAGE, answer, MALFORMED, good,
+    ];
+    let end = at_last!(feed_of_limited(&rt, alloc, machine, &replies, PRINTED.len()));
+    assert_eq!(rt; end, Ok(()));
+    for count in [10, 11] {
+        let replies = [STORAGE; 11];
+        let end = at_last!(feed_of_limited(&rt, alloc, machine, &replies[..count], 0));
+        assert_eq!(rt; end, Err(FeedStop::NoReply));
+    }
+    Ok(())
+}
+
+// How a feed ends whose reader fails behind these bytes; nothing is asked then.
+fn feed_of_broken(
+    rt: &impl Abort,
+    alloc: Global,
+    machine: Name,
+    front: &[u8],
+) -> Result<(), FeedStop> {
+    let (replies, asked) = (REPLIES.as_slice(), 0);
+    let mut exchange = Replies {
+        alloc,
+        replies,
+        asked,
+    };
+    let mut writer = Limited::new(512, 512);
+    let mut reader = Broken(front);
+    let end = feed_engine(
+        alloc,
+        machine,
+        1,
+        machine,
+        &mut reader,
+        &mut writer,
+        &mut exchange,
+    );
+    assert_eq!(rt; exchange.asked, 0);
+    assert_eq!(rt; writer.taken(), b"".as_slice());
+    end
+}
+
+#[test]
+fn nothing_is_asked_where_a_reader_fails(rt: HostRuntime) -> Result<(), Fail> {
+    let machine = name("m1")?;
+    for size in 0..=CARD.len() {
+        let end = at_last!(feed_of_broken(&rt, rt.alloc(), machine, &CARD[..size]));
+        assert_eq!(rt; end, Err(FeedStop::ReadFailed), "at {size}");
+    }
+    Ok(())
+}
