@@ -17,6 +17,8 @@ mod refused;
 #[cfg(test)]
 mod served;
 #[cfg(test)]
+mod sockets;
+#[cfg(test)]
 mod stops;
 #[cfg(test)]
 mod stories;
