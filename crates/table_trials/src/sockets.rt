@@ -11,6 +11,7 @@ use std::test::Fail;
 use std::time::{Clock, Duration};
 
 // What its clock says, how often an accept still fails, and how, and the longest waits that were set.
+#[derive(Drop)]
 struct Floor {
     now: Cell<Duration>,
     fails: Cell<u32>,
@@ -40,7 +41,10 @@ impl Floor {
 #[derive(Clone, Copy)]
 struct Fake<'f>(&'f Floor);
 
-const PLACE: SocketAddr = SocketAddr::V4(SocketAddrV4::new(Ipv4Addr::LOCALHOST, 1));
+// Where each peer is.
+fn place() -> SocketAddr {
+    SocketAddr::V4(SocketAddrV4::new(Ipv4Addr::LOCALHOST, 1))
+}
 
 impl AsRawFd for Fake<'_> {
     fn as_raw_fd(&self) -> RawFd {
@@ -85,7 +89,7 @@ impl<'f> OpenListener for Fake<'f> {
         if left > 0 {
             Err(self.0.kind.into())
         } else {
-            Ok((*self, PLACE))
+            Ok((*self, place()))
         }
     }
 }
