@@ -1,43 +1,102 @@
-/* An allocator to be loaded before a program of tests: it refuses one allocation, and tells how many were asked for.
+/* An allocator to be loaded before a program of tests: it refuses each allocation in turn, in a child of its own that is made there and
+ * goes on to the end. A realloc that is refused leaves its block as it is.
  *
- * REFUSE is the number of the allocation that is refused, from 1; 0 refuses none. COUNT, if it is set, names a file that gets the
- * number of all allocations. A realloc that is refused leaves its block as it is.
+ * STEP: of that many allocations, one is refused; 1: each. JOBS: the children at once. REPORT: the file that gets a line for each child
+ * that fails, is killed or takes over 60 seconds, and then how many allocations were asked for, refused, and failed so. The program itself
+ * is refused nothing. It may have one thread, and no file or socket that a child would share.
  */
 #include <errno.h>
+#include <fcntl.h>
 #include <stdio.h>
 #include <stdlib.h>
+#include <sys/wait.h>
+#include <unistd.h>
 
 extern void *__libc_malloc(size_t size);
 extern void *__libc_realloc(void *block, size_t size);
 
-static unsigned long asked;
-static unsigned long refused;
+#define MOST_JOBS 64
+
+static struct {
+    pid_t child;
+    unsigned long number;
+} running[MOST_JOBS];
+
+static unsigned long step, jobs, asked, children, failed, at_work;
+static int report = -1;
+
+static unsigned long number_of(const char *name)
+{
+    const char *text = getenv(name);
+    return text ? strtoul(text, NULL, 10) : 0;
+}
+
+/* One child has ended: what failed is told. */
+static void await(void)
+{
+    int status;
+    pid_t child = wait(&status);
+    for (int slot = 0; slot < MOST_JOBS; slot++) {
+        if (child <= 0 || running[slot].child != child)
+            continue;
+        running[slot].child = 0;
+        at_work--;
+        if (status != 0) {
+            failed++;
+            dprintf(report, "allocation %lu: status %#x\n", running[slot].number, status);
+        }
+    }
+}
 
 __attribute__((constructor)) static void begin(void)
 {
-    const char *number = getenv("REFUSE");
-    refused = number ? strtoul(number, NULL, 10) : 0;
+    step = number_of("STEP");
+    jobs = number_of("JOBS");
+    if (jobs < 1 || jobs > MOST_JOBS)
+        jobs = 1;
+    report = step ? open(getenv("REPORT"), O_WRONLY | O_CREAT | O_TRUNC | O_CLOEXEC, 0600) : -1;
     asked = 0;
 }
 
 __attribute__((destructor)) static void end(void)
 {
-    const char *name = getenv("COUNT");
-    unsigned long count = asked;
-    FILE *file = name ? fopen(name, "w") : NULL;
-    if (file) {
-        fprintf(file, "%lu\n", count);
-        fclose(file);
-    }
+    if (report < 0)
+        return;
+    while (at_work > 0)
+        await();
+    dprintf(report, "%lu %lu %lu\n", asked, children, failed);
 }
 
+/* Whether this allocation is refused, which it is in the child alone. */
 static int is_refused(void)
 {
-    asked++;
-    if (asked != refused)
+    if (report < 0 || asked++ % step != 0)
         return 0;
-    errno = ENOMEM;
-    return 1;
+    while (at_work >= jobs)
+        await();
+    pid_t child = fork();
+    if (child == 0) {
+        close(report);
+        report = -1;
+        int nowhere = open("/dev/null", O_WRONLY);
+        dup2(nowhere, 1);
+        dup2(nowhere, 2);
+        alarm(60);
+        errno = ENOMEM;
+        return 1;
+    }
+    if (child < 0)
+        abort();
+    children++;
+    at_work++;
+    for (int slot = 0; slot < MOST_JOBS; slot++) {
+        if (running[slot].child == 0) {
+            running[slot].child = child;
+            running[slot].number = asked;
+            break;
+        }
+    }
+    return 0;
 }
 
 void *malloc(size_t size)

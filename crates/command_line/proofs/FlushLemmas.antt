@@ -1,5 +1,5 @@
 -- A run whose text was printed into a buffer, which then goes out or doesn't.
-use Rattle.std.proofs.Common.{◌≡◌, ◌⊎◌, ℕ, List, [], Option, Result, Ok, Err, inl, inr, refl, append-nil}
+use Rattle.std.proofs.Common.{◌≡◌, ◌⊎◌, ℕ, List, [], Option, Some, None, Result, Ok, Err, inl, inr, refl, subst, append-nil}
 use Rattle.std.specs.Io.KnownBytes.{Appends, Keeps}
 use Rattle.std.proofs.KnownBytes.{Appends-kept}
 use Rattle.store_data.specs.declared.row.Product.{Product}
@@ -11,7 +11,8 @@ use Rattle.job_core.specs.Store.{State}
 use Rattle.job_core.specs.declared.store.StoreFault.{StoreFault}
 use Rattle.job_core.specs.declared.store.StoreFault.TheVariants as fault
 use Rattle.shop_floor.specs.Floors.{Floor}
-use Rattle.drill.specs.Ends.{IsWritten, Runs, printed, unopened}
+use Rattle.drill.specs.Steps.{Did}
+use Rattle.drill.specs.Ends.{EndsAt, IsWritten, Runs, printed, unopened}
 use Rattle.drill.specs.declared.stop.DrillStop.{DrillStop}
 use Rattle.drill.specs.declared.stop.DrillStop.TheVariants as drill
 use Rattle.drill_tables.specs.Drills.{DrillEnds}
@@ -38,28 +39,39 @@ plan_flushed p known before mid after end buffer (raw, tells, (rows, few, is, wr
 
 -- so far as the lines went, with what was written after them
 rewritten : {S : Type 0} (state : S → State) (usable : S → Type 0) (s : S) (fl : Floor) (count : ℕ) (ls : List (List ℕ)) (before mid after : Option (List ℕ)) (r : Result (Unit {0}) DrillStop) (runs : Runs state usable s fl count ls before mid r)
-    → IsWritten before after (printed runs.did) r → Runs state usable s fl count ls before after r
+    → IsWritten before after (printed runs.did runs.ended_in) r → Runs state usable s fl count ls before after r
 rewritten state usable s fl count ls before mid after r runs written = record {
   did = runs.did;
   last = runs.last;
   floor = runs.floor;
   left = runs.left;
+  ended_in = runs.ended_in;
   done = runs.done;
   ends = runs.ends;
   written = written;
 }
 
 lost : {S : Type 0} (state : S → State) (usable : S → Type 0) (s : S) (fl : Floor) (count : ℕ) (ls : List (List ℕ)) (before mid after : Option (List ℕ)) (r : Result (Unit {0}) DrillStop) (runs : Runs state usable s fl count ls before mid r)
-    → AppendsBeginning before after (printed runs.did) → Runs state usable s fl count ls before after (Err drill.WriteFailed)
-lost state usable s fl count ls before mid after r runs written = record {
+    → runs.ended_in ≡ None → AppendsBeginning before after (printed runs.did runs.ended_in) → Runs state usable s fl count ls before after (Err drill.WriteFailed)
+lost state usable s fl count ls before mid after r runs went_on written = record {
   did = runs.did;
   last = runs.last;
   floor = runs.floor;
   left = runs.left;
+  ended_in = None;
   done = runs.done;
   ends = tt;
-  written = written;
+  written = subst (λ d. AppendsBeginning before after (printed runs.did d)) went_on written;
 }
+
+-- each line that was done went on
+done_went_on : {S : Type 0} (state : S → State) (s : S) (fl : Floor) (count : ℕ) (left : List (List ℕ)) (ended_in : Option Did) (u : Unit {0}) → EndsAt state s fl count left ended_in (Ok u) → ended_in ≡ None
+done_went_on state s fl count left None u ends = refl
+done_went_on state s fl count left (Some did) u ends = absurd ends
+
+bad_went_on : {S : Type 0} (state : S → State) (s : S) (fl : Floor) (count n : ℕ) (left : List (List ℕ)) (ended_in : Option Did) → EndsAt state s fl count left ended_in (Err (drill.BadLine n)) → ended_in ≡ None
+bad_went_on state s fl count n left None ends = refl
+bad_went_on state s fl count n left (Some did) ends = absurd ends
 
 never_unopened : (u : Unit {0}) (fault : StoreFault) → Ok u ≡ Err (unopened fault) → ⊥
 never_unopened u fault is = cc
@@ -75,7 +87,8 @@ drill_flushed known before mid after end buffer (inl (fault, is, stays)) kept fl
 drill_flushed known before mid after end buffer (inr (s, holds, (raw, told, runs))) kept (inl done) =
     (Ok tt, done.0, inr (s, holds, (raw, told, rewritten _ _ s _ _ _ before mid after _ runs (Appends-kept before mid after _ runs.written kept))))
 drill_flushed known before mid after end buffer (inr (s, holds, (raw, told, runs))) kept (inr failed) =
-    (Err drill.WriteFailed, failed, inr (s, holds, (raw, told, lost _ _ s _ _ _ before mid after _ runs (whole before mid after _ runs.written kept))))
+    (Err drill.WriteFailed, failed, inr (s, holds, (raw, told,
+        lost _ _ s _ _ _ before mid after _ runs (done_went_on _ runs.last runs.floor _ runs.left runs.ended_in tt runs.ends) (whole before mid after _ runs.written kept))))
 
 pub bad_line_flushed : (n : ℕ) (known before mid after : Option (List ℕ)) (end : End) (buffer : List ℕ)
     → DrillEnds known before mid (Err (drill.BadLine n)) → Keeps mid after → Flushes (BadLine n) end buffer → DrillRuns known before after end
@@ -83,4 +96,5 @@ bad_line_flushed n known before mid after end buffer (inl (fault, is, stays)) ke
 bad_line_flushed n known before mid after end buffer (inr (s, holds, (raw, told, runs))) kept (inl done) =
     (Err (drill.BadLine n), done.0, inr (s, holds, (raw, told, rewritten _ _ s _ _ _ before mid after _ runs (Appends-kept before mid after _ runs.written kept))))
 bad_line_flushed n known before mid after end buffer (inr (s, holds, (raw, told, runs))) kept (inr failed) =
-    (Err drill.WriteFailed, failed, inr (s, holds, (raw, told, lost _ _ s _ _ _ before mid after _ runs (whole before mid after _ runs.written kept))))
+    (Err drill.WriteFailed, failed, inr (s, holds, (raw, told,
+        lost _ _ s _ _ _ before mid after _ runs (bad_went_on _ runs.last runs.floor _ n runs.left runs.ended_in runs.ends) (whole before mid after _ runs.written kept))))

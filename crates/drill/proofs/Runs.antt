@@ -20,7 +20,7 @@ use Rattle.shop_floor.specs.Floors.{Floor, empty_floor}
 use Rattle.drill.specs.declared.stop.DrillStop.{DrillStop}
 use Rattle.drill.specs.declared.stop.DrillStop.TheVariants as stop
 use Rattle.drill.specs.Steps.{Did, Steps}
-use Rattle.drill.specs.Ends.{AreDone, Done, DrillsOver, EndsAt, Goes, GoesOn, HasStopped, IsWritten, Runs, RunsAll, printed, unopened, unread}
+use Rattle.drill.specs.Ends.{AreDone, Done, DrillsOver, EndsAt, Goes, GoesOn, IsWritten, Runs, RunsAll, printed, unopened, unread}
 use Rattle.drill.proofs.ScriptLemmas.{here, text_of}
 
 -- ---- lines behind lines
@@ -34,25 +34,18 @@ done_more state usable s fl [] (d ∷ ds) es m flm lm last floor left all next =
 done_more state usable s fl (l ∷ behind) (d ∷ ds) es m flm lm last floor left (did, goes, rest) next =
     (did, goes, done_more state usable d.store d.did.floor (drop d.did.taken behind) ds es m flm lm last floor left rest next)
 
-text_of_both : {S : Type 0} (ds es : List (Done S)) → printed (ds ++ es) ≡ printed ds ++ printed es
-text_of_both {S} ds es = flat_map-append (λ (d : Done S). d.did.text) ds es
+text_of_both : {S : Type 0} (ds es : List (Done S)) (ended_in : Option Did) → printed (ds ++ es) ended_in ≡ printed ds None ++ printed es ended_in
+text_of_both {S} ds es None = flat_map-append (λ (d : Done S). d.did.text) ds es
+text_of_both {S} ds es (Some last) =
+    ap (λ xs. xs ++ last.text) (flat_map-append (λ (d : Done S). d.did.text) ds es) ∙ append_assoc (printed ds None) (printed es None) last.text
 
 goes_more : {S : Type 0} (state : S → State) (usable : S → Type 0) (s : S) (fl : Floor) (ls : List (List ℕ)) (a b c : Option (List ℕ)) (m : S) (flm : Floor) (lm : List (List ℕ)) (last : S) (floor : Floor) (left : List (List ℕ))
     → Goes state usable s fl ls a b m flm lm → Goes state usable m flm lm b c last floor left → Goes state usable s fl ls a c last floor left
 goes_more state usable s fl ls a b c m flm lm last floor left (ds, all, wrote) (es, more, next) = (
   ds ++ es,
   done_more state usable s fl ls ds es m flm lm last floor left all more,
-  subst (Appends a c) (sym (text_of_both ds es)) (Appends-trans a b c (printed ds) (printed es) wrote next),
+  subst (Appends a c) (sym (text_of_both ds es None)) (Appends-trans a b c (printed ds None) (printed es None) wrote next),
 )
-
-ends_more : {S : Type 0} (state : S → State) (s : S) (fl : Floor) (count : ℕ) (ds es : List (Done S)) (left : List (List ℕ)) (r : Result (Unit {0}) DrillStop) → EndsAt state s fl count es left r
-    → EndsAt state s fl count (ds ++ es) left r
-ends_more state s fl count ds es left (Ok u) ends = ends
-ends_more state s fl count ds es left (Err (stop.BadLine n)) ends = ends
-ends_more state s fl count ds es left (Err stop.Storage) (before, last, is, stops) = (ds ++ before, last, ap (λ xs. ds ++ xs) is ∙ sym (append_assoc ds before (last ∷ [])), stops)
-ends_more state s fl count ds es left (Err stop.ReadFailed) ends = ends
-ends_more state s fl count ds es left (Err stop.WriteFailed) ends = ends
-ends_more state s fl count ds es left (Err stop.Memory) ends = ends
 
 written_more : (a b c : Option (List ℕ)) (before text : List ℕ) (r : Result (Unit {0}) DrillStop) → Appends a b before → IsWritten b c text r → IsWritten a c (before ++ text) r
 written_more a b c before text (Ok u) first next = Appends-trans a b c before text first next
@@ -70,9 +63,10 @@ runs_more state usable s fl count ls a b c m flm lm r (ds, all, wrote) run = rec
   last = run.last;
   floor = run.floor;
   left = run.left;
+  ended_in = run.ended_in;
   done = done_more state usable s fl ls ds run.did m flm lm run.last run.floor run.left all run.done;
-  ends = ends_more state run.last run.floor count ds run.did run.left r run.ends;
-  written = subst (λ t. IsWritten a c t r) (sym (text_of_both ds run.did)) (written_more a b c (printed ds) (printed run.did) r wrote run.written);
+  ends = run.ends;
+  written = subst (λ t. IsWritten a c t r) (sym (text_of_both ds run.did run.ended_in)) (written_more a b c (printed ds None) (printed run.did run.ended_in) r wrote run.written);
 }
 
 -- ---- the lines of a slice
@@ -113,10 +107,6 @@ line_last state usable s fl ls behind at number d a b c m flm r within of rest s
 abbrev pub one_done : {S : Type 0} → Did → S → S → Done S
 one_done did served store = record { did = did; served = served; store = store }
 
-stays : {S : Type 0} (state : S → State) (usable : S → Type 0) (s : S) (stops : Bool) → GoesOn state usable s s stops
-stays state usable s true = λ shut honest c held. held
-stays state usable s false = refl
-
 pub line_goes : {S : Type 0} (state : S → State) (usable : S → Type 0) (s served store : S) (fl : Floor) (l : List ℕ) (behind : List (List ℕ)) (did : Did) (a b : Option (List ℕ))
     → Steps state s served fl l behind (Some did) → GoesOn state usable served store did.stops → Appends a b did.text → Goes state usable s fl (l ∷ behind) a b store did.floor (drop did.taken behind)
 line_goes state usable s served store fl l behind did a b step goes wrote =
@@ -124,7 +114,7 @@ line_goes state usable s served store fl l behind did a b step goes wrote =
 
 -- memory was refused before anything was printed
 pub line_unmade : {S : Type 0} (state : S → State) (usable : S → Type 0) (s : S) (fl : Floor) (count : ℕ) (ls : List (List ℕ)) (a : Option (List ℕ)) → Runs state usable s fl count ls a a (Err stop.Memory)
-line_unmade state usable s fl count ls a = record { did = []; last = s; floor = fl; left = ls; done = (refl, refl, refl); ends = tt; written = Appends-nil a }
+line_unmade state usable s fl count ls a = record { did = []; last = s; floor = fl; left = ls; ended_in = None; done = (refl, refl, refl); ends = tt; written = Appends-nil a }
 
 pub line_bad : {S : Type 0} (state : S → State) (usable : S → Type 0) (s after : S) (fl : Floor) (number : ℕ) (l : List ℕ) (behind : List (Bor (List ℕ))) (a : Option (List ℕ))
     → Steps state s after fl l (map text_of behind) None → Runs state usable s fl (number + length behind) (l ∷ map text_of behind) a a (Err (stop.BadLine number))
@@ -133,6 +123,7 @@ line_bad state usable s after fl number l behind a step = record {
   last = s;
   floor = fl;
   left = l ∷ map text_of behind;
+  ended_in = None;
   done = (refl, refl, refl);
   ends = (after, step, omega (arith, length-map behind text_of));
   written = Appends-nil a;
@@ -140,46 +131,18 @@ line_bad state usable s after fl number l behind a step = record {
 
 pub line_unwritten : {S : Type 0} (state : S → State) (usable : S → Type 0) (s served : S) (fl : Floor) (count : ℕ) (l : List ℕ) (behind : List (List ℕ)) (did : Did) (a b : Option (List ℕ))
     → Steps state s served fl l behind (Some did) → AppendsBeginning a b did.text → Runs state usable s fl count (l ∷ behind) a b (Err stop.WriteFailed)
-line_unwritten state usable s served fl count l behind did a b step wrote = record {
-  did = one_done did served served ∷ [];
-  last = served;
-  floor = did.floor;
-  left = drop did.taken behind;
-  done = (step, stays state usable served did.stops, (refl, refl, refl));
-  ends = tt;
-  written = subst (AppendsBeginning a b) (sym (append-nil did.text)) wrote;
-}
+line_unwritten state usable s served fl count l behind did a b step wrote =
+    record { did = []; last = s; floor = fl; left = l ∷ behind; ended_in = Some did; done = (refl, refl, refl); ends = (served, step); written = wrote }
 
 -- the store does not open over again
 pub line_unopened : {S : Type 0} (state : S → State) (usable : S → Type 0) (s served : S) (fl : Floor) (count : ℕ) (l : List ℕ) (behind : List (List ℕ)) (did : Did) (a b : Option (List ℕ)) (why : StoreFault)
     → Steps state s served fl l behind (Some did) → Appends a b did.text → did.stops ≡ true → Runs state usable s fl count (l ∷ behind) a b (Err (unopened why))
-line_unopened state usable s served fl count l behind did a b fault.Memory step wrote stops = record {
-  did = one_done did served served ∷ [];
-  last = served;
-  floor = did.floor;
-  left = drop did.taken behind;
-  done = (step, stays state usable served did.stops, (refl, refl, refl));
-  ends = tt;
-  written = subst (Appends a b) (sym (append-nil did.text)) wrote;
-}
-line_unopened state usable s served fl count l behind did a b fault.Device step wrote stops = record {
-  did = one_done did served served ∷ [];
-  last = served;
-  floor = did.floor;
-  left = drop did.taken behind;
-  done = (step, stays state usable served did.stops, (refl, refl, refl));
-  ends = ([], one_done did served served, refl, stops);
-  written = subst (Appends a b) (sym (append-nil did.text)) wrote;
-}
-line_unopened state usable s served fl count l behind did a b fault.Full step wrote stops = record {
-  did = one_done did served served ∷ [];
-  last = served;
-  floor = did.floor;
-  left = drop did.taken behind;
-  done = (step, stays state usable served did.stops, (refl, refl, refl));
-  ends = ([], one_done did served served, refl, stops);
-  written = subst (Appends a b) (sym (append-nil did.text)) wrote;
-}
+line_unopened state usable s served fl count l behind did a b fault.Memory step wrote stops =
+    record { did = []; last = s; floor = fl; left = l ∷ behind; ended_in = Some did; done = (refl, refl, refl); ends = ((served, step), stops); written = wrote }
+line_unopened state usable s served fl count l behind did a b fault.Device step wrote stops =
+    record { did = []; last = s; floor = fl; left = l ∷ behind; ended_in = Some did; done = (refl, refl, refl); ends = ((served, step), stops); written = wrote }
+line_unopened state usable s served fl count l behind did a b fault.Full step wrote stops =
+    record { did = []; last = s; floor = fl; left = l ∷ behind; ended_in = Some did; done = (refl, refl, refl); ends = ((served, step), stops); written = wrote }
 
 -- ---- a script
 
@@ -187,11 +150,15 @@ tells_some : (known : Option (List ℕ)) → Tells known (unwrap_or known [])
 tells_some None = tt
 tells_some (Some all) = refl
 
+never_unread : {S : Type 0} (state : S → State) (s : S) (fl : Floor) (count : ℕ) (left : List (List ℕ)) (ended_in : Option Did) → EndsAt state s fl count left ended_in (Err stop.ReadFailed) → ⊥
+never_unread state s fl count left None ends = ends
+never_unread state s fl count left (Some did) ends = ends
+
 pub all_run : {S : Type 0} (state : S → State) (usable : S → Type 0) (s : S) (known a b : Option (List ℕ)) (r : Result (Unit {0}) DrillStop) → RunsAll state usable s known a b r → DrillsOver state usable s known a b r
 all_run state usable s known a b (Ok u) run = run
 all_run state usable s known a b (Err (stop.BadLine n)) run = run
 all_run state usable s known a b (Err stop.Storage) run = run
-all_run state usable s known a b (Err stop.ReadFailed) (raw, told, run) = absurd run.ends
+all_run state usable s known a b (Err stop.ReadFailed) (raw, told, run) = absurd (never_unread state run.last run.floor _ run.left run.ended_in run.ends)
 all_run state usable s known a b (Err stop.WriteFailed) run = run
 all_run state usable s known a b (Err stop.Memory) run = run
 

@@ -14,7 +14,7 @@ use Rattle.line_words.specs.Lines.{lines}
 use Rattle.shop_floor.specs.Floors.{Floor, empty_floor}
 use Rattle.drill.specs.declared.stop.DrillStop.{DrillStop}
 use Rattle.drill.specs.declared.stop.DrillStop.TheVariants as stop
-use Rattle.reopening.specs.Reopening.{Reopens}
+use Rattle.reopening.specs.Reopening.{IsAnew, Reopens}
 use Rattle.drill.specs.Steps.{Did, Steps}
 
 -- what a line did, the store behind it, and the store at the next line
@@ -23,9 +23,9 @@ pub record Done (S : Type 0) : Type 0 where
   pub served : S
   pub store : S
 
--- a server that stops is opened over again: unless a fault had shut its store, that holds what it held
+-- a server that stops is opened over again: its store has told no fault yet, and holds what it held unless a fault had shut it
 abbrev pub GoesOn : {S : Type 0} → (S → State) → (S → Type 0) → S → S → Bool → Type 0
-GoesOn state usable served store true = usable served → Reopens (state served) (state store)
+GoesOn state usable served store true = IsAnew (state store) × (usable served → Reopens (state served) (state store))
 GoesOn state usable served store false = store ≡ served
 
 -- these lines did this one after the other, from a store and a shop floor to others, and then those are left
@@ -41,18 +41,29 @@ abbrev pub IsBadLine : {S : Type 0} → (S → State) → S → Floor → ℕ �
 IsBadLine {S} state s fl count n [] = ⊥
 IsBadLine {S} state s fl count n (l ∷ behind) = (after : S) × Steps state s after fl l behind None × (n + length behind ≡ count)
 
--- the server stopped at the last of them
-abbrev pub HasStopped : {S : Type 0} → List (Done S) → Type 0
-HasStopped {S} ds = (before : List (Done S)) × (last : Done S) × (ds ≡ before ++ last ∷ []) × (last.did.stops ≡ true)
+-- the first of these lines did this, and nothing goes on behind it
+abbrev pub IsLast : {S : Type 0} → (S → State) → S → Floor → List (List ℕ) → Did → Type 0
+IsLast {S} state s fl [] did = ⊥
+IsLast {S} state s fl (l ∷ behind) did = (served : S) × Steps state s served fl l behind (Some did)
 
--- why it ends where these lines were done, of so many, and those are left
-abbrev pub EndsAt : {S : Type 0} → (S → State) → S → Floor → ℕ → List (Done S) → List (List ℕ) → Result (Unit {0}) DrillStop → Type 0
-EndsAt state s fl count ds left (Ok u) = left ≡ []
-EndsAt state s fl count ds left (Err (stop.BadLine n)) = IsBadLine state s fl count n left
-EndsAt state s fl count ds left (Err stop.WriteFailed) = ⊤
-EndsAt state s fl count ds left (Err stop.Memory) = ⊤
-EndsAt state s fl count ds left (Err stop.Storage) = HasStopped ds
-EndsAt state s fl count ds left (Err stop.ReadFailed) = ⊥
+-- why it ends in a line that was done: it is not printed whole, or the server stops and its store does not open over again
+abbrev pub EndsIn : {S : Type 0} → (S → State) → S → Floor → List (List ℕ) → Did → DrillStop → Type 0
+EndsIn state s fl left did (stop.BadLine n) = ⊥
+EndsIn state s fl left did stop.WriteFailed = IsLast state s fl left did
+EndsIn state s fl left did stop.Memory = IsLast state s fl left did × (did.stops ≡ true)
+EndsIn state s fl left did stop.Storage = IsLast state s fl left did × (did.stops ≡ true)
+EndsIn state s fl left did stop.ReadFailed = ⊥
+
+-- why it ends where these lines are left, of so many, and perhaps the first of them was done
+abbrev pub EndsAt : {S : Type 0} → (S → State) → S → Floor → ℕ → List (List ℕ) → Option Did → Result (Unit {0}) DrillStop → Type 0
+EndsAt state s fl count left None (Ok u) = left ≡ []
+EndsAt state s fl count left None (Err (stop.BadLine n)) = IsBadLine state s fl count n left
+EndsAt state s fl count left None (Err stop.WriteFailed) = ⊤
+EndsAt state s fl count left None (Err stop.Memory) = ⊤
+EndsAt state s fl count left None (Err stop.Storage) = ⊥
+EndsAt state s fl count left None (Err stop.ReadFailed) = ⊥
+EndsAt state s fl count left (Some did) (Ok u) = ⊥
+EndsAt state s fl count left (Some did) (Err why) = EndsIn state s fl left did why
 
 -- the text of these lines was written, or a beginning of it where the writer failed
 abbrev pub IsWritten : Option (List ℕ) → Option (List ℕ) → List ℕ → Result (Unit {0}) DrillStop → Type 0
@@ -63,8 +74,9 @@ IsWritten before after text (Err stop.Memory) = Appends before after text
 IsWritten before after text (Err stop.Storage) = Appends before after text
 IsWritten before after text (Err stop.ReadFailed) = ⊥
 
-abbrev pub printed : {S : Type 0} → List (Done S) → List ℕ
-printed ds = flat_map (λ d. d.did.text) ds
+abbrev pub printed : {S : Type 0} → List (Done S) → Option Did → List ℕ
+printed ds None = flat_map (λ d. d.did.text) ds
+printed ds (Some last) = flat_map (λ d. d.did.text) ds ++ last.text
 
 -- the lines of a script, of so many in all, from a store and a shop floor on
 pub record Runs {S : Type 0} (state : S → State) (usable : S → Type 0) (s : S) (fl : Floor) (count : ℕ) (ls : List (List ℕ)) (before after : Option (List ℕ)) (result : Result (Unit {0}) DrillStop) : Type 0 where
@@ -72,9 +84,10 @@ pub record Runs {S : Type 0} (state : S → State) (usable : S → Type 0) (s : 
   pub last : S
   pub floor : Floor
   pub left : List (List ℕ)
+  pub ended_in : Option Did
   pub done : AreDone state usable s fl ls did last floor left
-  pub ends : EndsAt state last floor count did left result
-  pub written : IsWritten before after (printed did) result
+  pub ends : EndsAt state last floor count left ended_in result
+  pub written : IsWritten before after (printed did ended_in) result
 
 -- all lines of a script, from an empty shop floor; what the reader gives is the script
 abbrev pub RunsAll : {S : Type 0} → (S → State) → (S → Type 0) → S → Option (List ℕ) → Option (List ℕ) → Option (List ℕ) → Result (Unit {0}) DrillStop → Type 0
@@ -103,7 +116,7 @@ stop_text stop.Memory = codes "memory was refused"
 -- from a store and a shop floor to others, with what was printed
 abbrev pub Goes : {S : Type 0} → (S → State) → (S → Type 0) → S → Floor → List (List ℕ) → Option (List ℕ) → Option (List ℕ) → S → Floor → List (List ℕ) → Type 0
 Goes {S} state usable s fl ls before after last floor left =
-    (ds : List (Done S)) × AreDone state usable s fl ls ds last floor left × Appends before after (printed ds)
+    (ds : List (Done S)) × AreDone state usable s fl ls ds last floor left × Appends before after (printed ds None)
 
 abbrev pub unread : ReadFault → DrillStop
 unread read.Failed = stop.ReadFailed

@@ -146,7 +146,7 @@ fn drop_all<S: Alter>(tx: &mut Transaction<'_, S>, version: Version) -> Result<u
 
 /// Drops all tables of a version and makes our own, with the version alone in them, in an open
 /// transaction. A crash leaves nothing of it.
-pub fn make_anew<S: Alter>(tx: &mut Transaction<'_, S>, version: Version) -> Result<usize, Error>
+pub fn make_anew<S: Alter>(tx: &mut Transaction<'_, S>, version: Version) -> Result<(), Error>
     ensures same_reference { tx.new.conn.ghost_name ≡ tx.old.conn.ghost_name }
     ensures made { HasCleanDisk (state S.Store tx.new.conn.now)
         → Wrote (MakesAnew version) (state S.Store tx.old.conn.now)
@@ -155,5 +155,6 @@ pub fn make_anew<S: Alter>(tx: &mut Transaction<'_, S>, version: Version) -> Res
         (λ _. ⊥) }
 {
     drop_all(tx, version)?;
-    make_all(tx)
+    make_all(tx)?;
+    Ok(())
 }

@@ -5,7 +5,7 @@ use std::alloc::Global;
 /// A store that can be closed, and opened over again.
 pub trait Reopen: JobStore {
     ghost use Rattle.std.specs.Prelude.{IfOk};
-    ghost use Rattle.reopening.specs.Reopening.{Reopens};
+    ghost use Rattle.reopening.specs.Reopening.{IsAnew, Reopens};
 
     /// That no fault has shut it.
     ghost usable: { Self → Type 0 };
@@ -13,6 +13,7 @@ pub trait Reopen: JobStore {
     /// Closes the store, and opens it over again with what it held. Errors: refused memory, and a
     /// store that does not open, as the device's.
     fn reopen(self, alloc: Global) -> Result<Self, StoreFault>
-        ensures { IfOk result
+        ensures anew { IfOk result (λ again. IsAnew (Self.state again)) }
+        ensures holds { IfOk result
             (λ again. usable self → Reopens (Self.state self) (Self.state again)) };
 }

@@ -5,7 +5,7 @@ use Rattle.sql_order.specs.declared.versions.Version.TheVariants.{Three}
 use Rattle.order_tables.specs.Holding.{HoldsRows}
 use Rattle.schema.proofs.again.SqlStoreReopen.reopen.Goals as goal
 
-pub returns-in-Ok : goal.returns-in-Ok
-returns-in-Ok g c = λ shut clean d held.
+pub returns-in-Ok-clause-holds : goal.returns-in-Ok-clause-holds
+returns-in-Ok-clause-holds g c = λ shut clean d held.
     c.in-Ok.ensures.holds clean Three d held.0
     (subst (λ h. HoldsRows Three (image d) (state g.S.Store h).now) (sym c.close.ensures.handed) (c.our_rows_are_an_image.ensures.held (image d) _ (held.1 shut)))
