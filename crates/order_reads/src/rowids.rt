@@ -18,17 +18,6 @@ use sqlite::types::ValueRef;
 use sqlite::{Alter, Connection, Error, Row};
 use std::alloc::AllocError;
 
-// The integer that a value is.
-fn int_of(value: ValueRef<'_>) -> Option<i64>
-    ensures { MatchOption result (Int (int_in (owned value.entry)) ≡ owned value.entry → ⊥)
-        (λ z. Int z ≡ owned value.entry) }
-{
-    match value {
-        ValueRef::Int(z) => Some(z),
-        _ => None,
-    }
-}
-
 // The integer that a value is; 0 where it is none.
 fn int_or_zero(value: ValueRef<'_>) -> i64
     ensures { result ≡ int_in (owned value.entry) }
@@ -43,7 +32,10 @@ fn rowid_in(row: &Row) -> Option<i64>
     ensures { MatchOption result (Int (int_in (rowid row.now)) ≡ rowid row.now → ⊥)
         (λ z. Int z ≡ rowid row.now) }
 {
-    int_of(value_at(row, 0))
+    match value_at(row, 0) {
+        ValueRef::Int(z) => Some(z),
+        _ => None,
+    }
 }
 
 // Whether each rowid is an integer above the one before it, the first of them above this one.

@@ -24,20 +24,14 @@ pub(crate) fn value_at(row: &Row, at: usize) -> ValueRef<'_>
 
 // ---- shapes
 
-fn is_number_value(value: ValueRef<'_>) -> bool
-    ensures { IsTrue result ↔ IsNumber (owned value.entry) }
-{
-    match value {
-        ValueRef::Int(n) => n >= 0,
-        _ => false,
-    }
-}
-
 // Whether the column has a number from 0 on.
 pub(crate) fn is_number(row: &Row, at: usize) -> bool
     ensures { IsTrue result ↔ IsNumber (column row.now at) }
 {
-    is_number_value(value_at(row, at))
+    match value_at(row, at) {
+        ValueRef::Int(n) => n >= 0,
+        _ => false,
+    }
 }
 
 // Whether the column has a number below a limit.
@@ -47,27 +41,12 @@ pub(crate) fn is_below(row: &Row, at: usize, limit: u64) -> bool
     is_number(row, at) && number_at(row, at) < limit
 }
 
-fn is_text_value(value: ValueRef<'_>) -> bool
-    ensures { IsTrue result ↔ IsText (owned value.entry) }
-{
-    match value {
-        ValueRef::Text(_) => true,
-        _ => false,
-    }
-}
-
 // Whether the column has a text.
 pub(crate) fn is_text(row: &Row, at: usize) -> bool
     ensures { IsTrue result ↔ IsText (column row.now at) }
 {
-    is_text_value(value_at(row, at))
-}
-
-fn is_blob_value(value: ValueRef<'_>) -> bool
-    ensures { IsTrue result ↔ IsBlob (owned value.entry) }
-{
-    match value {
-        ValueRef::Blob(_) => true,
+    match value_at(row, at) {
+        ValueRef::Text(_) => true,
         _ => false,
     }
 }
@@ -76,25 +55,22 @@ fn is_blob_value(value: ValueRef<'_>) -> bool
 pub(crate) fn is_blob(row: &Row, at: usize) -> bool
     ensures { IsTrue result ↔ IsBlob (column row.now at) }
 {
-    is_blob_value(value_at(row, at))
+    match value_at(row, at) {
+        ValueRef::Blob(_) => true,
+        _ => false,
+    }
 }
 
 // ---- values
-
-fn number_of(value: ValueRef<'_>) -> u64
-    ensures { result ≡ number_in (owned value.entry) }
-{
-    match value {
-        ValueRef::Int(n) => { if n < 0 { 0 } else { n as u64 } }
-        _ => 0,
-    }
-}
 
 // The number in this column; 0 where there is none.
 pub(crate) fn number_at(row: &Row, at: usize) -> u64
     ensures { result ≡ number_in (column row.now at) }
 {
-    number_of(value_at(row, at))
+    match value_at(row, at) {
+        ValueRef::Int(n) => { if n < 0 { 0 } else { n as u64 } }
+        _ => 0,
+    }
 }
 
 // The number below 2^8 in this column.

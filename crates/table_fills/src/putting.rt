@@ -19,6 +19,8 @@ pub(crate) fn fit(first: u64, second: u64, third: u64, fourth: u64) -> bool
     ensures second { IsTrue result → second < 2 ^ 63 }
     ensures third { IsTrue result → third < 2 ^ 63 }
     ensures fourth { IsTrue result → fourth < 2 ^ 63 }
+    ensures all { first < 2 ^ 63 → second < 2 ^ 63 → third < 2 ^ 63 → fourth < 2 ^ 63
+        → IsTrue result }
 {
     first < LIMIT && second < LIMIT && third < LIMIT && fourth < LIMIT
 }
