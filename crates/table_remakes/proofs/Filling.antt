@@ -1,5 +1,5 @@
 -- Rows are put into newly made tables.
-use Rattle.std.proofs.Common.{◌∙◌, Result, Ok, Err, OnOk, ℕ}
+use Rattle.std.proofs.Common.{◌∙◌, Result, Ok, Err, OnOk}
 use Rattle.sqlite.specs.State.{State}
 use Rattle.sqlite.specs.declared.error.Error.{Error}
 use Rattle.sqlite.proofs.InsideLemmas.{keeps_then}
@@ -13,7 +13,7 @@ use Rattle.order_anew.specs.Anew.{MakesAnew}
 use Rattle.table_fills.specs.Rows.{with_all}
 use Rattle.table_remakes.specs.Remakes.{Remakes}
 
-pub filled_anew : {X : Type 0} (version : Version) (t : Tables) (a b d : State) (n : ℕ) (r : Result X Error) → Wrote (MakesAnew version) a b (Ok n) → WroteMany (Moves (with_all t)) b d r
+pub filled_anew : {X : Type 0} (version : Version) (t : Tables) (a b d : State) (n : Unit {0}) (r : Result X Error) → Wrote (MakesAnew version) a b (Ok n) → WroteMany (Moves (with_all t)) b d r
     → OnOk r (IsImage no_rows b.now → IsImage t d.now) → Wrote (Remakes version t) a d r
 filled_anew version t a b d n (Ok x) anew many alone = record {
   well = record {
