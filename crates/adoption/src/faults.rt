@@ -14,10 +14,10 @@ pub enum AdoptFault {
 }
 
 impl From<Error> for AdoptFault {
-    ghost use Rattle.std.specs.Prelude.{◌≢◌};
+    ghost use Rattle.std.specs.Prelude.{◌≡◌};
     ghost use Rattle.adoption.specs.declared.faults.AdoptFault.TheVariants as fault;
 
-    ghost from_gives = { λ _ e. (e ≢ fault.NotOurs) × (e ≢ fault.Damaged) };
+    ghost from_gives = { λ error e. e ≡ fault.Sqlite error };
 
     fn from(error: Error) -> AdoptFault {
         AdoptFault::Sqlite { error }
