@@ -1,10 +1,9 @@
 -- Lines that were done one after the other.
-use Rattle.std.proofs.Common.{◌≡◌, ◌≤◌, ◌<◌, ℕ, ◌+◌, Bool, true, false, List, [], ◌∷◌, ◌++◌, length, map, drop, get_or, Bor, Option, Some, None, Result, Ok, Err, refl, sym, ap, subst, ◌∙◌, append_assoc, append-nil, arith}
-use Rattle.std.specs.Prelude.{unwrap_or, ⊤}
-use Rattle.std.specs.List.{flat_map}
+use Rattle.std.proofs.Common.{◌≡◌, ◌<◌, ℕ, ◌+◌, true, List, [], ◌∷◌, ◌++◌, length, map, drop, get_or, Bor, Option, Some, None, Result, Ok, Err, refl, sym, ap, subst, ◌∙◌, append_assoc, append-nil, arith}
+use Rattle.std.specs.Prelude.{unwrap_or}
 use Rattle.std.specs.Io.KnownBytes.{Appends}
 use Rattle.std.proofs.KnownBytes.{Appends-nil, Appends-trans, Keeps-refl}
-use Rattle.std.proofs.lemmas.List.{drop-drop, drop-map, drop_all, length-drop, length-map}
+use Rattle.std.proofs.lemmas.List.{drop-drop, drop-map, length-drop, length-map}
 use Rattle.std.proofs.lemmas.List.Concat.{flat_map-append}
 use Rattle.std.proofs.lemmas.Option.{get_or_from_slice_get, slice_get-get_or}
 use Rattle.job_core.specs.Store.{State}
@@ -15,7 +14,6 @@ use Rattle.text_io.specs.Inputs.{Tells}
 use Rattle.text_io.specs.Written.{AppendsBeginning}
 use Rattle.text_io.specs.declared.reading.ReadFault.{ReadFault}
 use Rattle.text_io.specs.declared.reading.ReadFault.TheVariants as read
-use Rattle.line_words.specs.Lines.{lines}
 use Rattle.shop_floor.specs.Floors.{Floor, empty_floor}
 use Rattle.drill.specs.declared.stop.DrillStop.{DrillStop}
 use Rattle.drill.specs.declared.stop.DrillStop.TheVariants as stop

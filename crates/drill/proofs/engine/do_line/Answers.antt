@@ -3,9 +3,19 @@ use Rattle.std.proofs.lemmas.Result.{err_from_is_err_and}
 use Rattle.std.specs.Io.KnownBytes.{Appends}
 use Rattle.text_io.specs.Written.{AppendsBeginning}
 use Rattle.drill.specs.Steps.{Steps, did_of, did_view}
-use Rattle.drill.proofs.Runs.{line_goes, line_unopened, line_unwritten}
+use Rattle.drill.proofs.Runs.{line_bad, line_goes, line_unmade, line_unopened, line_unwritten}
 use Rattle.drill.proofs.ScriptLemmas.{text_of}
 use Rattle.drill.proofs.engine.do_line.Goals as goal
+
+pub returns-in_err-did-clause-ends : goal.returns-in_err-did-clause-ends
+returns-in_err-did-clause-ends g c =
+    let p = err_from_is_err_and c.from_residual.result c.from_residual.ensures.1 in
+    rw (p.1, p.2) (line_unmade g.S.JobStore.state g.S.Reopen.usable c.args.store c.args.floor.now _ _ (g.W.Write.contents c.args.writer.now))
+
+pub returns-in_default-clause-ends : goal.returns-in_default-clause-ends
+returns-in_default-clause-ends g c =
+    line_bad g.S.JobStore.state g.S.Reopen.usable c.args.store c.step.new.store c.args.floor.now c.args.number c.args.line.now c.args.behind.now (g.W.Write.contents c.args.writer.now)
+    (subst (λ o. Steps g.S.JobStore.state c.args.store c.step.new.store c.args.floor.now c.args.line.now (map text_of c.args.behind.now) (did_of c.step.new.floor o)) c.in_default.is c.in_ok-did.ensures.steps)
 
 pub returns-in_err-write_text-clause-ends : goal.returns-in_err-write_text-clause-ends
 returns-in_err-write_text-clause-ends g c =
