@@ -86,15 +86,35 @@ pub drill_flushed : (known before mid after : Option (List ℕ)) (end : End) (bu
 drill_flushed known before mid after end buffer (inl (fault, is, stays)) kept flushes = absurd (never_unopened tt fault is)
 drill_flushed known before mid after end buffer (inr (s, holds, (raw, told, runs))) kept (inl done) =
     (Ok tt, done.0, inr (s, holds, (raw, told, rewritten _ _ s _ _ _ before mid after _ runs (Appends-kept before mid after _ runs.written kept))))
-drill_flushed known before mid after end buffer (inr (s, holds, (raw, told, runs))) kept (inr failed) =
-    (Err drill.WriteFailed, failed, inr (s, holds, (raw, told,
-        lost _ _ s _ _ _ before mid after _ runs (done_went_on _ runs.last runs.floor _ runs.left runs.ended_in tt runs.ends) (whole before mid after _ runs.written kept))))
+drill_flushed known before mid after end buffer (inr (s, holds, (raw, told, runs))) kept (inr failed) = (
+  Err drill.WriteFailed,
+  failed,
+  inr (
+    s,
+    holds,
+    (
+      raw,
+      told,
+      lost _ _ s _ _ _ before mid after _ runs (done_went_on _ runs.last runs.floor _ runs.left runs.ended_in tt runs.ends) (whole before mid after _ runs.written kept),
+    ),
+  ),
+)
 
 pub bad_line_flushed : (n : ℕ) (known before mid after : Option (List ℕ)) (end : End) (buffer : List ℕ)
     → DrillEnds known before mid (Err (drill.BadLine n)) → Keeps mid after → Flushes (BadLine n) end buffer → DrillRuns known before after end
 bad_line_flushed n known before mid after end buffer (inl (fault, is, stays)) kept flushes = absurd (no_bad_line (Err (drill.BadLine n)) n fault refl is)
 bad_line_flushed n known before mid after end buffer (inr (s, holds, (raw, told, runs))) kept (inl done) =
     (Err (drill.BadLine n), done.0, inr (s, holds, (raw, told, rewritten _ _ s _ _ _ before mid after _ runs (Appends-kept before mid after _ runs.written kept))))
-bad_line_flushed n known before mid after end buffer (inr (s, holds, (raw, told, runs))) kept (inr failed) =
-    (Err drill.WriteFailed, failed, inr (s, holds, (raw, told,
-        lost _ _ s _ _ _ before mid after _ runs (bad_went_on _ runs.last runs.floor _ n runs.left runs.ended_in runs.ends) (whole before mid after _ runs.written kept))))
+bad_line_flushed n known before mid after end buffer (inr (s, holds, (raw, told, runs))) kept (inr failed) = (
+  Err drill.WriteFailed,
+  failed,
+  inr (
+    s,
+    holds,
+    (
+      raw,
+      told,
+      lost _ _ s _ _ _ before mid after _ runs (bad_went_on _ runs.last runs.floor _ n runs.left runs.ended_in runs.ends) (whole before mid after _ runs.written kept),
+    ),
+  ),
+)

@@ -1,4 +1,1 @@
-mod CommandLemmas
 mod FlushLemmas
-mod NumberLemmas
-mod TextLemmas

@@ -21,8 +21,8 @@ use Rattle.command_line.specs.declared.end.End.TheVariants as end
 use Rattle.command_line.specs.declared.end.Exit.{Exit}
 use Rattle.command_line.specs.declared.end.Told.{Told}
 use Rattle.command_line.specs.declared.end.Told.TheVariants as told
-use Rattle.command_line.specs.declared.words.WordsFault.{WordsFault}
-use Rattle.command_line.specs.declared.words.WordsFault.TheVariants as words
+use Rattle.program_words.specs.declared.words.WordsFault.{WordsFault}
+use Rattle.program_words.specs.declared.words.WordsFault.TheVariants as words
 use Rattle.plan_print.specs.declared.plan.PlanStop.{PlanStop}
 use Rattle.plan_print.specs.declared.plan.PlanStop.TheVariants as stop
 

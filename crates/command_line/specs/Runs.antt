@@ -9,8 +9,8 @@ use Rattle.drill.specs.declared.stop.DrillStop.{DrillStop}
 use Rattle.command_line.specs.Ends.{end_of_drill, end_of_plan}
 use Rattle.command_line.specs.declared.end.End.{End}
 use Rattle.command_line.specs.declared.end.End.TheVariants.{Done, BadLine}
-use Rattle.command_line.specs.declared.words.Words.{Words}
-use Rattle.command_line.specs.declared.words.Words.TheVariants.{Plan, Drill, Serve, Report, Feed}
+use Rattle.program_words.specs.declared.words.Words.{Words}
+use Rattle.program_words.specs.declared.words.Words.TheVariants.{Plan, Drill, Serve, Report, Feed}
 
 -- the product that the values of `plan` stand for, by the name `plan`
 abbrev pub product_of : ℕ → ℕ → Bool → Product

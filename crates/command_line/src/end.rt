@@ -4,12 +4,12 @@ ghost use Rattle.command_line.specs.Ends.{end_of_account, end_of_drill_stop, end
 ghost use Rattle.command_line.specs.Ends.{end_of_feed_stop, end_of_plan_stop, end_of_serve_stop};
 ghost use Rattle.command_line.specs.Ends.{end_of_store, exit_of, told_end};
 
-use crate::words::WordsFault;
 use batch_import::RowFault;
 use drill::DrillStop;
 use feeding::FeedStop;
 use job_core::{Refusal, StoreFault};
 use plan_print::PlanStop;
+use program_words::WordsFault;
 use reports::AccountFault;
 use std::error::Error;
 use std::fmt;

@@ -4,14 +4,14 @@ ghost use Rattle.std.specs.Io.Buffered.{writer_buffer, writer_contents};
 ghost use Rattle.std.specs.Io.KnownBytes.{Keeps};
 ghost use Rattle.store_data.specs.Sequence.{IsProduct};
 ghost use Rattle.command_line.specs.Runs.{DrillRuns, IsPrinted, PlanRuns, Runs, product_of};
-ghost use Rattle.command_line.specs.Words.{InRange, UsesStreams};
+ghost use Rattle.program_words.specs.Words.{InRange, UsesStreams};
 ghost use Rattle.command_line.specs.declared.end.End.TheVariants.{WriteFailed};
 
 use crate::end::End;
-use crate::words::Words;
 use drill::DrillStop;
 use drill_tables::drill_engine;
 use plan_print::plan_engine;
+use program_words::Words;
 use std::alloc::Global;
 use std::io::{BufWriter, Read, Write};
 use store_data::{Name, Product};

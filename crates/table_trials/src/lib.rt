@@ -1,5 +1,5 @@
 //! Tests of stores: devices that fail, are full or lie; refused memory, over lists and over tables;
-//! files that stop at each of their calls, damage, tables of earlier versions, and a file behind a socket.
+//! files that stop at each of their calls, damage, tables of earlier versions, and a file behind a socket; and runs of the program.
 #![tactic(auto)]
 
 #[cfg(test)]
@@ -12,6 +12,8 @@ mod disks;
 mod exchanges;
 #[cfg(test)]
 mod faults;
+#[cfg(test)]
+mod programs;
 #[cfg(test)]
 mod refused;
 #[cfg(test)]

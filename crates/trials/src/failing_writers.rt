@@ -1,14 +1,13 @@
 //! A writer that fails. It takes no memory, so that it fails where it is told to.
 use std::io::{self, ErrorKind, Write};
 
-/// Takes so many bytes in all, at most 512, and at most so many at a call; then a write fails. It may also fail to flush.
+/// Takes so many bytes in all, at most 512, and at most so many at a call; then a write fails.
 #[derive(Clone, Copy)]
 pub(crate) struct Limited {
     bytes: [u8; 512],
     taken: usize,
     most: usize,
     at_a_call: usize,
-    is_flushed: bool,
 }
 
 impl Limited {
@@ -19,15 +18,6 @@ impl Limited {
             taken: 0,
             most,
             at_a_call,
-            is_flushed: true,
-        }
-    }
-
-    /// A writer that takes all, and fails to flush.
-    pub(crate) fn that_fails_to_flush() -> Limited {
-        Limited {
-            is_flushed: false,
-            ..Limited::new(512, 512)
         }
     }
 
@@ -53,10 +43,6 @@ impl Write for Limited {
     }
 
     fn flush(&mut self) -> io::Result<()> {
-        if self.is_flushed {
-            Ok(())
-        } else {
-            Err(io::Error::from(ErrorKind::BrokenPipe))
-        }
+        Ok(())
     }
 }

@@ -16,8 +16,6 @@ mod feeds;
 #[cfg(test)]
 mod memory;
 #[cfg(test)]
-mod programs;
-#[cfg(test)]
 mod readers;
 #[cfg(test)]
 mod serving;

@@ -1,47 +1,60 @@
 //! The program's words.
-use command_line::{Words, WordsFault, read_words};
-use std::alloc::Global;
+use program_words::{Words, WordsFault, read_words};
+use std::alloc::{AllocError, Global};
+use std::process::Abort;
 
-/// What is read of these words, at once or where they come again after refused memory.
-pub(crate) fn read_at_last(alloc: Global, words: &[&str]) -> Result<Words, WordsFault> {
+// The words of a line, which begins with the program's name.
+fn words_of(alloc: Global, line: &str) -> Result<Vec<&str>, AllocError> {
+    let mut words = Vec::new(alloc);
+    for word in line.split(' ') {
+        words.push(word)?;
+    }
+    Ok(words)
+}
+
+// What is read of these words, at once or where they come again after refused memory.
+fn words_at_last(alloc: Global, words: &[&str]) -> Result<Words, WordsFault> {
     match read_words(alloc, words) {
         Err(WordsFault::Memory) => read_words(alloc, words),
         answer => answer,
     }
 }
 
+/// The same of the words of a line.
+pub(crate) fn read_at_last(alloc: Global, line: &str) -> Result<Words, WordsFault> {
+    let words = match words_of(alloc, line) {
+        Err(_) => words_of(alloc, line)?,
+        Ok(words) => words,
+    };
+    words_at_last(alloc, words.as_slice())
+}
+
 #[test]
 fn words_have_their_values_or_the_defaults(rt: HostRuntime) {
     let alloc = rt.alloc();
-    let cases: [(&[&str], u8, u8, bool); 7] = [
-        (&["persod", "plan"], 255, 0, false),
-        (
-            &["persod", "plan", "--max", "16", "--low", "31"],
-            16,
-            31,
-            false,
-        ),
-        (&["persod", "plan", "--low=7"], 255, 7, false),
-        (&["persod", "plan", "--max", "016"], 16, 0, false),
-        (&["persod", "plan", "--max", "+16"], 16, 0, false),
-        (&["persod", "plan", "--check"], 255, 0, true),
-        (&["persod", "plan", "--check", "--low", "7"], 255, 7, true),
+    let cases = [
+        ("persod plan", 255, 0, false),
+        ("persod plan --max 16 --low 31", 16, 31, false),
+        ("persod plan --low=7", 255, 7, false),
+        ("persod plan --max 016", 16, 0, false),
+        ("persod plan --max +16", 16, 0, false),
+        ("persod plan --check", 255, 0, true),
+        ("persod plan --check --low 7", 255, 7, true),
     ];
-    for (words, max, low, check) in cases {
-        let read = read_at_last(alloc, words).ok();
-        assert_eq!(rt; read, Some(Words::Plan { max, low, check }), "at {words:?}");
+    for (line, max, low, check) in cases {
+        let read = read_at_last(alloc, line).ok();
+        assert_eq!(rt; read, Some(Words::Plan { max, low, check }), "at {line}");
     }
-    let read = read_at_last(alloc, &["persod", "drill"]).ok();
+    let read = read_at_last(alloc, "persod drill").ok();
     assert_eq!(rt; read, Some(Words::Drill));
 }
 
 #[test]
 fn a_file_a_port_and_turns_are_read(rt: HostRuntime) {
-    let alloc = rt.alloc();
     let words = &[
         "persod", "serve", "--db", "a b.db", "--port", "65535", "--turns", "1000000",
     ];
-    match read_at_last(alloc, words) {
+    match words_at_last(rt.alloc(), words) {
         Ok(Words::Serve { db, port, turns }) => {
             assert_eq!(rt; db.as_str(), "a b.db");
             assert_eq!(rt; port, 65_535);
@@ -49,82 +62,144 @@ fn a_file_a_port_and_turns_are_read(rt: HostRuntime) {
         }
         other => assert!(rt; false, "{other:?}"),
     }
-    let words = &["persod", "report", "--db", "a", "--batch", "B-1"];
-    match read_at_last(alloc, words) {
+}
+
+#[test]
+fn a_file_and_a_batch_are_read(rt: HostRuntime) {
+    match read_at_last(rt.alloc(), "persod report --db a --batch B-1") {
         Ok(Words::Report { db, batch }) => {
             assert_eq!(rt; db.as_str(), "a");
             assert_eq!(rt; batch.bytes(), b"B-1".as_slice());
         }
         other => assert!(rt; false, "{other:?}"),
     }
-    let words = &["persod", "report", "--db", "a", "--batch", "B.1"];
-    match read_at_last(alloc, words) {
-        Err(WordsFault::BadName) => (),
+}
+
+#[test]
+fn a_machine_and_its_boot_are_read(rt: HostRuntime) {
+    let line = "persod feed --port 1 --machine m_1 --boot 9999999999 --batch B-1";
+    match read_at_last(rt.alloc(), line) {
+        Ok(
+            Words::Feed {
+                port,
+                machine,
+                boot,
+                batch,
+            },
+        ) => {
+            assert_eq!(rt; port, 1);
+            assert_eq!(rt; machine.bytes(), b"m_1".as_slice());
+            assert_eq!(rt; boot, 9_999_999_999);
+            assert_eq!(rt; batch.bytes(), b"B-1".as_slice());
+        }
         other => assert!(rt; false, "{other:?}"),
+    }
+}
+
+fn has_bad_name(alloc: Global, line: &str) -> bool {
+    matches!(&read_at_last(alloc, line), Err(WordsFault::BadName))
+}
+
+#[test]
+fn a_name_that_is_none_is_told(rt: HostRuntime) {
+    for line in [
+        "persod report --db a --batch B.1",
+        "persod feed --port 1 --machine m.1 --boot 1 --batch B1",
+        "persod feed --port 1 --machine m1 --boot 1 --batch B.1",
+        "persod feed --port 1 --machine m1 --boot 1 --batch ",
+    ] {
+        assert!(rt; has_bad_name(rt.alloc(), line), "at {line}");
+    }
+}
+
+// These words are no use of the program, and that is told by words among which are these.
+fn check_usage(rt: &impl Abort, line: &str, read: Result<Words, WordsFault>, told: &str) {
+    match read {
+        Err(WordsFault::Usage(text)) => {
+            assert!(rt; text.as_str().contains(told), "at {line}: {text}");
+        }
+        other => assert!(rt; false, "at {line}: {other:?}"),
     }
 }
 
 #[test]
 fn a_usage_fault_says_what_is_wrong(rt: HostRuntime) {
     let alloc = rt.alloc();
-    let cases: [(&[&str], &str); 26] = [
-        (&["persod", "plan", "--max", "15"], "'15'"),
-        (&["persod", "plan", "--max", "256"], "'256'"),
-        (&["persod", "plan", "--max", "x"], "'x'"),
-        (&["persod", "plan", "--max"], "--max"),
-        (&["persod", "plan", "--low", "32"], "'32'"),
-        (&["persod", "plan", "--low", "-1"], "'-1'"),
-        (&["persod", "plan", "--max", "16", "--max", "16"], "--max"),
-        (&["persod", "plan", "--check", "--check"], "--check"),
-        (&["persod", "plan", "--check=true"], "--check"),
-        (&["persod", "plan", "--check", "true"], "true"),
-        (&["persod", "plan", "--size", "16"], "--size"),
-        (&["persod", "plan", "batch.csv"], "batch.csv"),
-        (&["persod", "drill", "x"], "'x'"),
-        (&["persod", "drill", "--max", "3"], "--max"),
-        (&["persod", "drill", "--check"], "--check"),
-        (&["persod", "drill", "plan"], "plan"),
-        (&["persod", "--max", "16", "drill"], "--max"),
-        (&["persod", "serve", "--port", "1", "--turns", "1"], "--db"),
-        (&["persod", "serve", "--db", "a", "--turns", "1"], "--port"),
-        (&["persod", "serve", "--db", "a", "--port", "1"], "--turns"),
+    let cases = [
+        ("persod plan --max 15", "'15'"),
+        ("persod plan --max 256", "'256'"),
+        ("persod plan --max x", "'x'"),
+        ("persod plan --max", "--max"),
+        ("persod plan --low 32", "'32'"),
+        ("persod plan --low -1", "'-1'"),
+        ("persod plan --max 16 --max 16", "--max"),
+        ("persod plan --check --check", "--check"),
+        ("persod plan --check=true", "--check"),
+        ("persod plan --check true", "true"),
+        ("persod plan --size 16", "--size"),
+        ("persod plan batch.csv", "batch.csv"),
+        ("persod drill x", "'x'"),
+        ("persod drill --max 3", "--max"),
+        ("persod drill --check", "--check"),
+        ("persod drill plan", "plan"),
+        ("persod --max 16 drill", "--max"),
+        ("persod print", "print"),
+        ("persod", "subcommand"),
+    ];
+    for (line, told) in cases {
+        check_usage(&rt, line, read_at_last(alloc, line), told);
+    }
+    let words: &[&str] = &[];
+    check_usage(&rt, "", words_at_last(alloc, words), "subcommand");
+}
+
+#[test]
+fn a_usage_fault_says_what_is_missing_or_out_of_range(rt: HostRuntime) {
+    let cases = [
+        ("persod serve --port 1 --turns 1", "--db"),
+        ("persod serve --db a --turns 1", "--port"),
+        ("persod serve --db a --port 1", "--turns"),
+        ("persod serve --db a --port 0 --turns 1", "'0'"),
+        ("persod serve --db a --port 1 --turns 1000001", "'1000001'"),
+        ("persod report --db a", "--batch"),
+        ("persod feed --machine m1 --boot 1 --batch B1", "--port"),
+        ("persod feed --port 1 --boot 1 --batch B1", "--machine"),
+        ("persod feed --port 1 --machine m1 --batch B1", "--boot"),
+        ("persod feed --port 1 --machine m1 --boot 1", "--batch"),
         (
-            &[
-                "persod", "serve", "--db", "a", "--port", "0", "--turns", "1",
-            ],
+            "persod feed --port 0 --machine m1 --boot 1 --batch B1",
             "'0'",
         ),
         (
-            &[
-                "persod", "serve", "--db", "a", "--port", "1", "--turns", "1000001",
-            ],
-            "'1000001'",
+            "persod feed --port 65536 --machine m1 --boot 1 --batch B1",
+            "'65536'",
         ),
-        (&["persod", "report", "--db", "a"], "--batch"),
-        (&["persod", "print"], "print"),
-        (&["persod"], "subcommand"),
-        (&[], "subcommand"),
+        (
+            "persod feed --port 1 --machine m1 --boot 0 --batch B1",
+            "'0'",
+        ),
+        (
+            "persod feed --port 1 --machine m1 --boot 10000000000 --batch B1",
+            "'10000000000'",
+        ),
     ];
-    for (words, told) in cases {
-        match read_at_last(alloc, words) {
-            Err(WordsFault::Usage(text)) => {
-                assert!(rt; text.as_str().contains(told), "at {words:?}: {text}");
-            }
-            other => assert!(rt; false, "at {words:?}: {other:?}"),
-        }
+    for (line, told) in cases {
+        check_usage(&rt, line, read_at_last(rt.alloc(), line), told);
     }
 }
 
 #[test]
 fn help_names_the_subcommands_and_the_options(rt: HostRuntime) {
-    let alloc = rt.alloc();
-    let cases: [(&[&str], &[&str]); 6] = [
-        (&["persod", "--help"], &["plan", "drill", "serve", "report"]),
-        (&["persod", "help"], &["plan", "drill", "--help"]),
-        (&["persod", "drill", "--help"], &["persod drill", "--help"]),
-        (&["persod", "help", "drill"], &["persod drill", "--help"]),
+    let cases: [(&str, &[&str]); 6] = [
         (
-            &["persod", "plan", "--help"],
+            "persod --help",
+            &["plan", "drill", "serve", "report", "feed"],
+        ),
+        ("persod help", &["plan", "drill", "--help"]),
+        ("persod drill --help", &["persod drill", "--help"]),
+        ("persod help drill", &["persod drill", "--help"]),
+        (
+            "persod plan --help",
             &[
                 "--max <N>",
                 "16 to 255",
@@ -133,19 +208,16 @@ fn help_names_the_subcommands_and_the_options(rt: HostRuntime) {
                 "Checks each plain record",
             ],
         ),
-        (
-            &["persod", "plan", "-h"],
-            &["--low <N>", "0 to 31", "[default: 0]"],
-        ),
+        ("persod plan -h", &["--low <N>", "0 to 31", "[default: 0]"]),
     ];
-    for (words, told) in cases {
-        match read_at_last(alloc, words) {
+    for (line, told) in cases {
+        match read_at_last(rt.alloc(), line) {
             Err(WordsFault::Help(text)) => {
                 for part in told {
-                    assert!(rt; text.as_str().contains(*part), "at {words:?}: {text}");
+                    assert!(rt; text.as_str().contains(*part), "at {line}: {text}");
                 }
             }
-            other => assert!(rt; false, "at {words:?}: {other:?}"),
+            other => assert!(rt; false, "at {line}: {other:?}"),
         }
     }
 }

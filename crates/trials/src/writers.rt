@@ -1,12 +1,10 @@
-//! Writers that fail at each byte, that take one byte a call, and that fail to flush.
+//! Writers that fail at each byte, and that take one byte a call.
 ghost use Rattle.store_data.specs.Sequence.{IsProduct};
 
 use crate::again::{MayWantMemory, at_last};
 use crate::batches::{FILE, PRINTED, product};
 use crate::exchanges::{REPORT, name, served, stocked};
 use crate::failing_writers::Limited;
-use crate::programs::program;
-use command_line::End as ProgramEnd;
 use drill::{DrillStop, drill_over_lists};
 use list_store::ListStore;
 use plan_print::{PlanStop, plan_engine};
@@ -81,22 +79,6 @@ fn a_plan_has_its_beginning_where_a_writer_fails(rt: HostRuntime) -> Result<(), 
     }
     let end = at_last!(plan_of_limited(&rt, rt.alloc(), &product, PRINTED.len()));
     assert_eq!(rt; end, Ok(()));
-    Ok(())
-}
-
-#[test]
-fn a_failed_flush_is_a_failed_write(rt: HostRuntime) -> Result<(), Fail> {
-    // The one writer takes all and fails to flush; the other takes nothing from the buffer before it.
-    let printed = PRINTED.as_bytes();
-    let writers = [
-        (Limited::that_fails_to_flush(), printed),
-        (Limited::new(0, 512), &printed[..0]),
-    ];
-    for (writer, taken) in writers {
-        let (end, writer) = program(rt.alloc(), &["persod", "plan"], FILE, writer)?;
-        assert_eq!(rt; end, ProgramEnd::WriteFailed);
-        assert_eq!(rt; writer.taken(), taken);
-    }
     Ok(())
 }
 

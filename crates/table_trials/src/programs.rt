@@ -1,0 +1,102 @@
+//! Runs of the program, from its words to its end.
+use crate::exchanges::at_last;
+use batch_import::{Kind, RowFault};
+use command_line::{End, run, told_end};
+use program_words::{WordsFault, read_words};
+use std::alloc::Global;
+use std::io::{BufWriter, Cursor};
+
+// A run with these words, from this input to this page behind a buffer; refused memory is a fault, so that it comes again, also where the
+// first reply of a drill tells it. Answers how it ends, and how much was printed.
+fn run_once(
+    alloc: Global,
+    words: &[&str],
+    raw: &[u8],
+    page: &mut [u8],
+) -> Result<(End, usize), WordsFault> {
+    let room = page.len();
+    let (end, left) = {
+        let Ok(mut writer) = BufWriter::new(alloc, &mut page[..]) else {
+            return Err(WordsFault::Memory);
+        };
+        let end = match read_words(alloc, words) {
+            Ok(words) => {
+                if words.uses_streams() {
+                    run(alloc, words, &mut Cursor::new(raw), &mut writer)
+                } else {
+                    End::Usage
+                }
+            }
+            Err(fault) => told_end(&fault, true),
+        };
+        (end, writer.get_ref().len())
+    };
+    if end == End::Memory || page.starts_with(b"503 ") {
+        return Err(WordsFault::Memory);
+    }
+    Ok((end, room.saturating_sub(left)))
+}
+
+// A coding of 19 bytes.
+const LONG: &[u8] =
+    b"record,aid,rank,enc,tol,dgi\nR1,F00000000101,1,0,0,80001000112233445566778899AABBCCDDEEFF\n";
+
+// A plain grouping of a file's record that holds none.
+const UNCHECKED: &[u8] = b"record,aid,rank,enc,tol,dgi\nR1,F00000000101,1,0,0,0101021122\n";
+
+const NO_RECORD: RowFault = RowFault {
+    row: 2,
+    kind: Kind::NotARecord,
+};
+
+// Words, input, what is printed, and how the run ends.
+static RUNS: [(&[&str], &[u8], &str, End); 5] = [
+    (
+        &["persod", "plan", "--max", "16", "--low", "7"],
+        LONG,
+        "record R1\n00A4040006F00000000101\n80E207001080001000112233445566778899AABBCC\n80E2870103DDEEFF\n",
+        End::Done,
+    ),
+    (
+        &["persod", "plan", "--check"],
+        UNCHECKED,
+        "",
+        End::Refused(NO_RECORD),
+    ),
+    (&["persod", "plan", "--max", "15"], b"", "", End::Usage),
+    (
+        &["persod", "drill"],
+        b"office 1 {\"do\":\"reset\"}\n",
+        "200 {\"result\":\"reset\",\"session\":0}\n",
+        End::Done,
+    ),
+    (&["persod", "drill"], b"office\n", "", End::BadLine(1)),
+];
+
+#[test]
+fn a_run_is_told_by_its_words_and_its_input(rt: HostRuntime) {
+    for (words, raw, printed, wanted) in &RUNS {
+        let mut page = [0; 512];
+        match at_last!(run_once(rt.alloc(), words, raw, &mut page)) {
+            Ok((end, count)) => {
+                assert_eq!(rt; page.get(..count), Some(printed.as_bytes()), "at {words:?}");
+                assert_eq!(rt; end, *wanted, "at {words:?}");
+            }
+            Err(_) => assert!(rt; false, "memory was refused twice, at {words:?}"),
+        }
+    }
+}
+
+// The flush goes to a page that takes five bytes.
+#[test]
+fn a_failed_flush_is_a_failed_write(rt: HostRuntime) {
+    let mut page = [0; 5];
+    match at_last!(run_once(rt.alloc(), &["persod", "plan"], LONG, &mut page)) {
+        Ok((end, count)) => {
+            assert_eq!(rt; count, 5);
+            assert_eq!(rt; end, End::WriteFailed);
+            assert_eq!(rt; &page, b"recor");
+        }
+        Err(_) => assert!(rt; false, "memory was refused twice"),
+    }
+}
