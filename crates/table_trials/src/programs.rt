@@ -4,11 +4,38 @@ use batch_import::{Kind, RowFault};
 use command_line::{End, run, told_end};
 use program_words::{WordsFault, read_words};
 use std::alloc::Global;
-use std::io::{BufWriter, Cursor};
+use std::io::{self, BufWriter, Cursor, ErrorKind, Write};
 
-// A run with these words, from this input to this page behind a buffer; refused memory is a fault, so that it comes again, also where the
-// first reply of a drill tells it. Answers how it ends, and how much was printed.
-fn run_once(
+/// Takes all, and fails to flush.
+struct Unflushed;
+
+impl Write for Unflushed {
+    fn write(&mut self, buf: &[u8]) -> io::Result<usize> {
+        Ok(buf.len())
+    }
+
+    fn flush(&mut self) -> io::Result<()> {
+        Err(io::Error::from(ErrorKind::BrokenPipe))
+    }
+}
+
+// How a run with these words ends, from this input to the writer behind this buffer.
+fn end_of<W: Write>(alloc: Global, words: &[&str], raw: &[u8], writer: &mut BufWriter<W>) -> End {
+    match read_words(alloc, words) {
+        Ok(words) => {
+            if words.uses_streams() {
+                run(alloc, words, &mut Cursor::new(raw), writer)
+            } else {
+                End::Usage
+            }
+        }
+        Err(fault) => told_end(&fault, true),
+    }
+}
+
+// The same to a page, and how much of it was printed. Refused memory is a fault, so that the run comes
+// again, also where the first reply of a drill tells it.
+fn printed(
     alloc: Global,
     words: &[&str],
     raw: &[u8],
@@ -19,22 +46,24 @@ fn run_once(
         let Ok(mut writer) = BufWriter::new(alloc, &mut page[..]) else {
             return Err(WordsFault::Memory);
         };
-        let end = match read_words(alloc, words) {
-            Ok(words) => {
-                if words.uses_streams() {
-                    run(alloc, words, &mut Cursor::new(raw), &mut writer)
-                } else {
-                    End::Usage
-                }
-            }
-            Err(fault) => told_end(&fault, true),
-        };
+        let end = end_of(alloc, words, raw, &mut writer);
         (end, writer.get_ref().len())
     };
     if end == End::Memory || page.starts_with(b"503 ") {
         return Err(WordsFault::Memory);
     }
     Ok((end, room.saturating_sub(left)))
+}
+
+// How a plan ends whose writer fails to flush.
+fn unflushed(alloc: Global) -> Result<End, WordsFault> {
+    let Ok(mut writer) = BufWriter::new(alloc, Unflushed) else {
+        return Err(WordsFault::Memory);
+    };
+    match end_of(alloc, &["persod", "plan"], LONG, &mut writer) {
+        End::Memory => Err(WordsFault::Memory),
+        end => Ok(end),
+    }
 }
 
 // A coding of 19 bytes.
@@ -75,11 +104,11 @@ static RUNS: [(&[&str], &[u8], &str, End); 5] = [
 
 #[test]
 fn a_run_is_told_by_its_words_and_its_input(rt: HostRuntime) {
-    for (words, raw, printed, wanted) in &RUNS {
+    for (words, raw, text, wanted) in &RUNS {
         let mut page = [0; 512];
-        match at_last!(run_once(rt.alloc(), words, raw, &mut page)) {
+        match at_last!(printed(rt.alloc(), words, raw, &mut page)) {
             Ok((end, count)) => {
-                assert_eq!(rt; page.get(..count), Some(printed.as_bytes()), "at {words:?}");
+                assert_eq!(rt; page.get(..count), Some(text.as_bytes()), "at {words:?}");
                 assert_eq!(rt; end, *wanted, "at {words:?}");
             }
             Err(_) => assert!(rt; false, "memory was refused twice, at {words:?}"),
@@ -87,16 +116,14 @@ fn a_run_is_told_by_its_words_and_its_input(rt: HostRuntime) {
     }
 }
 
-// The flush goes to a page that takes five bytes.
+// The one page takes five bytes; the other writer takes all.
 #[test]
 fn a_failed_flush_is_a_failed_write(rt: HostRuntime) {
+    let alloc = rt.alloc();
     let mut page = [0; 5];
-    match at_last!(run_once(rt.alloc(), &["persod", "plan"], LONG, &mut page)) {
-        Ok((end, count)) => {
-            assert_eq!(rt; count, 5);
-            assert_eq!(rt; end, End::WriteFailed);
-            assert_eq!(rt; &page, b"recor");
-        }
-        Err(_) => assert!(rt; false, "memory was refused twice"),
-    }
+    let end = at_last!(printed(alloc, &["persod", "plan"], LONG, &mut page));
+    assert_eq!(rt; end.ok(), Some((End::WriteFailed, 5)));
+    assert_eq!(rt; page.as_slice(), b"recor".as_slice());
+    let end = at_last!(unflushed(alloc));
+    assert_eq!(rt; end.ok(), Some(End::WriteFailed));
 }
