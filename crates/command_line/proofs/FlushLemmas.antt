@@ -65,13 +65,21 @@ lost state usable s fl count ls before mid after r runs went_on written = record
 }
 
 -- each line that was done went on
-done_went_on : {S : Type 0} (state : S → State) (s : S) (fl : Floor) (count : ℕ) (left : List (List ℕ)) (ended_in : Option Did) (u : Unit {0}) → EndsAt state s fl count left ended_in (Ok u) → ended_in ≡ None
-done_went_on state s fl count left None u ends = refl
-done_went_on state s fl count left (Some did) u ends = absurd ends
+none_late : {S : Type 0} (state : S → State) (s : S) (fl : Floor) (count : ℕ) (left : List (List ℕ)) (ended_in : Option Did) (u : Unit {0}) → EndsAt state s fl count left ended_in (Ok u) → ended_in ≡ None
+none_late state s fl count left None u ends = refl
+none_late state s fl count left (Some did) u ends = absurd ends
 
-bad_went_on : {S : Type 0} (state : S → State) (s : S) (fl : Floor) (count n : ℕ) (left : List (List ℕ)) (ended_in : Option Did) → EndsAt state s fl count left ended_in (Err (drill.BadLine n)) → ended_in ≡ None
-bad_went_on state s fl count n left None ends = refl
-bad_went_on state s fl count n left (Some did) ends = absurd ends
+none_bad : {S : Type 0} (state : S → State) (s : S) (fl : Floor) (count n : ℕ) (left : List (List ℕ)) (ended_in : Option Did) → EndsAt state s fl count left ended_in (Err (drill.BadLine n)) → ended_in ≡ None
+none_bad state s fl count n left None ends = refl
+none_bad state s fl count n left (Some did) ends = absurd ends
+
+done_went_on : {S : Type 0} (state : S → State) (usable : S → Type 0) (s : S) (fl : Floor) (count : ℕ) (ls : List (List ℕ)) (before mid : Option (List ℕ)) (u : Unit {0}) (runs : Runs state usable s fl count ls before mid (Ok u))
+    → runs.ended_in ≡ None
+done_went_on state usable s fl count ls before mid u runs = none_late state runs.last runs.floor count runs.left runs.ended_in u runs.ends
+
+bad_went_on : {S : Type 0} (state : S → State) (usable : S → Type 0) (s : S) (fl : Floor) (count n : ℕ) (ls : List (List ℕ)) (before mid : Option (List ℕ)) (runs : Runs state usable s fl count ls before mid (Err (drill.BadLine n)))
+    → runs.ended_in ≡ None
+bad_went_on state usable s fl count n ls before mid runs = none_bad state runs.last runs.floor count n runs.left runs.ended_in runs.ends
 
 never_unopened : (u : Unit {0}) (fault : StoreFault) → Ok u ≡ Err (unopened fault) → ⊥
 never_unopened u fault is = cc
@@ -95,7 +103,7 @@ drill_flushed known before mid after end buffer (inr (s, holds, (raw, told, runs
     (
       raw,
       told,
-      lost _ _ s _ _ _ before mid after _ runs (done_went_on _ runs.last runs.floor _ runs.left runs.ended_in tt runs.ends) (whole before mid after _ runs.written kept),
+      lost _ _ s _ _ _ before mid after _ runs (done_went_on _ _ s _ _ _ before mid _ runs) (whole before mid after _ runs.written kept),
     ),
   ),
 )
@@ -114,7 +122,7 @@ bad_line_flushed n known before mid after end buffer (inr (s, holds, (raw, told,
     (
       raw,
       told,
-      lost _ _ s _ _ _ before mid after _ runs (bad_went_on _ runs.last runs.floor _ n runs.left runs.ended_in runs.ends) (whole before mid after _ runs.written kept),
+      lost _ _ s _ _ _ before mid after _ runs (bad_went_on _ _ s _ _ n _ before mid runs) (whole before mid after _ runs.written kept),
     ),
   ),
 )
