@@ -7,6 +7,7 @@ use std::alloc::Global;
 use std::io::{self, BufWriter, Cursor, ErrorKind, Write};
 
 /// Takes all, and fails to flush.
+#[derive(Drop)]
 struct Unflushed;
 
 impl Write for Unflushed {
@@ -20,7 +21,12 @@ impl Write for Unflushed {
 }
 
 // How a run with these words ends, from this input to the writer behind this buffer.
-fn end_of<W: Write>(alloc: Global, words: &[&str], raw: &[u8], writer: &mut BufWriter<W>) -> End {
+fn end_of<W: Write + Drop>(
+    alloc: Global,
+    words: &[&str],
+    raw: &[u8],
+    writer: &mut BufWriter<W>,
+) -> End {
     match read_words(alloc, words) {
         Ok(words) => {
             if words.uses_streams() {
