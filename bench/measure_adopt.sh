@@ -1,7 +1,6 @@
 #!/usr/bin/env bash
 # Proves and builds the program of measure_adopt.txt in a copy of the crates at the given folder, and prints its path. It stands outside
-# crates/ because the gate has no use for it and its check is long. No check of it has run to its end yet: it was compiled unproved, and opened,
-# refused and closed a new file.
+# crates/ because the gate has no use for it and its check is long.
 set -eu
 cd "$(dirname "$0")/.."
 git ls-files -z crates crates.txt HANDLES | xargs -0 cp --parents -t "$1"

@@ -62,7 +62,7 @@ fn printed(
 }
 
 // How a plan ends whose writer fails to flush.
-fn unflushed(alloc: Global) -> Result<End, WordsFault> {
+fn end_unflushed(alloc: Global) -> Result<End, WordsFault> {
     let Ok(mut writer) = BufWriter::new(alloc, Unflushed) else {
         return Err(WordsFault::Memory);
     };
@@ -130,6 +130,6 @@ fn a_failed_flush_is_a_failed_write(rt: HostRuntime) {
     let end = at_last!(printed(alloc, &["persod", "plan"], LONG, &mut page));
     assert_eq!(rt; end.ok(), Some((End::WriteFailed, 5)));
     assert_eq!(rt; page.as_slice(), b"recor".as_slice());
-    let end = at_last!(unflushed(alloc));
+    let end = at_last!(end_unflushed(alloc));
     assert_eq!(rt; end.ok(), Some(End::WriteFailed));
 }
