@@ -75,27 +75,6 @@ fn a_file_and_a_batch_are_read(rt: HostRuntime) {
     }
 }
 
-#[test]
-fn a_machine_and_its_boot_are_read(rt: HostRuntime) {
-    let line = "persod feed --port 1 --machine m_1 --boot 9999999999 --batch B-1";
-    match read_at_last(rt.alloc(), line) {
-        Ok(
-            Words::Feed {
-                port,
-                machine,
-                boot,
-                batch,
-            },
-        ) => {
-            assert_eq!(rt; port, 1);
-            assert_eq!(rt; machine.bytes(), b"m_1".as_slice());
-            assert_eq!(rt; boot, 9_999_999_999);
-            assert_eq!(rt; batch.bytes(), b"B-1".as_slice());
-        }
-        other => assert!(rt; false, "{other:?}"),
-    }
-}
-
 fn has_bad_name(alloc: Global, line: &str) -> bool {
     matches!(&read_at_last(alloc, line), Err(WordsFault::BadName))
 }
