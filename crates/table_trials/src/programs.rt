@@ -5,6 +5,7 @@ use command_line::{End, run, told_end};
 use program_words::{WordsFault, read_words};
 use std::alloc::Global;
 use std::io::{self, BufWriter, Cursor, ErrorKind, Write};
+use std::process::Abort;
 
 /// Takes all, and fails to flush.
 #[derive(Drop)]
@@ -108,17 +109,18 @@ static RUNS: [(&[&str], &[u8], &str, End); 5] = [
     (&["persod", "drill"], b"office\n", "", End::BadLine(1)),
 ];
 
+// A run with these words prints this text of this input, and ends so.
+fn check_run(rt: &impl Abort, alloc: Global, words: &[&str], raw: &[u8], text: &str, wanted: End) {
+    let mut page = [0; 512];
+    let end = at_last!(printed(alloc, words, raw, &mut page)).ok();
+    assert_eq!(rt; end, Some((wanted, text.len())), "at {words:?}");
+    assert!(rt; page.starts_with(text.as_bytes()), "at {words:?}");
+}
+
 #[test]
 fn a_run_is_told_by_its_words_and_its_input(rt: HostRuntime) {
     for (words, raw, text, wanted) in &RUNS {
-        let mut page = [0; 512];
-        match at_last!(printed(rt.alloc(), words, raw, &mut page)) {
-            Ok((end, count)) => {
-                assert_eq!(rt; page.get(..count), Some(text.as_bytes()), "at {words:?}");
-                assert_eq!(rt; end, *wanted, "at {words:?}");
-            }
-            Err(_) => assert!(rt; false, "memory was refused twice, at {words:?}"),
-        }
+        check_run(&rt, rt.alloc(), words, raw, text, *wanted);
     }
 }
 
