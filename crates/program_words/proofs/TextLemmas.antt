@@ -4,10 +4,9 @@ use Rattle.std.specs.Borrow.{Bor}
 use Rattle.clap.specs.Words.{Row, Text, first_of, first_value, rows_of}
 use Rattle.clap.specs.declared.parser.matches.Found.{Found}
 use Rattle.clap.proofs.WalkLemmas.{first_value-rows}
-use Rattle.program_words.specs.Words.{FeedsNot, InRange, IsNumber, NamesNot, ReadsFeed, ReadsNone, ReadsReport, ReadsServe, ReportsNot}
+use Rattle.program_words.specs.Words.{FeedsNot, IsNumber, NamesNot, ReadsFeed, ReadsNone, ReadsReport, ReadsServe, ReportsNot}
 use Rattle.program_words.specs.declared.words.Unread.{Unread}
 use Rattle.program_words.specs.declared.words.Unread.TheVariants as lacks
-use Rattle.program_words.specs.declared.words.Words.{Words}
 use Rattle.program_words.specs.declared.words.Words.TheVariants.{Plan, Drill, Serve, Report, Feed}
 
 -- a getter of a text reads what the rows have

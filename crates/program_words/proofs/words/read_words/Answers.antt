@@ -1,4 +1,4 @@
-use Rattle.std.proofs.Common.{rules, ◌≡◌, List, refl, sym, subst, true, [], inl, inr, map}
+use Rattle.std.proofs.Common.{rules, ◌≡◌, List, refl, subst, true, [], inl, inr, map}
 use Rattle.clap.specs.Words.{App, HasKind, HasMatchesOf, Text, fault_of, is_simple, is_simple_and_free, subcommand_rows_of}
 use Rattle.clap.proofs.OnLiterals.{clap_on_literals}
 use Rattle.program_words.specs.Words.{IsRefusal, IsRefusedBy, ReadsAs, ReadsNot, program}
