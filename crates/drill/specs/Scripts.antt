@@ -1,6 +1,6 @@
 -- The lines of a drill that ask the server (this project's profile).
-use Rattle.std.specs.Prelude.{◌≡◌, ℕ, ◌+◌, ◌-◌, ◌==◌, ◌&&◌, Bool, not, nat_eq, nat_lt, List, [], ◌∷◌, ◌++◌, length, take, drop, bytes_eq, codes, position, Option, Some, None, option_map, option_and_then, if◌then◌else◌}
-use Rattle.std.specs.List.{ends_with, flat_map, list_any, slice_split}
+use Rattle.std.specs.Prelude.{ℕ, ◌==◌, ◌&&◌, not, nat_lt, List, ◌++◌, length, bytes_eq, codes, Option, Some, None, option_map, option_and_then, if◌then◌else◌}
+use Rattle.std.specs.List.{flat_map, list_any}
 use Rattle.store_data.specs.Name.{is_name}
 use Rattle.line_words.specs.Lines.{cut, word_of}
 use Rattle.wire.specs.Asks.{import_tail, is_number}

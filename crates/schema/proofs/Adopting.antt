@@ -16,7 +16,7 @@ use Rattle.order_tables.specs.Holding.{HoldsRows, HoldsSoundRows}
 use Rattle.adoption.specs.Adopts.{Adopts}
 use Rattle.adoption.specs.Comes.{Comes}
 use Rattle.schema.specs.Begun.{WasHeld}
-use Rattle.schema.specs.Link.{Stands, link, ours_at}
+use Rattle.schema.specs.Link.{Stands, link}
 use Rattle.schema.proofs.Link.{RowsLaw, at_trees, found, same_database}
 
 -- a database holds the rows of one image alone
