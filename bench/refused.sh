@@ -2,9 +2,9 @@
 # Builds the tests of `trials` and of `table_trials`, and refuses each of their allocations in turn, each in a child of the test that is made
 # there and goes on to the end. It fails where such a child fails, is killed, or takes over 60 seconds, and names those. A word given here
 # picks the tests whose names have it: bench/refused.sh memory:: picks those of single calls, and bench/refused.sh refused:: those over both
-# stores. Of the tests of `faults`, `feeds`, `readers` and `writers`, some of which take far more than the others, it refuses at most some
-# 2000 each, evenly spread. It leaves out those of files that stop at each call or stay, of damaged tables, of earlier versions served and
-# of a file behind a socket, which fail where memory is refused.
+# stores. Of the tests of `faults`, which take far more than the others, it refuses at most some 2000 each, evenly spread. It leaves out
+# those of files that stop at each call or stay, of damaged tables, of earlier versions served and of a file behind a socket, which fail
+# where memory is refused.
 set -euo pipefail
 cd "$(dirname "$0")/.."
 folder=$(mktemp -d)
@@ -25,12 +25,10 @@ for crate in trials table_trials; do
     program=crates/$crate/out/${crate}_tests
     for test in $("$program" --list | sed -n 's/: test$//p' | grep -v -e '::a_stop_at_each_call_' -e '::files_' -e '^damaged::' -e '^carried::' -e '^served::' | grep -F -- "${1:-}"); do
         step=1
-        case $test in
-        faults::* | feeds::* | readers::* | writers::*)
+        if [[ $test == faults::* ]]; then
             read -r asked _ <<<"$(refuse "$test" 1000000000)"
             step=$((asked / 2000 + 1))
-            ;;
-        esac
+        fi
         read -r asked refused wrong <<<"$(refuse "$test" "$step")"
         echo "$test: $refused of $asked"
         tests=$((tests + 1)) total=$((total + refused)) failed=$((failed + wrong))
