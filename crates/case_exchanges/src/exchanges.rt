@@ -1,8 +1,8 @@
 //! Asks and their replies.
 use crate::typed::{check_handled, check_parsed, check_run, written_anew};
 use crate::ways::{
-    Exchange, Fresh, ONE_BY_ONE, WHOLE, check_few, check_same, check_wanted, check_way, connected,
-    over, served,
+    Exchange, ONE_BY_ONE, StoreKind, WHOLE, are_few, check_same, check_wanted, check_way,
+    connected, over, served,
 };
 use case_files::{Case, CaseFault, Line, Repeats, cases, get, post, wanted_of};
 use server::Replied;
@@ -29,9 +29,9 @@ pub struct Scripted {
     pub printed: Vec<u8>,
 }
 
-/// Runs a case on every way over a store of each of two kinds, and where it has few asks, whole over one of a third kind; each way has a
-/// store of its own. The same comes on all. Gives what a drill is to print, if all asks are the office's.
-pub fn check_exchanges<S: Fresh + Drop, T: Fresh + Drop, U: Fresh + Drop>(
+/// Runs a case on every way over a store of each of two kinds, and where it has few asks, of a third kind; each way has a store of its
+/// own. The same comes on all. Gives what a drill is to print, if all asks are the office's.
+pub fn check_exchanges<K: StoreKind, L: StoreKind, M: StoreKind>(
     alloc: Global,
     case: Case,
 ) -> Result<Option<Scripted>, CaseFault> {
@@ -39,12 +39,14 @@ pub fn check_exchanges<S: Fresh + Drop, T: Fresh + Drop, U: Fresh + Drop>(
     let lines = with_set_up(alloc, case)?;
     let asks = asks_of(alloc, lines.as_slice())?;
     let exchanges = asks.exchanges.as_slice();
-    let first = served::<S>(alloc, exchanges, WHOLE)?;
-    over::<S>(check_wanted(alloc, exchanges, WHOLE.name, first.replies(), false))?;
+    let first = served::<K>(alloc, exchanges, WHOLE)?;
+    over::<K>(check_wanted(alloc, exchanges, WHOLE.name, first.replies(), false))?;
     check_parsed(alloc, exchanges, first.replies())?;
-    over::<S>(check_ways::<S>(alloc, &asks, first.replies()))?;
-    over::<T>(check_ways::<T>(alloc, &asks, first.replies()))?;
-    check_few::<U>(alloc, exchanges, first.replies())?;
+    over::<K>(check_ways::<K>(alloc, &asks, first.replies()))?;
+    over::<L>(check_ways::<L>(alloc, &asks, first.replies()))?;
+    if are_few(exchanges) {
+        over::<M>(check_ways::<M>(alloc, &asks, first.replies()))?;
+    }
     match script_of(alloc, lines.as_slice())? {
         Some(script) => Ok(Some(Scripted {
             line: number,
@@ -55,29 +57,29 @@ pub fn check_exchanges<S: Fresh + Drop, T: Fresh + Drop, U: Fresh + Drop>(
     }
 }
 
-fn check_ways<S: Fresh + Drop>(
+fn check_ways<K: StoreKind>(
     alloc: Global,
     asks: &Asks,
     first: &[Replied],
 ) -> Result<(), CaseFault> {
     let exchanges = asks.exchanges.as_slice();
-    check_way::<S>(alloc, exchanges, WHOLE, first)?;
-    check_way::<S>(alloc, exchanges, ONE_BY_ONE, first)?;
-    check_handled::<S>(alloc, exchanges, first)?;
-    check_run::<S>(alloc, exchanges, first)?;
+    check_way::<K>(alloc, exchanges, WHOLE, first)?;
+    check_way::<K>(alloc, exchanges, ONE_BY_ONE, first)?;
+    check_handled::<K>(alloc, exchanges, first)?;
+    check_run::<K>(alloc, exchanges, first)?;
     if asks.is_spelling {
         return Ok(());
     }
-    check_anew::<S>(alloc, exchanges, first)
+    check_anew::<K>(alloc, exchanges, first)
 }
 
 // Each request written anew gets the reply that came on the first way.
-fn check_anew<S: Fresh + Drop>(
+fn check_anew<K: StoreKind>(
     alloc: Global,
     exchanges: &[Exchange],
     first: &[Replied],
 ) -> Result<(), CaseFault> {
-    let mut store = S::fresh(alloc)?;
+    let mut store = K::fresh(alloc)?;
     let inputs = written_anew(alloc, exchanges)?;
     let anew = connected(alloc, &mut store, inputs, WHOLE.most)?;
     check_same(alloc, exchanges, "request_text", first, anew.replies())

@@ -10,4 +10,4 @@ mod ways;
 pub use exchanges::{Scripted, check_exchanges};
 pub use machine::check_machine;
 pub use messages::check_messages;
-pub use ways::Fresh;
+pub use ways::StoreKind;

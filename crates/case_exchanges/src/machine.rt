@@ -1,6 +1,6 @@
 //! A machine that makes every card of a batch.
 use crate::typed::reply_to;
-use crate::ways::{Fresh, over};
+use crate::ways::{StoreKind, over};
 use case_files::{CaseFault, check_bytes, post};
 use case_plans::{Printed, put_command, put_name};
 use job_core::{JobStore, Reply};
@@ -8,16 +8,16 @@ use std::alloc::Global;
 use store_data::Product;
 
 /// A machine is handed the commands that were printed.
-pub fn check_machine<S: Fresh + Drop>(alloc: Global, printed: &Printed) -> Result<(), CaseFault> {
-    let handed = handed_out::<S>(alloc, printed)?;
+pub fn check_machine<K: StoreKind>(alloc: Global, printed: &Printed) -> Result<(), CaseFault> {
+    let handed = handed_out::<K>(alloc, printed)?;
     let (wanted, came) = (printed.text.as_bytes(), handed.as_bytes());
-    over::<S>(check_bytes(alloc, printed.line, "a machine", wanted, came))
+    over::<K>(check_bytes(alloc, printed.line, "a machine", wanted, came))
 }
 
 // The commands that a machine is handed for each record of a batch, each answered 9000, as they are printed.
-fn handed_out<S: Fresh + Drop>(alloc: Global, printed: &Printed) -> Result<String, CaseFault> {
+fn handed_out<K: StoreKind>(alloc: Global, printed: &Printed) -> Result<String, CaseFault> {
     let records = printed.records;
-    let mut store = S::fresh(alloc)?;
+    let mut store = K::fresh(alloc)?;
     stock(alloc, &mut store, printed)?;
     let mut text = String::new(alloc);
     let mut number = 1;

@@ -1,8 +1,8 @@
 //! Messages as bytes, and the bytes that answer them.
 use crate::exchanges::exchange;
 use crate::ways::{
-    Exchange, Fresh, ONE_BY_ONE, WHOLE, Way, check_few, check_wanted, check_way, connected, inputs,
-    over, served,
+    Exchange, ONE_BY_ONE, StoreKind, WHOLE, Way, are_few, check_wanted, check_way, connected,
+    inputs, over, served,
 };
 use case_files::{Case, CaseFault, Line, Wanted, check_bytes, put_bytes};
 use job_core::JobStore;
@@ -21,9 +21,9 @@ const BEHIND: Way = Way {
     behind: b"GET / HTTP/1.1\r\n\r\n",
 };
 
-/// Runs a case on every way over a store of each of two kinds, and where it has few messages, whole over one of a third kind; each way has
-/// a store of its own. The same comes on all.
-pub fn check_messages<S: Fresh + Drop, T: Fresh + Drop, U: Fresh + Drop>(
+/// Runs a case on every way over a store of each of two kinds, and where it has few messages, of a third kind; each way has a store of its
+/// own. The same comes on all.
+pub fn check_messages<K: StoreKind, L: StoreKind, M: StoreKind>(
     alloc: Global,
     case: &Case,
 ) -> Result<(), CaseFault> {
@@ -33,27 +33,30 @@ pub fn check_messages<S: Fresh + Drop, T: Fresh + Drop, U: Fresh + Drop>(
     };
     let exchanges = messages_of(alloc, lines)?;
     let exchanges = exchanges.as_slice();
-    let first = served::<S>(alloc, exchanges, WHOLE)?;
-    over::<S>(check_wanted(alloc, exchanges, WHOLE.name, first.replies(), true))?;
-    over::<S>(check_ways::<S>(alloc, exchanges, first.replies(), is_cut))?;
-    over::<T>(check_ways::<T>(alloc, exchanges, first.replies(), is_cut))?;
-    check_few::<U>(alloc, exchanges, first.replies())
+    let first = served::<K>(alloc, exchanges, WHOLE)?;
+    over::<K>(check_wanted(alloc, exchanges, WHOLE.name, first.replies(), true))?;
+    over::<K>(check_ways::<K>(alloc, exchanges, first.replies(), is_cut))?;
+    over::<L>(check_ways::<L>(alloc, exchanges, first.replies(), is_cut))?;
+    if are_few(exchanges) {
+        over::<M>(check_ways::<M>(alloc, exchanges, first.replies(), is_cut))?;
+    }
+    Ok(())
 }
 
-fn check_ways<S: Fresh + Drop>(
+fn check_ways<K: StoreKind>(
     alloc: Global,
     exchanges: &[Exchange],
     first: &[Replied],
     is_cut: bool,
 ) -> Result<(), CaseFault> {
-    check_way::<S>(alloc, exchanges, WHOLE, first)?;
-    check_way::<S>(alloc, exchanges, PIECES, first)?;
-    check_way::<S>(alloc, exchanges, ONE_BY_ONE, first)?;
+    check_way::<K>(alloc, exchanges, WHOLE, first)?;
+    check_way::<K>(alloc, exchanges, PIECES, first)?;
+    check_way::<K>(alloc, exchanges, ONE_BY_ONE, first)?;
     if are_answered(exchanges) {
-        check_way::<S>(alloc, exchanges, BEHIND, first)?;
+        check_way::<K>(alloc, exchanges, BEHIND, first)?;
     }
     if is_cut {
-        check_cut::<S>(alloc, exchanges)?;
+        check_cut::<K>(alloc, exchanges)?;
     }
     Ok(())
 }
@@ -93,8 +96,8 @@ fn messages_of(alloc: Global, lines: &[Line]) -> Result<Vec<Exchange>, CaseFault
 }
 
 // Each message comes cut after every byte, on a connection of its own, and then whole.
-fn check_cut<S: Fresh + Drop>(alloc: Global, exchanges: &[Exchange]) -> Result<(), CaseFault> {
-    let mut store = S::fresh(alloc)?;
+fn check_cut<K: StoreKind>(alloc: Global, exchanges: &[Exchange]) -> Result<(), CaseFault> {
+    let mut store = K::fresh(alloc)?;
     for exchange in exchanges {
         check_fronts(alloc, &mut store, exchange)?;
         let one = std::slice::from_ref(exchange);

@@ -4,7 +4,7 @@ ghost use Rattle.job_core.specs.Requests.{IsArrival, IsCall};
 ghost use Rattle.wire.specs.Asks.{IsInRange};
 ghost use Rattle.wire.specs.Sending.{IsSendable};
 
-use crate::ways::{Exchange, Fresh};
+use crate::ways::{Exchange, StoreKind};
 use arrivals::{Kept, body_of, status_of};
 use case_files::{CaseFault, JSON, TEXT, check_bytes, reply_bytes};
 use job_core::{Arrival, Call, JobStore, Refusal, Reply, Request};
@@ -37,12 +37,12 @@ fn asked(alloc: Global, input: &[u8]) -> Result<Option<Asked>, CaseFault>
 }
 
 /// Each arrival by `handle` and each account by its call gives the reply that came on the first way.
-pub fn check_handled<S: Fresh + Drop>(
+pub fn check_handled<K: StoreKind>(
     alloc: Global,
     exchanges: &[Exchange],
     first: &[Replied],
 ) -> Result<(), CaseFault> {
-    let mut store = S::fresh(alloc)?;
+    let mut store = K::fresh(alloc)?;
     for (exchange, replied) in exchanges.iter().zip(first) {
         if let Some(came) = answered(alloc, &mut store, exchange.input.as_slice())? {
             let wanted = replied.written.as_slice();
@@ -120,13 +120,13 @@ fn told(alloc: Global, reply: &Reply) -> Result<Vec<u8>, CaseFault> {
 }
 
 /// The arrivals in one run give the replies that came on the first way.
-pub fn check_run<S: Fresh + Drop>(
+pub fn check_run<K: StoreKind>(
     alloc: Global,
     exchanges: &[Exchange],
     first: &[Replied],
 ) -> Result<(), CaseFault> {
     let arrivals = arrivals(alloc, exchanges)?;
-    let mut store = S::fresh(alloc)?;
+    let mut store = K::fresh(alloc)?;
     let mut outcomes = run(alloc, &mut store, arrivals.as_slice())?.into_iter();
     for (exchange, replied) in exchanges.iter().zip(first) {
         let Some(Asked::Arrival(_)) = asked(alloc, exchange.input.as_slice())? else {

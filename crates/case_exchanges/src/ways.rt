@@ -1,59 +1,22 @@
 //! Connections in memory, and what comes out of them.
 use case_files::{CaseFault, NO_STORE, Wanted, check_bytes};
-use faulty_store::FaultyStore;
 use job_core::JobStore;
-use list_store::ListStore;
-use schema::SqlStore;
 use server::{End, MemoryConnections, Replied, serve_all};
-use sqlite::{Connection, MemStore};
 use std::alloc::{AllocError, Global};
 
-/// A store that a case may have for itself, empty.
-pub trait Fresh: JobStore {
+/// A kind of stores, of which a case may have one for itself.
+pub trait StoreKind {
+    type Store: JobStore + Drop;
+
     /// An empty store.
-    fn fresh(alloc: Global) -> Result<Self, CaseFault>;
+    fn fresh(alloc: Global) -> Result<Self::Store, CaseFault>;
 
     /// What it is called where an answer differs.
     fn called() -> &'static str;
 }
 
-impl Fresh for ListStore {
-    fn fresh(alloc: Global) -> Result<ListStore, CaseFault> {
-        Ok(ListStore::new(alloc))
-    }
-
-    fn called() -> &'static str {
-        "lists"
-    }
-}
-
-impl Fresh for FaultyStore {
-    // Nothing is planned for its device.
-    fn fresh(alloc: Global) -> Result<FaultyStore, CaseFault> {
-        Ok(FaultyStore::new(alloc, None))
-    }
-
-    fn called() -> &'static str {
-        "lists behind a device"
-    }
-}
-
-impl Fresh for SqlStore<MemStore> {
-    fn fresh(alloc: Global) -> Result<SqlStore<MemStore>, CaseFault> {
-        let conn = Connection::open_in_memory(alloc)?;
-        match SqlStore::create(alloc, conn) {
-            Ok(store) => Ok(store),
-            Err(_) => Err(CaseFault::Memory),
-        }
-    }
-
-    fn called() -> &'static str {
-        "tables in memory"
-    }
-}
-
-/// Says that a way was gone over this store, where an answer differs.
-pub fn over<S: Fresh>(ended: Result<(), CaseFault>) -> Result<(), CaseFault> {
+/// Says that a way was gone over a store of this kind, where an answer differs.
+pub fn over<K: StoreKind>(ended: Result<(), CaseFault>) -> Result<(), CaseFault> {
     match ended {
         Err(
             CaseFault::Differs {
@@ -66,7 +29,7 @@ pub fn over<S: Fresh>(ended: Result<(), CaseFault>) -> Result<(), CaseFault> {
         ) => Err(CaseFault::Differs {
             line,
             way,
-            store: S::called(),
+            store: K::called(),
             wanted,
             came,
         }),
@@ -109,12 +72,12 @@ pub const ONE_BY_ONE: Way = Way {
 };
 
 /// The connections of a case, served in turn over a store of their own.
-pub fn served<S: Fresh + Drop>(
+pub fn served<K: StoreKind>(
     alloc: Global,
     exchanges: &[Exchange],
     way: Way,
 ) -> Result<MemoryConnections, CaseFault> {
-    let mut store = S::fresh(alloc)?;
+    let mut store = K::fresh(alloc)?;
     let inputs = inputs(alloc, exchanges, way.behind)?;
     connected(alloc, &mut store, inputs, way.most)
 }
@@ -135,26 +98,19 @@ pub fn inputs(
 }
 
 /// The same comes out of the connections of a case on another way.
-pub fn check_way<S: Fresh + Drop>(
+pub fn check_way<K: StoreKind>(
     alloc: Global,
     exchanges: &[Exchange],
     way: Way,
     first: &[Replied],
 ) -> Result<(), CaseFault> {
-    let again = served::<S>(alloc, exchanges, way)?;
+    let again = served::<K>(alloc, exchanges, way)?;
     check_same(alloc, exchanges, way.name, first, again.replies())
 }
 
-/// The same comes out of the connections of a case with few asks, whole, over a store of a third kind.
-pub fn check_few<S: Fresh + Drop>(
-    alloc: Global,
-    exchanges: &[Exchange],
-    first: &[Replied],
-) -> Result<(), CaseFault> {
-    if exchanges.len() > FEW {
-        return Ok(());
-    }
-    over::<S>(check_way::<S>(alloc, exchanges, WHOLE, first))
+/// A case of so many connections is gone over the slower store too.
+pub fn are_few(exchanges: &[Exchange]) -> bool {
+    exchanges.len() <= FEW
 }
 
 /// These inputs, served in turn over this store.

@@ -3,19 +3,17 @@
 
 mod drills;
 mod feeds;
+mod stores;
 
 use case_exchanges::{check_exchanges, check_machine, check_messages};
 use case_files::{Case, CaseFault, Repeats, cases};
 use case_plans::{Table, check_plan, check_table};
 use drills::{check_script, check_scripted};
-use faulty_store::FaultyStore;
 use feeds::check_feed;
-use list_store::ListStore;
-use schema::SqlStore;
-use sqlite::MemStore;
 use std::alloc::Global;
 use std::process::ExitCode;
 use std::{env, fs, io};
+use stores::{Device, Lists, Tables};
 
 const USAGE: &str =
     "usage: worked FILE.. (.plan, .exchange, .message, .drill, .feed, .grouping, .record, .word)";
@@ -109,19 +107,17 @@ fn run_case(alloc: Global, kind: Kind, case: Case) -> Result<(), CaseFault> {
     match kind {
         Kind::Plan => match check_plan(alloc, &case)? {
             Some(printed) => {
-                check_machine::<ListStore>(alloc, &printed)?;
-                check_machine::<FaultyStore>(alloc, &printed)?;
-                check_machine::<SqlStore<MemStore>>(alloc, &printed)
+                check_machine::<Lists>(alloc, &printed)?;
+                check_machine::<Device>(alloc, &printed)?;
+                check_machine::<Tables>(alloc, &printed)
             }
             None => Ok(()),
         },
-        Kind::Exchange => match check_exchanges::<ListStore, FaultyStore, SqlStore<MemStore>>(
-            alloc, case,
-        )? {
+        Kind::Exchange => match check_exchanges::<Lists, Device, Tables>(alloc, case)? {
             Some(scripted) => check_scripted(alloc, &scripted),
             None => Ok(()),
         },
-        Kind::Message => check_messages::<ListStore, FaultyStore, SqlStore<MemStore>>(alloc, &case),
+        Kind::Message => check_messages::<Lists, Device, Tables>(alloc, &case),
         Kind::Drill => check_script(alloc, &case),
         Kind::Feed => check_feed(alloc, &case),
         Kind::Table(table) => check_table(alloc, table, &case),
