@@ -26,7 +26,7 @@ from typing import Any, Generator, NamedTuple
 from served import Server, exchange, free_port, imported, parts, request
 
 sys.path += [str(pathlib.Path(__file__).resolve().parents[1] / name) for name in (".", "audit")]
-from adopt import SHAPES, Size, contents  # noqa: E402
+from adopt import SHAPES, Size, all_good  # noqa: E402
 from contents import rows  # noqa: E402
 from make_batch import card  # noqa: E402
 from sound_files import make  # noqa: E402
@@ -232,7 +232,7 @@ def over_file(program: str, yardstick: str, folder: pathlib.Path, count: int, ca
 
 def start_on_sessions(program: str, folder: pathlib.Path) -> None:
     database = folder / "sessions.db"
-    make(database, rows(contents(Size(98, 1))), SHAPES["our own tables"])
+    make(database, rows(all_good(Size(98, 1))), SHAPES["our own tables"])
     link = sqlite3.connect(database)
     begun = time.process_time()
     if link.execute("PRAGMA integrity_check").fetchall() != [("ok",)] or link.execute("PRAGMA foreign_key_check").fetchall():
