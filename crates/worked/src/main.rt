@@ -13,7 +13,7 @@ use feeds::check_feed;
 use std::alloc::Global;
 use std::process::ExitCode;
 use std::{env, fs, io};
-use stores::{Device, Lists, Tables};
+use stores::{Lists, ListsBehindDevice, Tables};
 
 const USAGE: &str =
     "usage: worked FILE.. (.plan, .exchange, .message, .drill, .feed, .grouping, .record, .word)";
@@ -108,16 +108,16 @@ fn run_case(alloc: Global, kind: Kind, case: Case) -> Result<(), CaseFault> {
         Kind::Plan => match check_plan(alloc, &case)? {
             Some(printed) => {
                 check_machine::<Lists>(alloc, &printed)?;
-                check_machine::<Device>(alloc, &printed)?;
+                check_machine::<ListsBehindDevice>(alloc, &printed)?;
                 check_machine::<Tables>(alloc, &printed)
             }
             None => Ok(()),
         },
-        Kind::Exchange => match check_exchanges::<Lists, Device, Tables>(alloc, case)? {
+        Kind::Exchange => match check_exchanges::<Lists, ListsBehindDevice, Tables>(alloc, case)? {
             Some(scripted) => check_scripted(alloc, &scripted),
             None => Ok(()),
         },
-        Kind::Message => check_messages::<Lists, Device, Tables>(alloc, &case),
+        Kind::Message => check_messages::<Lists, ListsBehindDevice, Tables>(alloc, &case),
         Kind::Drill => check_script(alloc, &case),
         Kind::Feed => check_feed(alloc, &case),
         Kind::Table(table) => check_table(alloc, table, &case),

@@ -23,9 +23,9 @@ impl StoreKind for Lists {
 }
 
 /// Lists behind a device for which no fault is planned.
-pub struct Device;
+pub struct ListsBehindDevice;
 
-impl StoreKind for Device {
+impl StoreKind for ListsBehindDevice {
     type Store = FaultyStore;
 
     fn fresh(alloc: Global) -> Result<FaultyStore, CaseFault> {
