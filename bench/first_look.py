@@ -29,7 +29,7 @@ def show(port, method, target, body=None):
 
 
 class Shown(driver.Machine):
-    """A machine that tells which command goes to its card, and where a reply was lost."""
+    """A machine that prints each command that goes to its card, and where a reply was lost."""
 
     def send(self, body):
         reply = super().send(body)
@@ -53,7 +53,7 @@ def main():
     show(port, "POST", "/c/office/1", '{"do":"product","product":"P1","max":255,"low":0,"check":true}')
     show(port, "POST", "/c/office/2", '{"do":"lot","lot":"L1","product":"P1","first":1000,"count":4}')
     show(port, "POST", "/c/office/3/batch/B1/P1", CARDS.read_bytes())
-    machine = Shown(port, "m1", 1, LOSE)
+    machine = Shown(port, "m1", driver.new_boot(), LOSE)
     machine.start()
     blank = 1000
     while machine.make("B1", blank) is not None:

@@ -13,6 +13,7 @@ Threads take turns as they like, so two runs by one seed aren't the same, but ea
 """
 import argparse
 import json
+import os
 import pathlib
 import random
 import socket
@@ -465,6 +466,7 @@ def main() -> int:
     words.add_argument("--cards", type=int, default=1_000)
     words.add_argument("--machines", type=int, default=20)
     words.add_argument("--persod", type=pathlib.Path, default=PERSOD)
+    os.environ.pop("PERSOD_LOG", None)
     with tempfile.TemporaryDirectory() as folder:
         return run(Floor(words.parse_args(), pathlib.Path(folder)))
 

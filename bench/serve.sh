@@ -1,11 +1,17 @@
 #!/usr/bin/env bash
-# Proves and builds persod, and runs it in a script of bench/serve: exchanges, kills, full_disk, hostile or speed, with the words that follow, as in
-# bench/serve.sh kills --folder /var/tmp
-# exchanges needs curl, full_disk a root who may mount, speed a C compiler with SQLite's library. Where PERSOD names a program, that one is run, and
-# nothing is built.
+# Proves and builds persod, and runs it in a script of bench/serve, with the words that follow, as in
+#   bench/serve.sh kills --folder /var/tmp
+#   exchanges, kills, full_disk, hostile, speed   what is answered, what a stop leaves, and how fast
+#   at_served, opened, lost_log, restored         copies of the file, and what a start says of it
+#   slow_starts, used_boot, rejected              machines that are fed
+#   full_events, causes                           event lines of a full disk, and of each file that is refused
+#   loop, proxy                                   the script and the text for nginx that docs/OPERATING.md has
+#   disk                                          how much of the disk a card takes
+# exchanges needs curl, full_disk and full_events a root who may mount, proxy nginx, speed a C compiler with SQLite's library. Where PERSOD names a program,
+# that one is run, and nothing is built.
 set -eu
 cd "$(dirname "$0")"
-what=${1:?exchanges, kills, full_disk, hostile or speed}
+what=${1:?a name of a script in bench/serve, as exchanges}
 shift
 made=$(mktemp -d)
 trap 'rm -rf "$made"' EXIT

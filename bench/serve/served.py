@@ -1,6 +1,7 @@
 """`persod serve` as a process over a file, and messages to it over loopback. Linux alone."""
 import atexit
 import json
+import os
 import pathlib
 import signal
 import socket
@@ -23,13 +24,20 @@ class Stopped(Exception):
 
 
 class Server:
-    """A server over a file. It listens as soon as it is made, unless it is told not to wait for that."""
+    """A server over a file. It listens as soon as it is made, unless it is told not to wait for that. With a path for its event lines it appends them
+    there, the usual ones or those of another level."""
 
-    def __init__(self, program: str, database: pathlib.Path, port: int, turns: int = MOST_TURNS, wait: bool = True) -> None:
+    def __init__(
+        self, program: str, database: pathlib.Path, port: int, turns: int = MOST_TURNS, wait: bool = True, events: Optional[pathlib.Path] = None,
+        level: str = "1",
+    ) -> None:
         self.port, self.turns = port, turns
         words = self.command(program, database)
+        errors = events.open("ab") if events else subprocess.PIPE
         self.begun = time.monotonic()
-        self.process = subprocess.Popen(words, stdin=subprocess.DEVNULL, stdout=subprocess.PIPE, stderr=subprocess.PIPE)
+        self.process = subprocess.Popen(
+            words, stdin=subprocess.DEVNULL, stdout=subprocess.PIPE, stderr=errors, env=environment(level if events else "")
+        )
         atexit.register(self.process.kill)
         if wait:
             self.listen()
@@ -50,7 +58,7 @@ class Server:
     def wait(self) -> tuple[int, str]:
         """Its status, and what it told that wasn't read yet."""
         out, err = self.process.communicate(timeout=PATIENCE)
-        return self.process.returncode, (out + err).decode()
+        return self.process.returncode, (out + (err or b"")).decode()
 
     def served(self) -> None:
         """It ends by itself, after all its turns."""
@@ -73,6 +81,12 @@ class Server:
     def processor(self) -> float:
         """The processor time so far, in seconds."""
         return int(pathlib.Path(f"/proc/{self.process.pid}/schedstat").read_text().split()[0]) / 1e9
+
+
+def environment(level: str) -> dict[str, str]:
+    """What a program finds in its environment: event lines of this level, or none."""
+    others = {name: value for name, value in os.environ.items() if name != "PERSOD_LOG"}
+    return {**others, "PERSOD_LOG": level} if level else others
 
 
 def _status(child: int, name: str) -> int:

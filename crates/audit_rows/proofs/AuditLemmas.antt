@@ -9,15 +9,16 @@ use Rattle.std.proofs.lemmas.List.Folds.{find_at}
 use Rattle.std.proofs.lemmas.List.Sums.{passes_at_first}
 use Rattle.std.proofs.lemmas.Option.{slice_get_within}
 use Rattle.job_core.specs.Facts.{Batch}
-use Rattle.job_core.specs.Sound.{AreApart, AreNamedOnce, IsBatch, IsName}
+use Rattle.job_core.specs.Sound.{AreApart, AreLots, AreNamedOnce, AreProducts, IsBatch, IsName}
 use Rattle.table_rows.specs.Tables.{StoredBatch, StoredGrouping, StoredLot, StoredRecord, StoredSession, StoredWord, Tables}
 use Rattle.rows_of_facts.proofs.Lists.{flat_map_same}
 use Rattle.facts_of_rows.specs.Decided.{batch_of_row}
 use Rattle.table_rows.specs.Keys.{is_batch, is_grouping_of, is_record_of}
 use Rattle.audit_laws.specs.Audited.{IsAudited, IsAuditedRecord, IsAuditedSession, file_groupings, file_keys, file_records, file_rows, grouping_of, is_session_of, key_of}
-use Rattle.audit_rows.specs.Audit.{AreBlanks, AreCards, AreNumbered, AreReplies, IsIdOf}
+use Rattle.audit_rows.specs.Audit.{AreFewOnce, AreOwned, IsIdOf}
+use Rattle.audit_rows.specs.Rules.{AllHold, blank_rules, card_rules, named_rules, reply_rules, rules}
 use Rattle.rows_answer.proofs.Finding.{AllPairs-from_map}
-use Rattle.ordered_rows.specs.Order.{AreReady, AreSorted}
+use Rattle.ordered_rows.specs.Order.{AreReady, AreSorted, lots_of}
 use Rattle.audit_cards.specs.Sessions.{IsAuditedFile}
 use Rattle.ordered_rows.proofs.IdLemmas.{id_at}
 use Rattle.ordered_rows.proofs.OrderLemmas.{first_rising}
@@ -75,98 +76,120 @@ module _ (t : Tables) (ids : map (λ (b : StoredBatch). b.id) t.batches ≡ rang
   ids_of n f own = All-joined (λ x. IsIdOf (length t.batches) (n x)) f t.batches
       (λ i d within k e inside. subst (IsIdOf (length t.batches)) (sym (own (get_or t.batches i d) k e inside)) (own_ids i d within))
 
-  -- ---- from the parts
+module _ (t : Tables) (named : AllHold named_rules t) where
+  abbrev products_of : AreProducts t.products
+  products_of = named.0
 
-  module _ (sorted : AreSorted t) (numbered : AreNumbered t) (files : All (IsAuditedFile t) t.batches) where
-    records_are : map key_of t.records ≡ flat_map (file_keys t) t.batches
-    records_are =
-        ap (map key_of) (by_owner (λ (r : StoredRecord). r.batch) (λ (b : StoredBatch). b.id) t.batches t.records ids
-        (first_rising (λ (r : StoredRecord). r.batch) (λ (r : StoredRecord). r.place ∷ []) t.records sorted.in_order.records) numbered.owned.records_are)
-        ∙ map-flat_map key_of (λ (b : StoredBatch). filter (is_record_of b.id) t.records) t.batches
-        ∙ flat_map_same (λ (b : StoredBatch). map key_of (filter (is_record_of b.id) t.records)) (file_keys t) t.batches (λ i d within. (files i d within).records)
+  abbrev lots_are : AreLots t.products (lots_of t.lots)
+  lots_are = named.1.0
 
-    groupings_are : t.groupings ≡ flat_map (file_groupings t) t.batches
-    groupings_are =
-        by_owner (λ (g : StoredGrouping). g.batch) (λ (b : StoredBatch). b.id) t.batches t.groupings ids
-        (first_rising (λ (g : StoredGrouping). g.batch) (λ (g : StoredGrouping). g.line ∷ []) t.groupings sorted.in_order.groupings) numbered.owned.groupings_are
-        ∙ flat_map_same (λ (b : StoredBatch). filter (is_grouping_of b.id) t.groupings) (file_groupings t) t.batches (λ i d within. (files i d within).groupings)
+  abbrev batches_are : AreFewOnce t.batches
+  batches_are = named.1.1.0
 
-    pub audited : AreCards t → AreBlanks t → AreReplies t.replies t.marks → IsAudited t
-    audited cards blanks replies = record {
-      products = numbered.named.products_are;
-      lots = numbered.named.lots_are;
-      batches = record {
-        few = omega (arith, numbered.named.batches_are.0, length-map t.batches batch_of_row);
-        once = subst AreNamedOnce (names_are t.batches) (named_once (λ (b : StoredBatch). b.name) t.batches numbered.named.batches_are.1);
-        each = All-map (IsBatch t.products) batch_of_row t.batches (λ i d within. (files i d within).batch);
-      };
-      batch_ids = ids;
-      records = records_are;
-      groupings = groupings_are;
-      session_ids = numbered.ids.session_ids;
-      words = cards.words;
-      each_session = each_row (λ (s : StoredSession). s.batch) (IsAuditedSession t) t.sessions numbered.owned.sessions_are (λ i d within. (files i d within).each_session);
-      machines = cards.machines;
-      each_record = each_row (λ (r : StoredRecord). r.batch) (IsAuditedRecord t) t.records numbered.owned.records_are (λ i d within. (files i d within).each_record);
-      remakes = cards.remakes;
-      each_batch = λ i d within. (files i d within).counts;
-      each_lot = blanks.each_lot;
-      blanks_once = blanks.once;
-      each_blank = blanks.each;
-      opened = blanks.opened;
-      kept = replies.kept;
-      kept_once = replies.kept_once;
-      marks = replies.marks_are;
-      marked_once = replies.marked_once;
-      above = replies.above;
-    }
+  abbrev pub batch_ids : map (λ (b : StoredBatch). b.id) t.batches ≡ range_with_len 1 (length t.batches)
+  batch_ids = named.1.1.1.0
 
--- ---- what the first parts make ready
+  abbrev session_ids : map (λ (s : StoredSession). s.id) t.sessions ≡ range_with_len 1 (length t.sessions)
+  session_ids = named.1.1.1.1.0
 
-module _ (t : Tables) (sorted : AreSorted t) (numbered : AreNumbered t) where
+  abbrev owned : AreOwned (length t.batches) t.records t.groupings t.sessions
+  owned = named.1.1.1.1.1.0
+
+-- ---- from the rules
+
+module _ (t : Tables) (sorted : AreSorted t) (named : AllHold named_rules t) (files : All (IsAuditedFile t) t.batches) where
+  abbrev ids : map (λ (b : StoredBatch). b.id) t.batches ≡ range_with_len 1 (length t.batches)
+  ids = batch_ids t named
+
+  records_are : map key_of t.records ≡ flat_map (file_keys t) t.batches
+  records_are =
+      ap (map key_of) (by_owner (λ (r : StoredRecord). r.batch) (λ (b : StoredBatch). b.id) t.batches t.records ids
+      (first_rising (λ (r : StoredRecord). r.batch) (λ (r : StoredRecord). r.place ∷ []) t.records sorted.in_order.records) (owned t named).records_are)
+      ∙ map-flat_map key_of (λ (b : StoredBatch). filter (is_record_of b.id) t.records) t.batches
+      ∙ flat_map_same (λ (b : StoredBatch). map key_of (filter (is_record_of b.id) t.records)) (file_keys t) t.batches (λ i d within. (files i d within).records)
+
+  groupings_are : t.groupings ≡ flat_map (file_groupings t) t.batches
+  groupings_are =
+      by_owner (λ (g : StoredGrouping). g.batch) (λ (b : StoredBatch). b.id) t.batches t.groupings ids
+      (first_rising (λ (g : StoredGrouping). g.batch) (λ (g : StoredGrouping). g.line ∷ []) t.groupings sorted.in_order.groupings) (owned t named).groupings_are
+      ∙ flat_map_same (λ (b : StoredBatch). filter (is_grouping_of b.id) t.groupings) (file_groupings t) t.batches (λ i d within. (files i d within).groupings)
+
+  audited : AllHold card_rules t → AllHold blank_rules t → AllHold reply_rules t → IsAudited t
+  audited cards blanks replies = record {
+    products = products_of t named;
+    lots = lots_are t named;
+    batches = record {
+      few = omega (arith, (batches_are t named).0, length-map t.batches batch_of_row);
+      once = subst AreNamedOnce (names_are t.batches) (named_once (λ (b : StoredBatch). b.name) t.batches (batches_are t named).1);
+      each = All-map (IsBatch t.products) batch_of_row t.batches (λ i d within. (files i d within).batch);
+    };
+    batch_ids = ids;
+    records = records_are;
+    groupings = groupings_are;
+    session_ids = session_ids t named;
+    words = cards.0;
+    each_session = each_row t ids (λ (s : StoredSession). s.batch) (IsAuditedSession t) t.sessions (owned t named).sessions_are (λ i d within. (files i d within).each_session);
+    machines = cards.1.1.0;
+    each_record = each_row t ids (λ (r : StoredRecord). r.batch) (IsAuditedRecord t) t.records (owned t named).records_are (λ i d within. (files i d within).each_record);
+    remakes = cards.1.0;
+    each_batch = λ i d within. (files i d within).counts;
+    each_lot = blanks.0;
+    blanks_once = blanks.1.0;
+    each_blank = blanks.1.1.0;
+    opened = blanks.1.1.1.0;
+    marks = replies.0;
+    kept = replies.1.0;
+    marked_once = replies.1.1.0;
+    above = replies.1.1.1.0;
+    kept_once = replies.1.1.1.1.0;
+  }
+
+-- rows in order that keep all rules pass the audit
+pub rows_pass : (t : Tables) → AreSorted t → AllHold rules t → IsAudited t
+rows_pass t sorted (p, (l, (b, (bi, (si, (o, (f, (w, (r, (m, (lc, (bt, (bl, (ob, replies)))))))))))))) =
+    audited t sorted (p, (l, (b, (bi, (si, (o, tt)))))) f (w, (r, (m, tt))) (lc, (bt, (bl, (ob, tt)))) replies
+
+-- ---- what the first rules make ready
+
+module _ (t : Tables) (sorted : AreSorted t) (named : AllHold named_rules t) where
   pub ready_of : AreReady t
   ready_of =
-      let lots = lots_in_range t.products t.lots numbered.named.lots_are in
+      let lots = lots_in_range t.products t.lots (lots_are t named) in
       record {
         records = first_rising (λ (r : StoredRecord). r.batch) (λ (r : StoredRecord). r.place ∷ []) t.records sorted.in_order.records;
         groupings = first_rising (λ (g : StoredGrouping). g.batch) (λ (g : StoredGrouping). g.line ∷ []) t.groupings sorted.in_order.groupings;
         words = first_rising (λ (w : StoredWord). w.session) (λ (w : StoredWord). w.place ∷ []) t.words sorted.in_order.words;
-        products = numbered.named.products_are;
+        products = products_of t named;
         lots = record {
           rising = sorted.lots;
           some = λ k d within. (lots k d within).least;
           range = λ k d within. (lots k d within).range;
-          apart = AllPairs-from_map AreApart (λ (l : StoredLot). l.lot) t.lots numbered.named.lots_are.apart;
+          apart = AllPairs-from_map AreApart (λ (l : StoredLot). l.lot) t.lots (lots_are t named).apart;
         };
-        batch_ids = numbered.ids.batch_ids;
+        batch_ids = batch_ids t named;
       }
 
   pub machines_named : All (IsAuditedFile t) t.batches → All (λ (s : StoredSession). IsName s.machine) t.sessions
   machines_named files =
-      let each = each_row t numbered.ids.batch_ids (λ (s : StoredSession). s.batch) (IsAuditedSession t) t.sessions numbered.owned.sessions_are (λ i d within. (files i d within).each_session) in
+      let each = each_row t (batch_ids t named) (λ (s : StoredSession). s.batch) (IsAuditedSession t) t.sessions (owned t named).sessions_are (λ i d within. (files i d within).each_session) in
       λ k d within. (each k d within).machine
 
--- ---- to the parts
+-- ---- to the rules
 
 module _ (t : Tables) (a : IsAudited t) where
-  pub numbered_of : AreNumbered t
-  numbered_of = record {
-    named = record {
-      products_are = a.products;
-      lots_are = a.lots;
-      batches_are = (omega (arith, a.batches.few, length-map t.batches batch_of_row), once_named (λ (b : StoredBatch). b.name) t.batches (subst AreNamedOnce (sym (names_are t.batches)) a.batches.once));
-    };
-    ids = record { batch_ids = a.batch_ids; session_ids = a.session_ids };
-    owned = record {
-      records_are = All-unmapped key_of (λ (k : ℕ × (ℕ × List ℕ)). IsIdOf (length t.batches) k.0) t.records
-          (subst (All (λ (k : ℕ × (ℕ × List ℕ)). IsIdOf (length t.batches) k.0)) (sym a.records) (ids_of t a.batch_ids (λ (k : ℕ × (ℕ × List ℕ)). k.0) (file_keys t) (own_keys t a.batch_ids)));
-      groupings_are = subst (All (λ (g : StoredGrouping). IsIdOf (length t.batches) g.batch)) (sym a.groupings)
-          (ids_of t a.batch_ids (λ (g : StoredGrouping). g.batch) (file_groupings t) (own_groupings t a.batch_ids));
-      sessions_are = λ k d within. let s = a.each_session k d within in id_found t a.batch_ids (get_or t.sessions k d).batch s.batch s.batch_is;
-    };
+  owners_of : AreOwned (length t.batches) t.records t.groupings t.sessions
+  owners_of = record {
+    records_are = All-unmapped key_of (λ (k : ℕ × (ℕ × List ℕ)). IsIdOf (length t.batches) k.0) t.records
+        (subst (All (λ (k : ℕ × (ℕ × List ℕ)). IsIdOf (length t.batches) k.0)) (sym a.records) (ids_of t a.batch_ids (λ (k : ℕ × (ℕ × List ℕ)). k.0) (file_keys t) (own_keys t a.batch_ids)));
+    groupings_are = subst (All (λ (g : StoredGrouping). IsIdOf (length t.batches) g.batch)) (sym a.groupings)
+        (ids_of t a.batch_ids (λ (g : StoredGrouping). g.batch) (file_groupings t) (own_groupings t a.batch_ids));
+    sessions_are = λ k d within. let s = a.each_session k d within in id_found t a.batch_ids (get_or t.sessions k d).batch s.batch s.batch_is;
   }
 
-  pub files_of : All (IsAuditedFile t) t.batches
+  few_of : AreFewOnce t.batches
+  few_of = (omega (arith, a.batches.few, length-map t.batches batch_of_row), once_named (λ (b : StoredBatch). b.name) t.batches (subst AreNamedOnce (sym (names_are t.batches)) a.batches.once))
+
+  files_of : All (IsAuditedFile t) t.batches
   files_of = λ i d within.
       let b : StoredBatch = get_or t.batches i d in
       record {
@@ -182,11 +205,47 @@ module _ (t : Tables) (a : IsAudited t) where
         counts = a.each_batch i d within;
       }
 
-  pub cards_of : AreCards t
-  cards_of = record { words = a.words; machines = a.machines; remakes = a.remakes }
-
-  pub blanks_of : AreBlanks t
-  blanks_of = record { each_lot = a.each_lot; once = a.blanks_once; each = a.each_blank; opened = a.opened }
-
-  pub replies_of : AreReplies t.replies t.marks
-  replies_of = record { kept = a.kept; kept_once = a.kept_once; marks_are = a.marks; marked_once = a.marked_once; above = a.above }
+  pub rules_hold : AllHold rules t
+  rules_hold = (
+    a.products,
+    (
+      a.lots,
+      (
+        few_of,
+        (
+          a.batch_ids,
+          (
+            a.session_ids,
+            (
+              owners_of,
+              (
+                files_of,
+                (
+                  a.words,
+                  (
+                    a.remakes,
+                    (
+                      a.machines,
+                      (
+                        a.each_lot,
+                        (
+                          a.blanks_once,
+                          (
+                            a.each_blank,
+                            (
+                              a.opened,
+                              (a.marks, (a.kept, (a.marked_once, (a.above, (a.kept_once, tt))))),
+                            ),
+                          ),
+                        ),
+                      ),
+                    ),
+                  ),
+                ),
+              ),
+            ),
+          ),
+        ),
+      ),
+    ),
+  )

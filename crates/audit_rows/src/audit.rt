@@ -3,14 +3,14 @@ ghost use Rattle.std.specs.Prelude.{◌≡◌, ◌≤◌, ◌↔◌, ℕ, List, 
 ghost use Rattle.job_core.specs.Sound.{IsName};
 ghost use Rattle.table_rows.specs.Keys.{is_running_on};
 ghost use Rattle.table_rows.specs.Tables.{StoredSession as SessionValue};
-ghost use Rattle.audit_laws.specs.Audited.{IsAudited};
-ghost use Rattle.audit_rows.specs.Audit.{AreCards};
+ghost use Rattle.audit_rows.specs.Rules.{IsFirstFailing, card_rules, rules};
 ghost use Rattle.ordered_rows.specs.Order.{AreReady, AreSorted};
 
-use crate::blanks::are_blanks;
+use crate::blanks::failing_blank;
 use crate::machines::run_once;
-use crate::numbered::are_numbered;
-use crate::replies::are_replies;
+use crate::numbered::failing_name;
+use crate::replies::failing_reply;
+use crate::rule::Rule;
 use audit_cards::{has_files, has_remakes, has_words};
 use std::alloc::{AllocError, Global};
 use stored_rows::Tables;
@@ -24,40 +24,45 @@ fn has_machines(alloc: Global, tables: &Tables) -> Result<bool, AllocError>
     run_once(alloc, &tables.sessions)
 }
 
-// Whether words, remakes and machines are as sessions and records say.
-fn are_cards(alloc: Global, tables: &Tables) -> Result<bool, AllocError>
+// The first rule that fails of those of words, remakes and machines.
+fn failing_card(alloc: Global, tables: &Tables) -> Result<Option<Rule>, AllocError>
     requires ready { AreReady tables.now }
     requires machines { All (λ (s : SessionValue). IsName s.machine) tables.now.sessions }
-    ensures { IfOk result (λ sound. IsTrue sound ↔ AreCards tables.now) }
+    ensures { IfOk result (IsFirstFailing card_rules tables.now) }
 {
     if !has_words(tables) {
-        return Ok(false);
+        return Ok(Some(Rule::Words));
     }
     if !has_remakes(tables) {
-        return Ok(false);
+        return Ok(Some(Rule::Remakes));
     }
-    has_machines(alloc, tables)
+    let once = has_machines(alloc, tables)?;
+    if !once {
+        return Ok(Some(Rule::Machines));
+    }
+    Ok(None)
 }
 
-/// Whether rows in order pass the audit.
-pub(crate) fn is_audited(alloc: Global, tables: &Tables) -> Result<bool, AllocError>
+/// The first rule that rows in order break.
+pub(crate) fn failing_rule(alloc: Global, tables: &Tables) -> Result<Option<Rule>, AllocError>
     requires { AreSorted tables.now }
-    ensures { IfOk result (λ sound. IsTrue sound ↔ IsAudited tables.now) }
+    ensures { IfOk result (IsFirstFailing rules tables.now) }
 {
-    if !are_numbered(tables) {
-        return Ok(false);
+    let named = failing_name(tables);
+    if named.is_some() {
+        return Ok(named);
     }
     let files = has_files(alloc, tables)?;
     if !files {
-        return Ok(false);
+        return Ok(Some(Rule::Files));
     }
-    let cards = are_cards(alloc, tables)?;
-    if !cards {
-        return Ok(false);
+    let card = failing_card(alloc, tables)?;
+    if card.is_some() {
+        return Ok(card);
     }
-    let blanks = are_blanks(alloc, tables)?;
-    if !blanks {
-        return Ok(false);
+    let blank = failing_blank(alloc, tables)?;
+    if blank.is_some() {
+        return Ok(blank);
     }
-    are_replies(alloc, tables)
+    failing_reply(alloc, tables)
 }

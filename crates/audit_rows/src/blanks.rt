@@ -8,10 +8,11 @@ ghost use Rattle.table_rows.specs.Tables.{StoredBlank as BlankValue, StoredLot a
 ghost use Rattle.table_rows.specs.Tables.{StoredSession as SessionValue};
 ghost use Rattle.facts_of_rows.specs.Decided.{discarded_rows};
 ghost use Rattle.audit_laws.specs.Audited.{IsAuditedBlank, IsAuditedLot, opened_rows};
-ghost use Rattle.audit_rows.specs.Audit.{AreBlanks};
+ghost use Rattle.audit_rows.specs.Rules.{IsFirstFailing, blank_rules};
 ghost use Rattle.ordered_rows.specs.Order.{AreReady, lots_of};
 
 use crate::once::are_once;
+use crate::rule::Rule;
 use ordered_rows::lot_of;
 use std::alloc::{AllocError, Global};
 use stored_rows::{StoredBlank, StoredLot, StoredSession, Tables};
@@ -267,21 +268,25 @@ fn has_opened(alloc: Global, tables: &Tables) -> Result<bool, AllocError>
     are_opened(alloc, &tables.blanks, &tables.sessions)
 }
 
-/// Whether blanks are as lots and sessions say.
-pub(crate) fn are_blanks(alloc: Global, tables: &Tables) -> Result<bool, AllocError>
+/// The first rule that fails of those of blanks.
+pub(crate) fn failing_blank(alloc: Global, tables: &Tables) -> Result<Option<Rule>, AllocError>
     requires { AreReady tables.now }
-    ensures { IfOk result (λ sound. IsTrue sound ↔ AreBlanks tables.now) }
+    ensures { IfOk result (IsFirstFailing blank_rules tables.now) }
 {
     let counted = has_counts(alloc, tables)?;
     if !counted {
-        return Ok(false);
+        return Ok(Some(Rule::LotCounters));
     }
     let once = has_once(alloc, tables)?;
     if !once {
-        return Ok(false);
+        return Ok(Some(Rule::BlankTwice));
     }
     if !has_lots(tables) {
-        return Ok(false);
+        return Ok(Some(Rule::BlankLots));
     }
-    has_opened(alloc, tables)
+    let opened = has_opened(alloc, tables)?;
+    if !opened {
+        return Ok(Some(Rule::OpenedBlanks));
+    }
+    Ok(None)
 }

@@ -1,4 +1,4 @@
-//! Whether the rows of the store's tables are those of sound contents.
+//! Whether the rows of the store's tables are those of sound contents, and where not, which rule fails.
 #![tactic(auto)]
 
 mod audit;
@@ -9,6 +9,8 @@ mod named;
 mod numbered;
 mod once;
 mod replies;
+mod rule;
 mod sound;
 
-pub use sound::is_sound;
+pub use rule::Rule;
+pub use sound::{first_failing, is_sound};

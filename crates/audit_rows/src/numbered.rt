@@ -1,42 +1,24 @@
 //! Names, ids, and the batches that rows name.
-ghost use Rattle.std.specs.Prelude.{◌≡◌, ◌↔◌, IsTrue, length};
-ghost use Rattle.audit_rows.specs.Audit.{AreFewOnce, AreIds, AreNamedRows, AreNumbered, AreOwned};
+ghost use Rattle.std.specs.Prelude.{◌≡◌, ◌↔◌, IsTrue, length, map};
+ghost use Rattle.std.specs.List.{range_with_len};
+ghost use Rattle.job_core.specs.Sound.{AreLots, AreProducts};
+ghost use Rattle.table_rows.specs.Tables.{StoredBatch as BatchValue};
+ghost use Rattle.table_rows.specs.Tables.{StoredSession as SessionValue};
+ghost use Rattle.ordered_rows.specs.Order.{lots_of};
+ghost use Rattle.audit_rows.specs.Audit.{AreFewOnce, AreOwned};
+ghost use Rattle.audit_rows.specs.Rules.{IsFirstFailing, named_rules};
 
 use crate::ids::{are_counted, have_ids};
 use crate::named::{are_lots, are_products};
 use crate::once::are_apart;
-use stored_rows::{
-    StoredBatch, StoredGrouping, StoredLot, StoredProduct, StoredRecord, StoredSession, Tables,
-};
+use crate::rule::Rule;
+use stored_rows::{StoredBatch, StoredGrouping, StoredRecord, StoredSession, Tables};
 
 // Whether batches are few, each with a name of its own.
 fn are_batches(batches: &[StoredBatch]) -> bool
     ensures { IsTrue result ↔ AreFewOnce batches.now }
 {
     batches.len() <= 4096 && are_apart(batches)
-}
-
-// Whether products, lots and batches are within their limits, each with a name of its own.
-fn are_named(products: &[StoredProduct], lots: &[StoredLot], batches: &[StoredBatch]) -> bool
-    ensures { IsTrue result ↔ AreNamedRows products.now lots.now batches.now }
-{
-    if !are_products(products) {
-        return false;
-    }
-    if !are_lots(products, lots) {
-        return false;
-    }
-    are_batches(batches)
-}
-
-// Whether the ids of batches and of sessions have no gap.
-fn are_ids(batches: &[StoredBatch], sessions: &[StoredSession]) -> bool
-    ensures { IsTrue result ↔ AreIds batches.now sessions.now }
-{
-    if !are_counted(batches) {
-        return false;
-    }
-    are_counted(sessions)
 }
 
 // Whether each record, grouping and session is of one of so many batches.
@@ -57,19 +39,42 @@ fn are_owned(
     have_ids(sessions, count)
 }
 
-// Whether what has a name is within its limits.
-fn has_names(tables: &Tables) -> bool
-    ensures { IsTrue result
-        ↔ AreNamedRows tables.now.products tables.now.lots tables.now.batches }
+// Whether products are within their limits.
+fn has_products(tables: &Tables) -> bool
+    ensures { IsTrue result ↔ AreProducts tables.now.products }
 {
-    are_named(&tables.products, &tables.lots, &tables.batches)
+    are_products(&tables.products)
 }
 
-// Whether ids have no gap.
-fn has_ids(tables: &Tables) -> bool
-    ensures { IsTrue result ↔ AreIds tables.now.batches tables.now.sessions }
+// Whether lots are within their limits.
+fn has_lots(tables: &Tables) -> bool
+    requires { AreProducts tables.now.products }
+    ensures { IsTrue result ↔ AreLots tables.now.products (lots_of tables.now.lots) }
 {
-    are_ids(&tables.batches, &tables.sessions)
+    are_lots(&tables.products, &tables.lots)
+}
+
+// Whether batches are within their limits.
+fn has_batches(tables: &Tables) -> bool
+    ensures { IsTrue result ↔ AreFewOnce tables.now.batches }
+{
+    are_batches(&tables.batches)
+}
+
+// Whether the ids of batches have no gap.
+fn has_batch_ids(tables: &Tables) -> bool
+    ensures { IsTrue result ↔ (map (λ (b : BatchValue). b.id) tables.now.batches
+        ≡ range_with_len 1 (length tables.now.batches)) }
+{
+    are_counted(tables.batches.as_slice())
+}
+
+// Whether the ids of sessions have no gap.
+fn has_session_ids(tables: &Tables) -> bool
+    ensures { IsTrue result ↔ (map (λ (s : SessionValue). s.id) tables.now.sessions
+        ≡ range_with_len 1 (length tables.now.sessions)) }
+{
+    are_counted(tables.sessions.as_slice())
 }
 
 // Whether each row's batch is there.
@@ -85,15 +90,27 @@ fn has_owners(tables: &Tables) -> bool
     )
 }
 
-/// Whether names, limits and ids are right, and each row's batch is there.
-pub(crate) fn are_numbered(tables: &Tables) -> bool
-    ensures { IsTrue result ↔ AreNumbered tables.now }
+/// The first rule that fails of those of names, limits, ids and each row's batch.
+pub(crate) fn failing_name(tables: &Tables) -> Option<Rule>
+    ensures { IsFirstFailing named_rules tables.now result }
 {
-    if !has_names(tables) {
-        return false;
+    if !has_products(tables) {
+        return Some(Rule::Products);
     }
-    if !has_ids(tables) {
-        return false;
+    if !has_lots(tables) {
+        return Some(Rule::Lots);
     }
-    has_owners(tables)
+    if !has_batches(tables) {
+        return Some(Rule::Batches);
+    }
+    if !has_batch_ids(tables) {
+        return Some(Rule::BatchIds);
+    }
+    if !has_session_ids(tables) {
+        return Some(Rule::SessionIds);
+    }
+    if !has_owners(tables) {
+        return Some(Rule::Owners);
+    }
+    None
 }

@@ -1,12 +1,13 @@
 //! Kept replies, and how far clients have released their numbers.
-ghost use Rattle.std.specs.Prelude.{◌≡◌, ◌≤◌, ◌<◌, ◌^◌, ◌⊎◌, ◌↔◌, false, IfOk, IsTrue, All, AllPairs};
-ghost use Rattle.std.specs.Prelude.{map};
+ghost use Rattle.std.specs.Prelude.{◌≡◌, ◌≤◌, ◌<◌, ◌^◌, ◌⊎◌, ◌↔◌, false, IfOk, IfSome, IsTrue, All};
+ghost use Rattle.std.specs.Prelude.{AllPairs, None, bytes_eq, map};
 ghost use Rattle.job_core.specs.Contents.{Entry, IsEntry, IsMark, Mark, is_above, is_of_number};
 ghost use Rattle.job_core.specs.Contents.{mark_of};
 ghost use Rattle.job_core.specs.Sound.{IsName};
-ghost use Rattle.audit_rows.specs.Audit.{AreMarked, AreReplies};
+ghost use Rattle.audit_rows.specs.Rules.{IsFirstFailing, reply_rules};
 
 use crate::once::{are_once, set_of};
+use crate::rule::Rule;
 use indexmap::IndexSet;
 use ordered_rows::is_name;
 use std::alloc::{AllocError, Global};
@@ -172,50 +173,86 @@ fn are_kept_once(alloc: Global, replies: &[StoredReply]) -> Result<bool, AllocEr
     are_once(alloc, &numbers)
 }
 
-// Whether marks are one of a client, and each reply is above its client's.
-fn are_marked(
-    alloc: Global,
-    replies: &[StoredReply],
-    marks: &[StoredMark],
-) -> Result<bool, AllocError>
-    requires replies { All IsEntry replies.now }
-    requires marks { All IsMark marks.now }
-    ensures { IfOk result (λ sound. IsTrue sound ↔ AreMarked replies.now marks.now) }
+// The clients of marks, where no client has two.
+fn marked_clients(alloc: Global, marks: &[StoredMark]) -> Result<Option<IndexSet<Name>>, AllocError>
+    requires { All IsMark marks.now }
+    ensures keys { IfOk result (λ found. IfSome found
+        (λ set. set.keys ≡ map (λ (m : Mark). m.client) marks.now)) }
+    ensures once { IfOk result (λ found. IfSome found (λ _.
+        AllPairs (λ (m n : Mark). bytes_eq m.client n.client ≡ false) marks.now)) }
+    ensures none { IfOk result (λ found. found ≡ None
+        → AllPairs (λ (m n : Mark). bytes_eq m.client n.client ≡ false) marks.now → ⊥) }
 {
     let names = clients_of(alloc, marks)?;
-    let found = set_of(alloc, &names)?;
-    match found {
-        None => Ok(false),
-        Some(clients) => Ok(are_above(marks, &clients, replies)),
-    }
+    set_of(alloc, &names)
 }
 
-// Whether kept replies and marks are in their ranges, one of a client's number and one of a client,
-// and each reply above its client's mark.
-fn are_kept(
-    alloc: Global,
-    replies: &[StoredReply],
-    marks: &[StoredMark],
-) -> Result<bool, AllocError>
-    ensures { IfOk result (λ sound. IsTrue sound ↔ AreReplies replies.now marks.now) }
+// Whether each mark of the tables is in its ranges.
+fn has_marks(tables: &Tables) -> bool
+    ensures { IsTrue result ↔ All IsMark tables.now.marks }
 {
-    if !are_marks(marks) {
-        return Ok(false);
-    }
-    if !are_entries(replies) {
-        return Ok(false);
-    }
-    let marked = are_marked(alloc, replies, marks)?;
-    if !marked {
-        return Ok(false);
-    }
-    are_kept_once(alloc, replies)
+    are_marks(&tables.marks)
 }
 
-/// Whether kept replies and marks are as the audit wants them.
-pub(crate) fn are_replies(alloc: Global, tables: &Tables) -> Result<bool, AllocError>
-    ensures { IfOk result
-        (λ sound. IsTrue sound ↔ AreReplies tables.now.replies tables.now.marks) }
+// Whether each kept reply of the tables is in its ranges.
+fn has_entries(tables: &Tables) -> bool
+    ensures { IsTrue result ↔ All IsEntry tables.now.replies }
 {
-    are_kept(alloc, &tables.replies, &tables.marks)
+    are_entries(&tables.replies)
+}
+
+// The clients of the tables' marks, where no client has two.
+fn clients_in(alloc: Global, tables: &Tables) -> Result<Option<IndexSet<Name>>, AllocError>
+    requires { All IsMark tables.now.marks }
+    ensures keys { IfOk result (λ found. IfSome found
+        (λ set. set.keys ≡ map (λ (m : Mark). m.client) tables.now.marks)) }
+    ensures once { IfOk result (λ found. IfSome found (λ _.
+        AllPairs (λ (m n : Mark). bytes_eq m.client n.client ≡ false) tables.now.marks)) }
+    ensures none { IfOk result (λ found. found ≡ None
+        → AllPairs (λ (m n : Mark). bytes_eq m.client n.client ≡ false) tables.now.marks → ⊥) }
+{
+    marked_clients(alloc, &tables.marks)
+}
+
+// Whether the number of each of the tables' replies is above its client's mark.
+fn has_above(tables: &Tables, clients: &IndexSet<Name>) -> bool
+    requires clients { clients.now.keys ≡ map (λ (m : Mark). m.client) tables.now.marks }
+    requires replies { All IsEntry tables.now.replies }
+    ensures { IsTrue result
+        ↔ All (λ (e : Entry). IsTrue (is_above tables.now.marks e)) tables.now.replies }
+{
+    are_above(&tables.marks, clients, &tables.replies)
+}
+
+// Whether no two of the tables' replies are kept under one number of one client.
+fn has_kept_once(alloc: Global, tables: &Tables) -> Result<bool, AllocError>
+    requires { All IsEntry tables.now.replies }
+    ensures { IfOk result (λ once. IsTrue once
+        ↔ AllPairs (λ (d e : Entry). is_of_number d e ≡ false) tables.now.replies) }
+{
+    are_kept_once(alloc, &tables.replies)
+}
+
+/// The first rule that fails of those of kept replies and marks.
+pub(crate) fn failing_reply(alloc: Global, tables: &Tables) -> Result<Option<Rule>, AllocError>
+    ensures { IfOk result (IsFirstFailing reply_rules tables.now) }
+{
+    if !has_marks(tables) {
+        return Ok(Some(Rule::Marks));
+    }
+    if !has_entries(tables) {
+        return Ok(Some(Rule::Replies));
+    }
+    let found = clients_in(alloc, tables)?;
+    let Some(clients) = found else {
+        return Ok(Some(Rule::MarkTwice));
+    };
+    if !has_above(tables, &clients) {
+        return Ok(Some(Rule::ReleasedReplies));
+    }
+    let once = has_kept_once(alloc, tables)?;
+    if !once {
+        return Ok(Some(Rule::ReplyTwice));
+    }
+    Ok(None)
 }

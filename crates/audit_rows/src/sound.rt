@@ -1,14 +1,33 @@
-//! Whether rows are those of sound contents.
-ghost use Rattle.std.specs.Prelude.{◌↔◌, IfOk, IsTrue};
+//! Whether rows are those of sound contents, and where not, which rule fails.
+ghost use Rattle.std.specs.Prelude.{◌↔◌, IfOk, IfSome, IsNone, IsTrue};
 ghost use Rattle.job_core.specs.Contents.{AreSound, Contents};
 ghost use Rattle.rows_of_facts.specs.Image.{image};
 ghost use Rattle.table_rows.specs.Tables.{HaveSameRows};
+ghost use Rattle.ordered_rows.specs.Order.{AreSorted};
+ghost use Rattle.audit_rows.specs.Rules.{FailsFirst, rules};
 
-use crate::audit::is_audited;
+use crate::audit::failing_rule;
+use crate::rule::Rule;
 use audit_laws::{audited_rows_are_sound, sound_rows_are_audited};
 use ordered_rows::sort_tables;
 use std::alloc::{AllocError, Global};
 use stored_rows::Tables;
+
+/// The first rule that the rows, in any order, break: none where they are those of sound contents.
+/// The rows all stay, and are sorted. Time is the rows' bytes, and their number times its logarithm.
+/// Errors: refused memory.
+pub fn first_failing(alloc: Global, tables: &mut Tables) -> Result<Option<Rule>, AllocError>
+    ensures sound { IfOk result (λ found. IsNone found ↔
+        ((c : Contents) × AreSound c × HaveSameRows tables.old (image c))) }
+    ensures first { IfOk result (λ found. IfSome found (FailsFirst rules tables.new)) }
+    ensures sorted { IfOk result (λ _. AreSorted tables.new) }
+    ensures same { HaveSameRows tables.new tables.old }
+{
+    audited_rows_are_sound();
+    sound_rows_are_audited();
+    sort_tables(tables)?;
+    failing_rule(alloc, tables)
+}
 
 /// Whether the rows, in any order, are those of sound contents. They all stay, and are sorted. Time
 /// is the rows' bytes, and their number times its logarithm.
@@ -17,8 +36,6 @@ pub fn is_sound(alloc: Global, tables: &mut Tables) -> Result<bool, AllocError>
         ((c : Contents) × AreSound c × HaveSameRows tables.old (image c))) }
     ensures same { HaveSameRows tables.new tables.old }
 {
-    audited_rows_are_sound();
-    sound_rows_are_audited();
-    sort_tables(tables)?;
-    is_audited(alloc, tables)
+    let failing = first_failing(alloc, tables)?;
+    Ok(failing.is_none())
 }

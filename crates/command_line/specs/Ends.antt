@@ -8,8 +8,8 @@ use Rattle.job_core.specs.declared.store.StoreFault.{StoreFault}
 use Rattle.job_core.specs.declared.store.StoreFault.TheVariants as store
 use Rattle.reports.specs.declared.fault.AccountFault.{AccountFault}
 use Rattle.reports.specs.declared.fault.AccountFault.TheVariants as account
-use Rattle.told_lines.specs.declared.lines.ServeStop.{ServeStop}
-use Rattle.told_lines.specs.declared.lines.ServeStop.TheVariants as serve
+use Rattle.server_lines.specs.declared.lines.ServeStop.{ServeStop}
+use Rattle.server_lines.specs.declared.lines.ServeStop.TheVariants as serve
 use Rattle.store_files.specs.declared.fault.FileFault.{FileFault}
 use Rattle.store_files.specs.declared.fault.FileFault.TheVariants as file
 use Rattle.feeding.specs.declared.engine.FeedStop.{FeedStop}
@@ -26,13 +26,15 @@ use Rattle.program_words.specs.declared.words.WordsFault.TheVariants as words
 use Rattle.plan_print.specs.declared.plan.PlanStop.{PlanStop}
 use Rattle.plan_print.specs.declared.plan.PlanStop.TheVariants as stop
 
--- done and help end with 0, a refusal or a bad line with 1, a usage fault with 2, and a fault of a
+-- done and help end with 0, a refusal or a bad line with 1, wrong arguments with 2, and a fault of a
 -- file, a device or of memory with 3; a fault of a batch is told by its number and row, every other
--- refusal by its number alone, and a usage fault has no words of the program's own
+-- refusal by its number alone, and there are no words where clap has a text of its own
 abbrev pub exit_of : End → Exit
 exit_of end.Done = record { status = 0; words = None }
 exit_of end.Helped = record { status = 0; words = None }
 exit_of end.Usage = record { status = 2; words = None }
+exit_of end.NotText = record { status = 2; words = Some told.NotText }
+exit_of end.BadName = record { status = 2; words = Some told.BadName }
 exit_of (end.Refused fault) =
     record { status = 1; words = Some (told.RefusedRow (code_of fault.kind) fault.row) }
 exit_of end.TooLarge = record { status = 1; words = Some (told.Refused 413) }
@@ -56,6 +58,8 @@ told_text (told.Refused number) = codes "refused " ++ decimal number
 told_text (told.RefusedRow number row) =
     codes "refused " ++ (decimal number ++ (codes " row " ++ decimal row))
 told_text (told.BadLine line) = codes "bad line " ++ decimal line
+told_text told.NotText = codes "error: an argument isn't UTF-8"
+told_text told.BadName = codes "bad name"
 told_text told.Storage = codes "storage"
 told_text told.Device = codes "device"
 told_text told.Memory = codes "memory"
@@ -93,8 +97,8 @@ end_of_store store.Full = end.Storage
 
 -- of a file that isn't taken
 abbrev pub end_of_file : FileFault → End
-end_of_file file.NotOurs = end.NotOurs
-end_of_file file.Damaged = end.Damaged
+end_of_file (file.NotOurs cause) = end.NotOurs
+end_of_file (file.Damaged cause) = end.Damaged
 end_of_file file.Storage = end.Storage
 end_of_file file.Memory = end.Memory
 
@@ -103,6 +107,7 @@ abbrev pub end_of_serve_stop : ServeStop → End
 end_of_serve_stop serve.Next = end.PortFailed
 end_of_serve_stop serve.Write = end.WriteFailed
 end_of_serve_stop serve.Memory = end.Memory
+end_of_serve_stop (serve.Store fault) = end_of_store fault
 
 -- of `report`
 abbrev pub end_of_account : AccountFault → End
@@ -110,7 +115,6 @@ end_of_account (account.Refused why) = end.NotReported why
 end_of_account (account.Store fault) = end_of_store fault
 end_of_account account.Write = end.WriteFailed
 
--- of `feed`
 abbrev pub end_of_feed_stop : FeedStop → End
 end_of_feed_stop feed.BadLine = end.BadCard
 end_of_feed_stop feed.Stale = end.Released
@@ -119,10 +123,16 @@ end_of_feed_stop feed.ReadFailed = end.ReadFailed
 end_of_feed_stop feed.WriteFailed = end.WriteFailed
 end_of_feed_stop feed.Memory = end.Memory
 
--- of words that give no subcommand, by whether what they are told was written
+-- of `feed`
+abbrev pub end_of_feed : Result (Unit {0}) FeedStop → End
+end_of_feed (Ok u) = end.Done
+end_of_feed (Err stop) = end_of_feed_stop stop
+
+-- of words that give no subcommand, by whether clap's text was written
 abbrev pub told_end : WordsFault → Bool → End
 told_end (words.Help text) is_written = if is_written then end.Helped else end.WriteFailed
+told_end (words.Version text) is_written = if is_written then end.Helped else end.WriteFailed
 told_end (words.Usage text) is_written = end.Usage
-told_end words.NotText is_written = end.Usage
-told_end words.BadName is_written = end.Usage
+told_end words.NotText is_written = end.NotText
+told_end words.BadName is_written = end.BadName
 told_end words.Memory is_written = end.Memory

@@ -6,9 +6,15 @@ use Rattle.plan_print.specs.PlanEnds.{PlanEnds}
 use Rattle.plan_print.specs.declared.plan.PlanStop.{PlanStop}
 use Rattle.drill_tables.specs.Drills.{DrillEnds}
 use Rattle.drill.specs.declared.stop.DrillStop.{DrillStop}
-use Rattle.command_line.specs.Ends.{end_of_drill, end_of_plan}
+use Rattle.feeding.specs.Feeds.{at_first}
+use Rattle.event_lines.specs.declared.log.EventLog.{EventLog}
+use Rattle.feeding.specs.Events.{FeedEndsWithEvents}
+use Rattle.feeding.specs.Tries.{Try}
+use Rattle.feeding.specs.declared.engine.FeedStop.{FeedStop}
+use Rattle.command_line.specs.Ends.{end_of_drill, end_of_feed, end_of_plan}
 use Rattle.command_line.specs.declared.end.End.{End}
 use Rattle.command_line.specs.declared.end.End.TheVariants.{Done, BadLine}
+use Rattle.program_words.specs.declared.words.FeedStart.{FeedStart}
 use Rattle.program_words.specs.declared.words.Words.{Words}
 use Rattle.program_words.specs.declared.words.Words.TheVariants.{Plan, Drill, Serve, Report, Feed}
 
@@ -27,6 +33,15 @@ abbrev pub DrillRuns : Option (List ℕ) → Option (List ℕ) → Option (List 
 DrillRuns known before after end = (ended : Result (Unit {0}) DrillStop)
     × (end ≡ end_of_drill ended) × DrillEnds known before after ended
 
+-- so of the engine of `feed`, whose machine and batch are those of the words, with its event lines
+abbrev pub FeedRuns : {E : Type 0} → (E → Option (List ℕ)) → FeedStart → Option (List ℕ)
+    → Option (List Try) → Option (List Try) → Option (List ℕ) → Option (List ℕ)
+    → EventLog E → EventLog E → End → Type 0
+FeedRuns contents start known log_before log_after before after old new end =
+    (ended : Result (Unit {0}) FeedStop) × (end ≡ end_of_feed ended)
+    × FeedEndsWithEvents contents (at_first start.machine start.boot start.batch) known
+    log_before log_after before after old new ended
+
 -- so of the subcommand that the words ask for, if it uses the streams alone
 abbrev pub Runs : Words → Option (List ℕ) → Option (List ℕ) → Option (List ℕ) → End → Type 0
 Runs (Plan max low check) known before after end =
@@ -34,7 +49,7 @@ Runs (Plan max low check) known before after end =
 Runs Drill known before after end = DrillRuns known before after end
 Runs (Serve db port turns) known before after end = ⊥
 Runs (Report db batch) known before after end = ⊥
-Runs (Feed port machine boot batch) known before after end = ⊥
+Runs (Feed port start) known before after end = ⊥
 
 -- the ends at which the whole text was printed
 abbrev pub IsPrinted : End → Type 0

@@ -11,20 +11,24 @@ use job_core::{Refusal, StoreFault};
 use plan_print::PlanStop;
 use program_words::WordsFault;
 use reports::AccountFault;
+use server_lines::ServeStop;
 use std::error::Error;
 use std::fmt;
 use store_files::FileFault;
-use told_lines::ServeStop;
 
 /// What a run came to.
 #[derive(Clone, Copy, Debug, PartialEq, Eq)]
 pub enum End {
     /// The subcommand did its work.
     Done,
-    /// The words ask for help, and it was told.
+    /// The words ask for help or for the version, and it was printed.
     Helped,
-    /// The words are no use of the program.
+    /// The words are wrong, and `clap` has the text that says how.
     Usage,
+    /// One of the words isn't UTF-8.
+    NotText,
+    /// What should be a batch's or a machine's name isn't a name.
+    BadName,
     /// The batch has this fault first.
     Refused(RowFault),
     /// The input has over `MOST_INPUT` bytes.
@@ -99,8 +103,8 @@ impl From<FileFault> for End {
 
     fn from(fault: FileFault) -> End {
         match fault {
-            FileFault::NotOurs => End::NotOurs,
-            FileFault::Damaged => End::Damaged,
+            FileFault::NotOurs { cause: _ } => End::NotOurs,
+            FileFault::Damaged { cause: _ } => End::Damaged,
             FileFault::Storage => End::Storage,
             FileFault::Memory => End::Memory,
         }
@@ -115,6 +119,7 @@ impl From<ServeStop> for End {
             ServeStop::Next => End::PortFailed,
             ServeStop::Write => End::WriteFailed,
             ServeStop::Memory => End::Memory,
+            ServeStop::Store { fault } => End::from(fault),
         }
     }
 }
@@ -146,20 +151,22 @@ impl From<FeedStop> for End {
     }
 }
 
-/// The end of a run whose words give no subcommand, by whether what they are told was written:
-/// a usage fault stands where standard error takes no text.
+/// The end of a run whose words give no subcommand, by whether `clap`'s text was written: a usage
+/// fault stays one where standard error takes no text.
 pub fn told_end(fault: &WordsFault, is_written: bool) -> End
     ensures { result ≡ told_end fault.now is_written }
 {
     match fault {
-        WordsFault::Help(_) => {
+        WordsFault::Help(_) | WordsFault::Version(_) => {
             if is_written {
                 End::Helped
             } else {
                 End::WriteFailed
             }
         }
-        WordsFault::Usage(_) | WordsFault::NotText | WordsFault::BadName => End::Usage,
+        WordsFault::Usage(_) => End::Usage,
+        WordsFault::NotText => End::NotText,
+        WordsFault::BadName => End::BadName,
         WordsFault::Memory => End::Memory,
     }
 }
@@ -173,6 +180,10 @@ pub enum Told {
     RefusedRow { number: u16, row: u32 },
     /// The first line of a script that has none of its forms.
     BadLine { line: u64 },
+    /// An argument isn't UTF-8.
+    NotText,
+    /// What should be a name isn't a name.
+    BadName,
     /// The store's file failed, or is full.
     Storage,
     /// A read or a write failed, or the port can't be had.
@@ -192,6 +203,8 @@ impl fmt::Display for Told {
             Told::Refused { number } => write!(f, "refused {number}"),
             Told::RefusedRow { number, row } => write!(f, "refused {number} row {row}"),
             Told::BadLine { line } => write!(f, "bad line {line}"),
+            Told::NotText => f.write_str("error: an argument isn't UTF-8"),
+            Told::BadName => f.write_str("bad name"),
             Told::Storage => f.write_str("storage"),
             Told::Device => f.write_str("device"),
             Told::Memory => f.write_str("memory"),
@@ -204,9 +217,9 @@ impl Error for Told {}
 /// The status of the program, and its words for standard error.
 #[derive(Clone, Copy, Debug, PartialEq, Eq)]
 pub struct Exit {
-    /// 0 done, 1 refused, 2 usage, 3 storage, device or memory.
+    /// 0 done, 1 refused, 2 wrong arguments, 3 storage, device or memory.
     pub status: u8,
-    /// The words, as they are displayed. A usage fault has `clap`'s, which were told.
+    /// The words, as they are displayed. Where `clap` has a text there are none beside it.
     pub words: Option<Told>,
 }
 
@@ -217,6 +230,8 @@ pub fn exit_of(end: End) -> Exit
     let (status, words) = match end {
         End::Done | End::Helped => (0, None),
         End::Usage => (2, None),
+        End::NotText => (2, Some(Told::NotText)),
+        End::BadName => (2, Some(Told::BadName)),
         End::Refused(fault) => {
             let number = u16::from(fault.kind.code());
             let row = fault.row;

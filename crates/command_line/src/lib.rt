@@ -2,7 +2,9 @@
 #![tactic(auto)]
 
 mod end;
+mod joins;
 mod subcommand;
 
 pub use end::{End, Exit, Told, exit_of, told_end};
-pub use subcommand::{product_of, run};
+pub use joins::{end_of_close, explain, level_by, note_refusal, wanted_of};
+pub use subcommand::{product_of, run, run_feed};

@@ -3,15 +3,18 @@ ghost use Rattle.std.specs.Prelude.{◌≡◌, ◌⊎◌, []};
 ghost use Rattle.std.specs.Io.Buffered.{writer_buffer, writer_contents};
 ghost use Rattle.std.specs.Io.KnownBytes.{Keeps};
 ghost use Rattle.store_data.specs.Sequence.{IsProduct};
-ghost use Rattle.command_line.specs.Runs.{DrillRuns, IsPrinted, PlanRuns, Runs, product_of};
-ghost use Rattle.program_words.specs.Words.{InRange, UsesStreams};
+ghost use Rattle.command_line.specs.Runs.{DrillRuns, FeedRuns, IsPrinted, PlanRuns, Runs};
+ghost use Rattle.command_line.specs.Runs.{product_of};
+ghost use Rattle.program_words.specs.Words.{InRange, IsBoot, UsesStreams};
 ghost use Rattle.command_line.specs.declared.end.End.TheVariants.{WriteFailed};
 
 use crate::end::End;
 use drill::DrillStop;
 use drill_tables::drill_engine;
+use event_lines::EventLog;
+use feeding::{Exchange, feed_with_events};
 use plan_print::plan_engine;
-use program_words::Words;
+use program_words::{FeedStart, Words};
 use std::alloc::Global;
 use std::io::{BufWriter, Read, Write};
 use store_data::{Name, Product};
@@ -48,6 +51,37 @@ pub fn product_of(max: u8, low: u8, check: bool) -> Product
         max,
         low,
         check,
+    }
+}
+
+/// Feeds the machine of a start with the reader's cards for its batch, over the exchange, prints
+/// what each card comes to, and writes event lines. What is printed is written as it comes, and left
+/// to the caller to flush.
+pub fn run_feed<R: Read, W: Write, X: Exchange, E: Write + Drop>(
+    alloc: Global,
+    start: FeedStart,
+    reader: &mut R,
+    writer: &mut W,
+    exchange: &mut X,
+    events: &mut EventLog<E>,
+) -> End
+    requires { IsBoot start.boot }
+    ensures { FeedRuns E.contents start (R.remaining reader.old) (X.log exchange.old)
+        (X.log exchange.new) (W.contents writer.old) (W.contents writer.new) events.old events.new
+        result }
+{
+    match feed_with_events(
+        alloc,
+        start.machine,
+        start.boot,
+        start.batch,
+        reader,
+        writer,
+        exchange,
+        events,
+    ) {
+        Ok(()) => End::Done,
+        Err(stop) => End::from(stop),
     }
 }
 

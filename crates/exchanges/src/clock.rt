@@ -8,8 +8,12 @@ ghost use Rattle.exchanges.specs.Waits.{left_at, pause_after};
 use std::io::{self, ErrorKind};
 use std::time::{Duration, Instant};
 
-/// The longest that a whole exchange takes, in seconds: longer than a server is held by others.
+/// The longest that a whole exchange takes, in seconds. It waits while a server serves others, one
+/// after the other: each may take 10 s to send a message, and 10 s to take its reply.
 pub const MOST_TIME: u64 = 60;
+
+/// The longest that a message waits before it is sent again, in milliseconds.
+const MOST_PAUSE: u64 = 16_000;
 
 /// How long a read or a write may wait that begins now, in an exchange that was begun then. Errors:
 /// `TimedOut` where the time is over.
@@ -25,9 +29,10 @@ pub(crate) fn left_at(begun: Instant, now: Instant) -> io::Result<Duration>
     Ok(left)
 }
 
-/// How long a message waits that was sent so often already.
+/// How long a message waits that was sent again so often already.
 pub(crate) fn pause_after(sent: u32) -> Duration
     ensures { as_nanos result ≡ pause_after sent }
 {
-    Duration::from_millis(10 << sent.min(7))
+    let millis = 4u64.saturating_pow(sent).saturating_mul(10);
+    Duration::from_millis(millis.min(MOST_PAUSE))
 }

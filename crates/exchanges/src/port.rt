@@ -1,16 +1,15 @@
 //! Messages to a port of this machine.
-ghost use Rattle.std.specs.Prelude.{◌≡◌, ◌≢◌, ◌+◌, [], OnOk, min};
+ghost use Rattle.std.specs.Prelude.{◌≡◌, ◌≢◌, ◌+◌, ◌≤◌, [], OnOk, min};
+ghost use Rattle.exchanges.specs.Waits.{paused};
 
+use crate::asking::send_and_read;
 use crate::clock::{MOST_TIME, pause_after};
 use crate::peer::Peer;
 use feeding::Exchange;
 use std::alloc::{AllocError, Global};
 use std::net::{Ipv4Addr, Net, SocketAddr, SocketAddrV4};
 use std::time::{Clock, Duration, Instant};
-use text_io::{ReadFault, read_within, write_text};
-
-/// The most bytes of a reply: one to a machine has far fewer.
-const MOST_REPLY: u32 = 8_192;
+use text_io::ReadFault;
 
 /// A port of 127.0.0.1, the message that was sent to it last, and how often in a row it was.
 #[derive(Drop)]
@@ -28,6 +27,8 @@ impl<'a, R: Net + Clock> Port<'a, R> {
         ensures port { result.port ≡ port }
         ensures none { result.last.items ≡ [] }
         ensures first { result.sent ≡ 0 }
+        // Ten tries of a message last a minute at least.
+        ensures minute { 60_000_000_000 ≤ paused 9 }
     {
         Port {
             rt,
@@ -65,10 +66,7 @@ impl<'a, R: Net + Clock> Port<'a, R> {
             .connect_timeout(place, Duration::from_secs(MOST_TIME))?;
         let rt = self.rt;
         let mut peer = Peer { rt, stream, begun };
-        if write_text(&mut peer, message).is_err() {
-            return Ok(None);
-        }
-        read_within(self.alloc, &mut peer, MOST_REPLY)
+        send_and_read(self.alloc, &mut peer, message)
     }
 }
 

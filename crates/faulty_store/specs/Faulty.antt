@@ -1,5 +1,5 @@
 -- What a store of lists behind a device stands for.
-use Rattle.std.specs.Prelude.{◌≡◌, ℕ, zero, suc, Bool, false, true, Option, None, Some}
+use Rattle.std.specs.Prelude.{◌≡◌, ℕ, zero, suc, Bool, false, true, Option, None, Some, ⊤}
 use Rattle.job_core.specs.Contents.{AreSound, Contents}
 use Rattle.job_core.specs.Store.{State}
 use Rattle.list_store.specs.Lists.{contents}
@@ -38,6 +38,14 @@ strikes (suc turns) fault = None
 abbrev pub struck : Option Plan → Option Fault
 struck None = None
 struck (Some plan) = strikes plan.turns plan.fault
+
+-- whether the device answers a turn in which this strikes; one that lies does
+abbrev pub IsAnswered : Option Fault → Type 0
+IsAnswered None = ⊤
+IsAnswered (Some Failed) = ⊥
+IsAnswered (Some FailedAfterWrite) = ⊥
+IsAnswered (Some Full) = ⊥
+IsAnswered (Some Lies) = ⊤
 
 -- what is planned behind that turn
 abbrev pub waits : Fault → Option Plan

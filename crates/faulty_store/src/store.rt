@@ -5,6 +5,7 @@ use job_core::{
     RecordState, SegmentRow, SessionRow, StoreFault,
 };
 use list_store::ListStore;
+use reopening::{FaultCounts, ServerStore};
 use std::alloc::Global;
 use store_data::{Name, Product};
 
@@ -21,7 +22,7 @@ impl FaultyStore {
     ghost use Rattle.job_core.specs.Contents.{AreSound, Contents, no_contents};
     ghost use Rattle.job_core.specs.Store.{CountsFaults, IsHonest, Stays};
     ghost use Rattle.list_store.specs.Lists.{contents};
-    ghost use Rattle.faulty_store.specs.Faulty.{state};
+    ghost use Rattle.faulty_store.specs.Faulty.{IsAnswered, state, struck};
 
     /// An empty store, and what is planned for its device. It takes no memory.
     pub fn new(alloc: Global, plan: Option<Plan>) -> FaultyStore
@@ -74,6 +75,7 @@ impl FaultyStore {
         ensures stays { Stays (state self.old) (state self.new) }
         ensures faults { CountsFaults (state self.old) (state self.new) result }
         ensures open { OnOk result (self.old.device.is_shut ≡ false) }
+        ensures answered { OnOk result (IsAnswered (struck self.old.device.plan)) }
         ensures same { IsHonest (state self.new)
             → contents self.new.lists ≡ contents self.old.lists }
     {
@@ -249,5 +251,31 @@ impl JobStore for FaultyStore {
         self.turn()?;
         self.lists.release(client, number, ask, status, body, mark)?;
         self.device.end_write()
+    }
+}
+
+// To close it takes a turn of the device, as any call does.
+impl ServerStore for FaultyStore {
+    ghost use Rattle.std.specs.Prelude.{◌≡◌, false};
+    ghost use Rattle.faulty_store.specs.Faulty.{IsAnswered, struck};
+
+    ghost closed = { λ store. (store.device.is_shut ≡ false)
+        × IsAnswered (struck store.device.plan) };
+
+    fn fault_counts(&self) -> FaultCounts {
+        FaultCounts {
+            failed: self.device.failed,
+            full: self.device.full,
+        }
+    }
+
+    fn reply_count(&mut self) -> Result<u64, StoreFault> {
+        self.turn()?;
+        self.lists.reply_count()
+    }
+
+    fn finish(mut self) -> Result<(), StoreFault> {
+        self.turn()?;
+        self.lists.finish()
     }
 }

@@ -25,12 +25,12 @@ drawn_by f l ls c g r here is made =
 
 -- its card is put in
 pub draws_in : (f : Feed) (l : List ℕ) (ls : List (List ℕ)) (c : Card) (g : FeederState) → f.left ≡ l ∷ ls → card_of l ≡ Some c
-    → (g, Ok tt) ≡ after_insert f.feeder f.batch c.serial → draws f f.left ≡ record f { feeder = g; card = c; left = ls }
+    → (g, Ok tt) ≡ after_insert f.feeder f.batch c.serial → draws f f.left ≡ record f { feeder = g; card = c; left = ls; taken = f.taken + 1 }
 draws_in f l ls c g here is made = drawn_by f l ls c g (Ok tt) here is made
 
 -- its card is put out as bad
 pub draws_out : (f : Feed) (l : List ℕ) (ls : List (List ℕ)) (c : Card) (g : FeederState) (why : InsertFault) → f.left ≡ l ∷ ls → card_of l ≡ Some c
-    → (g, Err why) ≡ after_insert f.feeder f.batch c.serial → draws f f.left ≡ draws (record (prints f (end_line c.serial false)) { feeder = g; left = ls }) ls
+    → (g, Err why) ≡ after_insert f.feeder f.batch c.serial → draws f f.left ≡ draws (record (prints f (end_line c.serial false)) { feeder = g; left = ls; taken = f.taken + 1 }) ls
 draws_out f l ls c g why here is made = drawn_by f l ls c g (Err why) here is made
 
 -- ---- the lines that are left

@@ -71,7 +71,7 @@ put_goes : (f : Feed) (c : Card) (ls : List (List ℕ)) (next : Feed → Feed) (
     → Follows f (put_in f c ls next g r)
 put_goes f c ls next g (Ok u) h later = record { feeder = later; tries = refl }
 put_goes f c ls next g (Err why) h later =
-    let p = record (prints f (end_line c.serial false)) { feeder = g; left = ls } in goes_then f p (next p) (record { feeder = later; tries = refl }) (h p)
+    let p = record (prints f (end_line c.serial false)) { feeder = g; left = ls; taken = f.taken + 1 } in goes_then f p (next p) (record { feeder = later; tries = refl }) (h p)
 
 drawn_goes : (f : Feed) (l : List ℕ) (ls : List (List ℕ)) (next : Feed → Feed) (o : Option Card) → ((h : Feed) → Follows h (next h)) → Follows f (drawn f l ls next o)
 drawn_goes f l ls next None h = record { feeder = same f.feeder; tries = refl }

@@ -1,6 +1,9 @@
 mod Words
+mod Flaws
 mod Draws
 mod Stands
 mod Going
+mod Noting
+mod Putting
 mod Runs
 mod Turns

@@ -7,13 +7,14 @@ use Rattle.std.proofs.lemmas.List.{map_push}
 use Rattle.job_core.specs.declared.reply.Reply.{Reply}
 use Rattle.job_core.specs.declared.request.Call.{Call}
 use Rattle.wire.specs.ReplyText.{IsReply, reply_bytes}
-use Rattle.wire.specs.Sending.{sending_of}
 use Rattle.text_io.proofs.Pieces.{begun}
 use Rattle.text_io.specs.Written.{AppendsBeginning}
 use Rattle.feeder.specs.Reading.{IsRead}
+use Rattle.feeder.specs.Table.{asked}
+use Rattle.feeding.specs.Events.{event_texts, lines_of_try, lines_under}
 use Rattle.feeding.specs.Feeds.{Feed, by_reply, counted, hears, settled, tried}
 use Rattle.feeding.specs.Views.{AsksUnder}
-use Rattle.feeding.specs.Tries.{AreTries, Heard, IsHeard, IsTry, Logs, Try, feed_after, printed}
+use Rattle.feeding.specs.Tries.{AreTries, Heard, IsTry, Logs, Try, feed_after, printed}
 
 pub after_more : (f : Feed) (hs : List Heard) (h : Heard) → feed_after f (hs ++ h ∷ []) ≡ hears (feed_after f hs) h.reply
 after_more f [] h = refl
@@ -27,6 +28,12 @@ pub printed_more : (f : Feed) (hs : List Heard) (h : Heard) → printed f (hs ++
 printed_more f [] h = append-nil (hears f h.reply).text
 printed_more f (x ∷ hs) h =
     ap (λ t. (hears f x.reply).text ++ t) (printed_more (hears f x.reply) hs h) ∙ sym (append_assoc (hears f x.reply).text (printed (hears f x.reply) hs) _)
+
+-- its event lines
+pub texts_more : (f : Feed) (hs : List Heard) (h : Heard) → event_texts f (hs ++ h ∷ []) ≡ event_texts f hs ++ lines_of_try (feed_after f hs) (asked (feed_after f hs).feeder) h
+texts_more f [] h = append-nil (lines_of_try f (asked f.feeder) h)
+texts_more f (x ∷ hs) h =
+    ap (λ t. lines_of_try f (asked f.feeder) x ++ t) (texts_more (hears f x.reply) hs h) ∙ sym (append_assoc (lines_of_try f (asked f.feeder) x) (event_texts (hears f x.reply) hs) _)
 
 pub logs_none : (log : Option (List Try)) → Logs log log []
 logs_none None = refl
@@ -56,6 +63,10 @@ pub text_begun : (f0 f : Feed) (hs : List Heard) (h : Heard) (a b c : Option (Li
 text_begun f0 f hs h a b c at before next =
     subst (AppendsBeginning a c) (ap (λ t. printed f0 hs ++ t) (append-nil (hears f h.reply).text) ∙ sym (text_more f0 f hs h at)) (begun a b c (printed f0 hs) (hears f h.reply).text [] before next)
 
+pub texts_on : (f0 f : Feed) (hs : List Heard) (h : Heard) (number : ℕ) (call : Call) → feed_after f0 hs ≡ f → asked f.feeder ≡ Some (number, call)
+    → event_texts f0 (hs ++ h ∷ []) ≡ event_texts f0 hs ++ lines_under f number h.one.came h.reply
+texts_on f0 f hs h number call at asks = texts_more f0 hs h ∙ ap (λ g. event_texts f0 hs ++ lines_of_try g (asked g.feeder) h) at ∙ ap (λ a. event_texts f0 hs ++ lines_of_try f a h) asks
+
 -- where a call is asked
 pub hears_is : (f : Feed) (number : ℕ) (o : Option Reply) → AsksUnder number f → hears f o ≡ counted number (settled (by_reply (record f { text = [] }) number o))
 hears_is f number o (call, is) = ap (λ a. tried f a o) is
@@ -67,10 +78,3 @@ pub reply_read : {E : Type 0} (r : Result (Option Reply) E) (bytes : List ℕ) �
 reply_read (Err e) bytes is finds = tt
 reply_read (Ok (Some q)) bytes is finds = is
 reply_read (Ok None) bytes is finds = λ q fits same. let found : None ≡ Some q = finds q fits same in cc
-
-pub try_heard : {E : Type 0} (r : Result (Option Reply) E) (one : Try) (bytes : List ℕ) (machine : List ℕ) (number : ℕ) (call : Call) (before after : Option (List Try))
-    → one.came ≡ Some bytes → one.sent ≡ sending_of machine number call → after ≡ option_map (λ l. l ++ one ∷ []) before → IfOk r (λ found. IsRead bytes found)
-    → IfOk r (λ reply. (x : Try) × (x.sent ≡ sending_of machine number call) × IsHeard x.came reply × (after ≡ option_map (λ l. l ++ x ∷ []) before))
-try_heard (Err e) one bytes machine number call before after came sent logged read = tt
-try_heard (Ok reply) one bytes machine number call before after came sent logged read =
-    (one, sent, subst (λ o. IsHeard o reply) (sym came) read, logged)

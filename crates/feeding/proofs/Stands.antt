@@ -1,5 +1,5 @@
 -- Where no command waits for its card.
-use Rattle.std.proofs.Common.{◌≡◌, ℕ, false, List, [], ◌∷◌, Option, Some, None, Result, Ok, Err, refl, sym, subst}
+use Rattle.std.proofs.Common.{◌≡◌, ◌+◌, ℕ, false, List, [], ◌∷◌, Option, Some, None, Result, Ok, Err, refl, sym, subst}
 use Rattle.std.specs.Prelude.{nat_le, nat_lt, ⊤}
 use Rattle.std.proofs.lemmas.Bool.{cond_both}
 use Rattle.job_core.specs.declared.reply.Reply.{Reply}
@@ -181,7 +181,7 @@ put_settled : (f : Feed) (c : Card) (ls : List (List ℕ)) (next : Feed → Feed
 put_settled f c ls next h idle =
     cond_both {A = FeederState × Result (Unit {0}) InsertFault} (nat_lt 8000000 f.feeder.place) (f.feeder, Err Exhausted)
     (moved f.feeder (Makes (Job (request.Open f.batch c.serial))), Ok tt) (λ d. IsSettled (put_in f c ls next d.0 d.1))
-    (λ last. h (record (prints f (end_line c.serial false)) { feeder = f.feeder; left = ls }) idle) (λ more. tt)
+    (λ last. h (record (prints f (end_line c.serial false)) { feeder = f.feeder; left = ls; taken = f.taken + 1 }) idle) (λ more. tt)
 
 drawn_settled : (f : Feed) (l : List ℕ) (ls : List (List ℕ)) (next : Feed → Feed) (o : Option Card) → card_of l ≡ o → ((g : Feed) → g.feeder.stand ≡ Idle → IsSettled (next g))
     → f.feeder.stand ≡ Idle → IsSettled (drawn f l ls next o)

@@ -1,8 +1,9 @@
 -- A whole turn: a try, and what is printed after it.
-use Rattle.std.proofs.Common.{◌≡◌, ◌≤◌, ◌<◌, ℕ, List, [], ◌∷◌, ◌++◌, Option, Some, None, Result, Ok, Err, refl, sym, ap, subst, ◌∙◌}
+use Rattle.std.proofs.Common.{◌≡◌, ◌≤◌, ◌<◌, ℕ, List, [], ◌∷◌, ◌++◌, Option, Some, None, Result, Ok, Err, refl, sym, ap, subst, ◌∙◌, append-nil, lit<}
 use Rattle.std.specs.Prelude.{option_map, unwrap_or}
 use Rattle.std.specs.Io.KnownBytes.{Appends}
 use Rattle.std.proofs.KnownBytes.{Appends-nil, Keeps-refl}
+use Rattle.event_lines.specs.declared.log.EventLog.{EventLog}
 use Rattle.job_core.specs.declared.reply.Reply.{Reply}
 use Rattle.job_core.specs.declared.request.Call.{Call}
 use Rattle.text_io.specs.Inputs.{Tells}
@@ -13,61 +14,101 @@ use Rattle.feeder.specs.Table.{asked}
 use Rattle.feeding.specs.declared.engine.FeedStop.{FeedStop}
 use Rattle.feeding.specs.declared.engine.FeedStop.TheVariants as stop
 use Rattle.feeding.specs.Feeds.{Feed, hears}
-use Rattle.feeding.specs.Tries.{AreTries, FeedEnds, Goes, Heard, IsHeard, IsSent, IsSettled, IsTold, IsTry, Logs, Try, feed_after, printed, unread}
+use Rattle.feeding.specs.Tries.{AreTries, EndsBy, Goes, Heard, IsEnd, IsHeard, IsSent, IsSettled, IsTold, IsTry, Logs, Try, feed_after, printed, try_of, unread}
 use Rattle.feeding.proofs.Going.{hears_few, left_of, less_left}
-use Rattle.feeding.proofs.Runs.{after_on, logs_more, text_begun, text_on, tries_on}
+use Rattle.feeding.specs.declared.engine.Response.{Response}
+use Rattle.feeding.specs.Events.{FeedEndsWithEvents, GoesWithEvents, IsNoted, IsNotedOf, end_texts, event_texts, lines_under}
+use Rattle.feeding.specs.Views.{came_in}
+use Rattle.feeding.proofs.Noting.{lost, noted_kept, noted_then}
+use Rattle.feeding.proofs.Runs.{after_on, logs_more, text_begun, text_on, texts_on, tries_on}
 use Rattle.feeding.proofs.Stands.{hears_settled}
 
--- the tries up to here
-abbrev pub SoFar : Feed → Feed → Option (List Try) → Option (List Try) → Option (List ℕ) → Option (List ℕ) → Type 0
-SoFar first f log_before log_after before after =
-    (hs : List Heard) × AreTries first hs × (feed_after first hs ≡ f) × Logs log_before log_after hs × Appends before after (printed first hs)
+-- what was sent under a number, and what came
+abbrev pub heard_of : List ℕ → ℕ → Call → Response → Heard
+heard_of machine number call r = record { one = try_of (sending_of machine number call) r.came; reply = r.reply }
 
 -- one more was sent
-abbrev pub IsOne : List ℕ → ℕ → Call → Option Reply → Option (List Try) → Option (List Try) → Type 0
-IsOne machine number call reply before after =
-    (one : Try) × (one.sent ≡ sending_of machine number call) × IsHeard one.came reply × (after ≡ option_map (λ l. l ++ one ∷ []) before)
+abbrev pub IsOne : List ℕ → ℕ → Call → Response → Option (List Try) → Option (List Try) → Type 0
+IsOne machine number call r before after = IsHeard (came_in r) r.reply × (after ≡ option_map (λ l. l ++ try_of (sending_of machine number call) r.came ∷ []) before)
 
-is_try : (f : Feed) (machine : List ℕ) (number : ℕ) (call : Call) (h : Heard) → machine ≡ f.feeder.machine → asked f.feeder ≡ Some (number, call) → f.tries < 10 → h.one.sent ≡ sending_of machine number call
-    → IsHeard h.one.came h.reply → IsTry f h
-is_try f machine number call h same asks few sent read =
-    record { sent = subst (λ o. IsSent f.feeder.machine o h.one.sent) (sym asks) (sent ∙ ap (λ m. sending_of m number call) same); read = read; few = few }
+is_try : (f : Feed) (machine : List ℕ) (number : ℕ) (call : Call) (r : Response) → machine ≡ f.feeder.machine → asked f.feeder ≡ Some (number, call) → f.tries < 10 → IsHeard (came_in r) r.reply
+    → IsTry f (heard_of machine number call r)
+is_try f machine number call r same asks few read =
+    record { sent = subst (λ o. IsSent f.feeder.machine o (sending_of machine number call)) (sym asks) (ap (λ m. sending_of m number call) same); read = read; few = few }
 
-pub goes_more : (first f g : Feed) (la lb lc : Option (List Try)) (a b c : Option (List ℕ)) (machine : List ℕ) (number : ℕ) (call : Call) (reply : Option Reply) → SoFar first f la lb a b
-    → machine ≡ f.feeder.machine
-    → asked f.feeder ≡ Some (number, call) → f.tries < 10 → IsOne machine number call reply lb lc → IsTold (hears f reply) g b c (Ok tt) → SoFar first g la lc a c
-goes_more first f g la lb lc a b c machine number call reply (hs, all, at, logs, wrote) same asks few (one, sent, read, logged) (is, told) =
-    let h : Heard = record { one = one; reply = reply } in
-    subst (λ x. SoFar first x la lc a c) (sym is) (
-      hs ++ h ∷ [],
-      tries_on first f hs h at all (is_try f machine number call h same asks few sent read),
-      after_on first f hs h at,
-      logs_more la lb lc hs h logs logged,
-      text_on first f hs h a b c at wrote told,
-    )
+module _ {E : Type 0} (contents : E → Option (List ℕ)) where
+  -- the tries up to here
+  abbrev pub SoFar : Feed → Feed → Option (List Try) → Option (List Try) → Option (List ℕ) → Option (List ℕ) → EventLog E → EventLog E → Type 0
+  SoFar first f log_before log_after before after old new =
+      (hs : List Heard) × AreTries first hs × (feed_after first hs ≡ f) × Logs log_before log_after hs × Appends before after (printed first hs) × IsNoted contents old new (event_texts first hs)
 
--- the writer failed, or memory was refused
-pub goes_end : (first f g : Feed) (la lb lc : Option (List Try)) (a b c : Option (List ℕ)) (machine : List ℕ) (number : ℕ) (call : Call) (reply : Option Reply) (why : FeedStop) (r : Result (Unit {0}) FeedStop)
-    → SoFar first f la lb a b → machine ≡ f.feeder.machine → asked f.feeder ≡ Some (number, call) → f.tries < 10 → IsOne machine number call reply lb lc → IsTold (hears f reply) g b c (Err why) → r ≡ Err why
-    → (hs : List Heard) × Goes first hs la lc a c r
-goes_end first f g la lb lc a b c machine number call reply stop.WriteFailed r (hs, all, at, logs, wrote) same asks few (one, sent, read, logged) told is =
-    let h : Heard = record { one = one; reply = reply } in
-    subst (λ x. (hs : List Heard) × Goes first hs la lc a c x) (sym is) (
-      hs ++ h ∷ [],
+  pub goes_more : (first f g : Feed) (la lb lc : Option (List Try)) (a b c : Option (List ℕ)) (ea eb ec : EventLog E) (machine : List ℕ) (number : ℕ) (call : Call) (r : Response) → SoFar first f la lb a b ea eb
+      → machine ≡ f.feeder.machine → asked f.feeder ≡ Some (number, call) → f.tries < 10 → IsOne machine number call r lb lc → IsTold (hears f r.reply) g b c (Ok tt)
+      → IsNotedOf contents eb ec (lines_under f number (came_in r) r.reply) (Ok tt) → SoFar first g la lc a c ea ec
+  goes_more first f g la lb lc a b c ea eb ec machine number call r (hs, all, at, logs, wrote, noted) same asks few one (is, told) more =
+      let h = heard_of machine number call r in
+      subst (λ x. SoFar first x la lc a c ea ec) (sym is) (
+        hs ++ h ∷ [],
+        tries_on first f hs h at all (is_try f machine number call r same asks few one.0),
+        after_on first f hs h at,
+        logs_more la lb lc hs h logs one.1,
+        text_on first f hs h a b c at wrote told,
+        subst (IsNoted contents ea ec) (sym (texts_on first f hs h number call at asks)) (noted_then contents ea eb ec (event_texts first hs) (lines_under f number (came_in r) r.reply) noted more),
+      )
+
+  -- how it goes on where nothing is noted at its end
+  ended : (first : Feed) (hs : List Heard) (la lc : Option (List Try)) (a c : Option (List ℕ)) (ea ec : EventLog E) (r : Result (Unit {0}) FeedStop) → Goes first hs la lc a c r → end_texts (feed_after first hs) r ≡ []
+      → IsNoted contents ea ec (event_texts first hs) → (hs : List Heard) × GoesWithEvents contents first hs la lc a c ea ec r
+  ended first hs la lc a c ea ec r goes none noted =
+      (hs, (goes, subst (IsNoted contents ea ec) (sym (append-nil (event_texts first hs)) ∙ sym (ap (λ texts. event_texts first hs ++ texts) none)) noted))
+
+  -- the writer failed, or memory was refused
+  pub goes_end : (first f g : Feed) (la lb lc : Option (List Try)) (a b c : Option (List ℕ)) (ea eb ec : EventLog E) (machine : List ℕ) (number : ℕ) (call : Call) (r : Response) (why : FeedStop)
+      (result : Result (Unit {0}) FeedStop) → SoFar first f la lb a b ea eb → machine ≡ f.feeder.machine → asked f.feeder ≡ Some (number, call) → f.tries < 10 → IsOne machine number call r lb lc
+      → IsTold (hears f r.reply) g b c (Err why) → IsNotedOf contents eb ec (lines_under f number (came_in r) r.reply) (Err why) → result ≡ Err why
+      → (hs : List Heard) × GoesWithEvents contents first hs la lc a c ea ec result
+  goes_end first f g la lb lc a b c ea eb ec machine number call r stop.WriteFailed result (hs, all, at, logs, wrote, noted) same asks few one told more is =
+      let h = heard_of machine number call r in
+      subst (λ x. (hs : List Heard) × GoesWithEvents contents first hs la lc a c ea ec x) (sym is) (ended first (hs ++ h ∷ []) la lc a c ea ec (Err stop.WriteFailed) (
       record {
-        tries = tries_on first f hs h at all (is_try f machine number call h same asks few sent read);
-        exchanged = logs_more la lb lc hs h logs logged;
+        tries = tries_on first f hs h at all (is_try f machine number call r same asks few one.0);
+        exchanged = logs_more la lb lc hs h logs one.1;
         ends = tt;
         written = text_begun first f hs h a b c at wrote told;
-      },
-    )
-goes_end first f g la lb lc a b c machine number call reply stop.Memory r (hs, all, at, logs, wrote) same asks few one told is =
-    subst (λ x. (hs : List Heard) × Goes first hs la lc a c x) (sym is)
-    (hs, record { tries = all; exchanged = tt; ends = tt; written = subst (λ x. Appends a x (printed first hs)) (sym told) wrote })
-goes_end first f g la lb lc a b c machine number call reply stop.BadLine r so_far same asks few one told is = absurd told
-goes_end first f g la lb lc a b c machine number call reply stop.Stale r so_far same asks few one told is = absurd told
-goes_end first f g la lb lc a b c machine number call reply stop.NoReply r so_far same asks few one told is = absurd told
-goes_end first f g la lb lc a b c machine number call reply stop.ReadFailed r so_far same asks few one told is = absurd told
+      }) refl (subst (IsNoted contents ea ec) (sym (texts_on first f hs h number call at asks)) (noted_then contents ea eb ec (event_texts first hs) (lines_under f number (came_in r) r.reply) noted more)))
+  goes_end first f g la lb lc a b c ea eb ec machine number call r stop.Memory result (hs, all, at, logs, wrote, noted) same asks few one told more is =
+      subst (λ x. (hs : List Heard) × GoesWithEvents contents first hs la lc a c ea ec x) (sym is) (ended first hs la lc a c ea ec (Err stop.Memory) (
+      record { tries = all; exchanged = tt; ends = subst (λ x. x.tries < 10) (sym at) few; written = subst (λ x. Appends a x (printed first hs)) (sym told) wrote })
+      refl (noted_kept contents ea eb ec (event_texts first hs) noted more))
+  goes_end first f g la lb lc a b c ea eb ec machine number call r stop.BadLine result so_far same asks few one told more is = absurd told
+  goes_end first f g la lb lc a b c ea eb ec machine number call r stop.Stale result so_far same asks few one told more is = absurd told
+  goes_end first f g la lb lc a b c ea eb ec machine number call r stop.NoReply result so_far same asks few one told more is = absurd told
+  goes_end first f g la lb lc a b c ea eb ec machine number call r stop.ReadFailed result so_far same asks few one told more is = absurd told
+
+  -- nothing is asked any more
+  end_noted : (first f : Feed) (hs : List Heard) (ea eb ec : EventLog E) (r : Result (Unit {0}) FeedStop) → feed_after first hs ≡ f → IsNoted contents ea eb (event_texts first hs) → IsNoted contents eb ec (end_texts f r)
+      → IsNoted contents ea ec (event_texts first hs ++ end_texts (feed_after first hs) r)
+  end_noted first f hs ea eb ec r at noted more =
+      subst (λ g. IsNoted contents ea ec (event_texts first hs ++ end_texts g r)) (sym at) (noted_then contents ea eb ec (event_texts first hs) (end_texts f r) noted more)
+
+  pub goes_ended : (first f : Feed) (la lb : Option (List Try)) (a b : Option (List ℕ)) (ea eb ec : EventLog E) (r : Result (Unit {0}) FeedStop) → SoFar first f la lb a b ea eb → IsEnd f r → IsNoted contents eb ec (end_texts f r)
+      → (hs : List Heard) × GoesWithEvents contents first hs la lb a b ea ec r
+  goes_ended first f la lb a b ea eb ec (Ok u) (hs, all, at, logs, wrote, noted) is more =
+      (hs, (record { tries = all; exchanged = logs; ends = subst (λ g. EndsBy g (Ok u)) (sym at) is; written = wrote }, end_noted first f hs ea eb ec (Ok u) at noted more))
+  goes_ended first f la lb a b ea eb ec (Err stop.BadLine) (hs, all, at, logs, wrote, noted) is more =
+      (hs, (record { tries = all; exchanged = logs; ends = subst (λ g. EndsBy g (Err stop.BadLine)) (sym at) is; written = wrote }, end_noted first f hs ea eb ec (Err stop.BadLine) at noted more))
+  goes_ended first f la lb a b ea eb ec (Err stop.Stale) (hs, all, at, logs, wrote, noted) is more =
+      (hs, (record { tries = all; exchanged = logs; ends = subst (λ g. EndsBy g (Err stop.Stale)) (sym at) is; written = wrote }, end_noted first f hs ea eb ec (Err stop.Stale) at noted more))
+  goes_ended first f la lb a b ea eb ec (Err stop.NoReply) so_far is more = absurd is
+  goes_ended first f la lb a b ea eb ec (Err stop.WriteFailed) so_far is more = absurd is
+  goes_ended first f la lb a b ea eb ec (Err stop.ReadFailed) so_far is more = absurd is
+  goes_ended first f la lb a b ea eb ec (Err stop.Memory) so_far is more = absurd is
+
+-- nothing was asked where memory is refused before
+pub no_memory : {E : Type 0} (contents : E → Option (List ℕ)) (f : Feed) (log : Option (List Try)) (a : Option (List ℕ)) (e : EventLog E) → f.tries ≡ 0
+    → (hs : List Heard) × GoesWithEvents contents f hs log log a a e e (Err stop.Memory)
+no_memory contents f log a e new =
+    ([], (record { tries = tt; exchanged = tt; ends = subst (λ n. n < 10) (sym new) (lit< tt); written = Appends-nil a }, lost contents e e [] refl))
 
 -- ---- what the loop keeps
 
@@ -88,8 +129,7 @@ tells_some : (known : Option (List ℕ)) → Tells known (unwrap_or known [])
 tells_some None = tt
 tells_some (Some all) = refl
 
-pub no_lines : (first : List ℕ → Feed) (known : Option (List ℕ)) (log : Option (List Try)) (a : Option (List ℕ)) (r : Result (Unit {0}) FeedStop) (why : FeedStop) (fault : ReadFault)
-    → r ≡ Err why → why ≡ unread fault → FeedEnds first known log log a a r
-no_lines first known log a r why Failed is of = rw (is, of) (refl, Keeps-refl a)
-no_lines first known log a r why Memory is of =
-    rw (is, of) (unwrap_or known [], tells_some known, [], record { tries = tt; exchanged = tt; ends = tt; written = Appends-nil a })
+pub no_lines : {E : Type 0} (contents : E → Option (List ℕ)) (first : List ℕ → Feed) (known : Option (List ℕ)) (log : Option (List Try)) (a : Option (List ℕ)) (e : EventLog E) (r : Result (Unit {0}) FeedStop) (why : FeedStop)
+    (fault : ReadFault) → ((raw : List ℕ) → (first raw).tries ≡ 0) → r ≡ Err why → why ≡ unread fault → FeedEndsWithEvents contents first known log log a a e e r
+no_lines contents first known log a e r why Failed new is of = rw (is, of) (refl, Keeps-refl a, lost contents e e [] refl)
+no_lines contents first known log a e r why Memory new is of = rw (is, of) (unwrap_or known [], tells_some known, (no_memory contents (first (unwrap_or known [])) log a e (new (unwrap_or known []))).0, (no_memory contents (first (unwrap_or known [])) log a e (new (unwrap_or known []))).1)

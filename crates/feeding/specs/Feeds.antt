@@ -16,6 +16,8 @@ pub record Feed : Type 0 where
   pub card : Card
   -- the lines of the cards that were not put in yet
   pub left : List (List ℕ)
+  -- how many lines were taken before these
+  pub taken : ℕ
   -- how many tries in a row changed nothing
   pub tries : ℕ
   -- what is printed after the last try
@@ -23,7 +25,7 @@ pub record Feed : Type 0 where
 
 -- no card was put in yet
 abbrev pub at_first : List ℕ → ℕ → List ℕ → List ℕ → Feed
-at_first machine boot batch raw = record { feeder = started machine boot; batch = batch; card = new_card [] 0; left = lines raw; tries = 0; text = [] }
+at_first machine boot batch raw = record { feeder = started machine boot; batch = batch; card = new_card [] 0; left = lines raw; taken = 0; tries = 0; text = [] }
 
 -- ---- acts
 
@@ -57,8 +59,8 @@ acts f Wait = f
 
 -- a card is put in, or it is put out as bad where that is refused, and the next one comes
 abbrev pub put_in : Feed → Card → List (List ℕ) → (Feed → Feed) → FeederState → Result (Unit {0}) InsertFault → Feed
-put_in f c ls next g (Ok done) = record f { feeder = g; card = c; left = ls }
-put_in f c ls next g (Err why) = next (record (prints f (end_line c.serial false)) { feeder = g; left = ls })
+put_in f c ls next g (Ok done) = record f { feeder = g; card = c; left = ls; taken = f.taken + 1 }
+put_in f c ls next g (Err why) = next (record (prints f (end_line c.serial false)) { feeder = g; left = ls; taken = f.taken + 1 })
 
 abbrev pub drawn : Feed → List ℕ → List (List ℕ) → (Feed → Feed) → Option Card → Feed
 drawn f l ls next None = record f { left = l ∷ ls }

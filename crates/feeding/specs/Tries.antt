@@ -73,7 +73,7 @@ abbrev pub IsBadLine : List (List ℕ) → Type 0
 IsBadLine [] = ⊥
 IsBadLine (l ∷ ls) = card_of l ≡ None
 
--- no card is in, and all were put in; or the next line has another form; or a later boot released the numbers; or ten tries changed nothing
+-- no card is in, and all were put in; or the next line has another form; or a later boot released the numbers; or ten tries changed nothing; or memory was refused in a further try
 abbrev pub EndsBy : Feed → Result (Unit {0}) FeedStop → Type 0
 EndsBy f (Ok u) = (f.feeder.stand ≡ Idle) × (f.left ≡ [])
 EndsBy f (Err stop.BadLine) = (f.feeder.stand ≡ Idle) × IsBadLine f.left
@@ -81,7 +81,7 @@ EndsBy f (Err stop.Stale) = f.feeder.stand ≡ Stale
 EndsBy f (Err stop.NoReply) = f.tries ≡ 10
 EndsBy f (Err stop.WriteFailed) = ⊤
 EndsBy f (Err stop.ReadFailed) = ⊥
-EndsBy f (Err stop.Memory) = ⊤
+EndsBy f (Err stop.Memory) = f.tries < 10
 
 -- the text of these tries was written, or a beginning of it where the writer failed
 abbrev pub Written : Option (List ℕ) → Option (List ℕ) → List ℕ → Result (Unit {0}) FeedStop → Type 0

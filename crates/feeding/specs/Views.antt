@@ -1,11 +1,15 @@
 -- How the code's values are seen.
-use Rattle.std.specs.Prelude.{◌≡◌, ℕ, Some, map, drop}
+use Rattle.std.specs.Prelude.{◌≡◌, ℕ, List, Option, Some, map, drop, option_map}
+use Rattle.job_core.specs.declared.reply.Reply.{Reply}
 use Rattle.job_core.specs.declared.request.Call.{Call}
 use Rattle.feeder.specs.Table.{asked}
 use Rattle.feeding.specs.declared.card.Card.{Card as CardValue}
+use Rattle.feeding.specs.declared.engine.Response.{Response}
 use Rattle.feeding.specs.declared.feed.Feed.{Feed as FeedValue}
+use Rattle.feeding.specs.declared.feed.Rejected.{Rejected}
 use Rattle.feeding.specs.Cards.{Card}
-use Rattle.feeding.specs.Feeds.{Feed}
+use Rattle.feeding.specs.Events.{cards_in, rejection, without_numbers}
+use Rattle.feeding.specs.Feeds.{Feed, by_reply}
 
 abbrev pub card_view : CardValue → Card
 card_view c = record { serial = c.serial; words = c.words.items; given = c.given }
@@ -16,6 +20,7 @@ feed_view f = record {
   batch = f.batch;
   card = card_view f.card;
   left = map (λ l. l.now) (drop f.at f.lines.now);
+  taken = f.at;
   tries = f.tries;
   text = f.text.items;
 }
@@ -23,3 +28,11 @@ feed_view f = record {
 -- a call is asked under this number
 abbrev pub AsksUnder : ℕ → Feed → Type 0
 AsksUnder number f = (call : Call) × (asked f.feeder ≡ Some (number, call))
+
+-- the cards that a try puts out as bad
+abbrev pub IsRejected : Feed → ℕ → Option Reply → Rejected → Type 0
+IsRejected f number reply out = (out.card ≡ rejection f number reply) × (cards_in (map (λ l. l.now) out.lines.now) ≡ without_numbers (by_reply f number reply))
+
+-- the bytes that came, if any did
+abbrev pub came_in : Response → Option (List ℕ)
+came_in r = option_map (λ v. v.items) r.came

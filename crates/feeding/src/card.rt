@@ -13,7 +13,7 @@ use line_words::{number_within, status_word, words_of};
 use std::alloc::{AllocError, Global};
 
 /// The greatest serial.
-const MOST_SERIAL: u64 = 999_999_999_999_999_999;
+pub(crate) const MOST_SERIAL: u64 = 999_999_999_999_999_999;
 
 /// A card's serial, the words that it gives in turn, and how many of them it has given.
 #[derive(Drop)]

@@ -1,22 +1,25 @@
 //! The engine of `persod feed`.
 ghost use Rattle.std.specs.Prelude.{◌≡◌, ◌≤◌, ◌<◌, ◌^◌, ◌∷◌, ◌++◌, [], List, None};
-ghost use Rattle.std.specs.Prelude.{IfOk, option_map};
+ghost use Rattle.std.specs.Prelude.{IfOk, if◌then◌else◌, option_map};
 ghost use Rattle.wire.specs.Sending.{IsSendable, sending_of};
 ghost use Rattle.feeder.specs.Table.{asked};
+ghost use Rattle.feeding.specs.Events.{FeedEndsWithEvents, GoesWithEvents, IsNoted, IsNotedOf};
+ghost use Rattle.feeding.specs.Events.{end_texts, lines_under};
 ghost use Rattle.feeding.specs.Feeds.{at_first, hears};
-ghost use Rattle.feeding.specs.Tries.{FeedEnds, Goes, Heard, IsEnd, IsHeard, IsSettled};
-ghost use Rattle.feeding.specs.Tries.{IsTold, Try};
-ghost use Rattle.feeding.specs.Views.{AsksUnder, feed_view};
+ghost use Rattle.feeding.specs.Tries.{FeedEnds, Heard, IsEnd, IsHeard, IsSettled, IsTold, try_of};
+ghost use Rattle.feeding.specs.Views.{AsksUnder, came_in, feed_view};
 
+use crate::events::{Tried, note_flaw};
 use crate::exchange::Exchange;
 use crate::feed::Feed;
+use event_lines::{EventLog, Level};
 use feeder::Stand;
 use job_core::{Call, Reply};
 use line_words::lines_of;
 use std::alloc::{AllocError, Global};
 use std::error::Error;
 use std::fmt;
-use std::io::{Read, Write};
+use std::io::{self, Read, Write};
 use store_data::Name;
 use text_io::{ReadFault, WriteFailed, read_whole, write_text};
 use wire::{parse_reply, request_text};
@@ -120,52 +123,115 @@ pub fn feed_engine<R: Read, W: Write, X: Exchange>(
         (X.log exchange.old) (X.log exchange.new) (W.contents writer.old)
         (W.contents writer.new) result }
 {
+    let mut events = EventLog::new(Level::Off, io::sink());
+    feed_with_events(
+        alloc,
+        machine,
+        boot,
+        batch,
+        reader,
+        writer,
+        exchange,
+        &mut events,
+    )
+}
+
+/// Feeds a machine as `feed_engine` does, and writes event lines: for each card that is rejected
+/// the number and the code of the refusal or another cause, for each try that changed nothing what
+/// came, and at a line of another form its number and what is wrong with it. Those of a try come
+/// before what is printed after it. Nothing is made of them where the log is off, and a line that
+/// can't be written stops nothing.
+pub fn feed_with_events<R: Read, W: Write, X: Exchange, E: Write + Drop>(
+    alloc: Global,
+    machine: Name,
+    boot: u64,
+    batch: Name,
+    reader: &mut R,
+    writer: &mut W,
+    exchange: &mut X,
+    events: &mut EventLog<E>,
+) -> Result<(), FeedStop>
+    requires least { 1 ≤ boot }
+    requires most { boot ≤ 9999999999 }
+    ensures { FeedEndsWithEvents E.contents (at_first machine boot batch)
+        (R.remaining reader.old) (X.log exchange.old) (X.log exchange.new)
+        (W.contents writer.old) (W.contents writer.new) events.old events.new result }
+{
     let raw = read_whole(alloc, reader)?;
     let lines = lines_of(alloc, raw.as_slice())?;
     let mut feed = Feed::new(alloc, machine, boot, batch, lines.as_slice());
-    feed_all(alloc, &mut feed, writer, exchange)
+    feed_all(alloc, &mut feed, writer, exchange, events)
 }
 
 // Goes on until nothing is asked.
-fn feed_all<W: Write, X: Exchange>(
+fn feed_all<W: Write, X: Exchange, E: Write + Drop>(
     alloc: Global,
     feed: &mut Feed<'_>,
     writer: &mut W,
     exchange: &mut X,
+    events: &mut EventLog<E>,
 ) -> Result<(), FeedStop>
     requires tries { feed.old.tries ≤ 10 }
     requires settled { IsSettled (feed_view feed.old) }
-    ensures { (hs : List Heard) × Goes (feed_view feed.old) hs (X.log exchange.old)
-        (X.log exchange.new) (W.contents writer.old) (W.contents writer.new) result }
+    ensures { (hs : List Heard) × GoesWithEvents E.contents (feed_view feed.old) hs
+        (X.log exchange.old) (X.log exchange.new) (W.contents writer.old) (W.contents writer.new)
+        events.old events.new result }
 {
     while let Some((number, call)) = feed.feeder.ask() {
         if feed.tries >= MOST_TRIES {
             return Err(FeedStop::NoReply);
         }
-        let reply = one_try(alloc, feed.feeder.machine(), number, call, exchange)?;
-        tell(alloc, feed, number, reply, writer)?;
+        let response = one_try(alloc, feed.feeder.machine(), number, call, exchange)?;
+        go_on(alloc, feed, number, response, writer, events)?;
     }
-    end(feed)
+    end(alloc, feed, events)
 }
 
-// Goes on after a try, and writes what is printed after it.
-fn tell<W: Write>(
+// Goes on after a try, and writes its event lines and what is printed after it.
+fn go_on<W: Write, E: Write + Drop>(
     alloc: Global,
     feed: &mut Feed<'_>,
     number: u64,
-    reply: Option<Reply>,
+    response: Response,
     writer: &mut W,
+    events: &mut EventLog<E>,
 ) -> Result<(), FeedStop>
     requires few { feed.old.tries < 10 }
     requires asks { AsksUnder number (feed_view feed.old) }
-    ensures { IsTold (hears (feed_view feed.old) reply) (feed_view feed.new)
+    ensures printed { IsTold (hears (feed_view feed.old) response.reply) (feed_view feed.new)
         (W.contents writer.old) (W.contents writer.new) result }
+    ensures noted { IsNotedOf E.contents events.old events.new
+        (lines_under (feed_view feed.old) number (came_in response) response.reply) result }
 {
-    let heard = feed.hear(alloc, number, reply.as_ref());
-    drop(reply);
-    heard?;
+    let Response { came, reply } = response;
+    let came = kept(came, events.is_on());
+    let serial = feed.card.serial;
+    let rejected = feed.hear(alloc, number, reply.as_ref())?;
+    let tried = Tried {
+        number,
+        serial,
+        came: came.as_deref(),
+        reply: reply.as_ref(),
+        rejected,
+        tries: feed.tries,
+    };
+    tried.note(alloc, events);
     write_text(writer, feed.text.as_slice())?;
     Ok(())
+}
+
+// What came, where it is wanted for event lines.
+fn kept(came: Option<Vec<u8>>, is_wanted: bool) -> Option<Vec<u8>>
+    ensures { result ≡ (if is_wanted then came else None) }
+{
+    came.filter(|_| is_wanted)
+}
+
+// What came after a message, if anything did, and the reply that it is, if it is one.
+#[derive(Drop)]
+struct Response {
+    came: Option<Vec<u8>>,
+    reply: Option<Reply>,
 }
 
 // Sends a call, and reads what comes back.
@@ -175,30 +241,47 @@ fn one_try<X: Exchange>(
     number: u64,
     call: &Call,
     exchange: &mut X,
-) -> Result<Option<Reply>, AllocError>
+) -> Result<Response, AllocError>
     requires least { 1 ≤ number }
     requires most { number < 10 ^ 18 }
     requires sendable { IsSendable call.now }
-    ensures { IfOk result (λ reply. (one : Try)
-        × (one.sent ≡ sending_of machine.now number call.now) × IsHeard one.came reply
-        × (X.log exchange.new ≡ option_map (λ l. l ++ one ∷ []) (X.log exchange.old))) }
+    ensures heard { IfOk result (λ r. IsHeard (came_in r) r.reply) }
+    ensures logged { IfOk result (λ r. X.log exchange.new ≡ option_map
+        (λ l. l ++ try_of (sending_of machine.now number call.now) r.came ∷ [])
+        (X.log exchange.old)) }
 {
     let message = request_text(alloc, machine, number, call)?;
-    match exchange.exchange(message.as_slice())? {
-        Some(came) => parse_reply(alloc, came.as_slice()),
+    let came = exchange.exchange(message.as_slice())?;
+    let reply = reply_in(alloc, came.as_deref())?;
+    Ok(Response { came, reply })
+}
+
+// The reply that is the whole of what came.
+fn reply_in(alloc: Global, came: Option<&[u8]>) -> Result<Option<Reply>, AllocError>
+    ensures { IfOk result (λ reply. IsHeard (option_map (λ b. b.now) came.entry) reply) }
+{
+    match came {
+        Some(bytes) => parse_reply(alloc, bytes),
         None => Ok(None),
     }
 }
 
 // Nothing is asked, and no card is in.
-fn end(feed: &Feed<'_>) -> Result<(), FeedStop>
+fn end<E: Write + Drop>(
+    alloc: Global,
+    feed: &Feed<'_>,
+    events: &mut EventLog<E>,
+) -> Result<(), FeedStop>
     requires asks { asked (feed_view feed.now).feeder ≡ None }
     requires settled { IsSettled (feed_view feed.now) }
-    ensures { IsEnd (feed_view feed.now) result }
+    ensures is { IsEnd (feed_view feed.now) result }
+    ensures noted { IsNoted E.contents events.old events.new
+        (end_texts (feed_view feed.now) result) }
 {
     match feed.feeder.stand() {
         Stand::Idle => {
             if feed.at < feed.lines.len() {
+                note_flaw(alloc, feed.at as u64 + 1, feed.lines[feed.at], events);
                 Err(FeedStop::BadLine)
             } else {
                 Ok(())

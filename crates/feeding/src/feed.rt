@@ -1,10 +1,13 @@
 //! A feed: a machine that is given one card after the other.
-ghost use Rattle.std.specs.Prelude.{◌≡◌, ◌<◌, ◌≤◌, List, ℕ, OnOk, Some, map, option_map};
+ghost use Rattle.std.specs.Prelude.{◌≡◌, ◌<◌, ◌≤◌, List, ℕ, IfOk, OnOk, Some, drop, map, option_map};
 ghost use Rattle.line_words.specs.Lines.{lines as lines_in};
 ghost use Rattle.feeder.specs.Table.{asked};
+ghost use Rattle.feeder.specs.Table.{Eject, after_card};
+ghost use Rattle.feeding.specs.Cards.{next_word};
+ghost use Rattle.feeding.specs.Events.{bad_by, cards_in, rejection, without_numbers};
 ghost use Rattle.feeding.specs.Feeds.{applies, at_first, by_reply, counted, draws, hears, is_asked};
-ghost use Rattle.feeding.specs.Feeds.{settled};
-ghost use Rattle.feeding.specs.Views.{AsksUnder, feed_view};
+ghost use Rattle.feeding.specs.Feeds.{puts_out, settled};
+ghost use Rattle.feeding.specs.Views.{AsksUnder, IsRejected, feed_view};
 
 use crate::card::{Card, card_of, push_applied, push_end};
 use feeder::{Act, Feeder, Stand};
@@ -12,13 +15,31 @@ use job_core::Reply;
 use std::alloc::{AllocError, Global};
 use store_data::Name;
 
+/// How the card that was in was put out as bad.
+#[derive(Clone, Copy)]
+pub(crate) enum Rejection {
+    /// A reply said so.
+    ByReply,
+    /// The boot had no number left under which to report its word.
+    Exhausted,
+}
+
+/// The cards that a try put out as bad.
+#[derive(Drop)]
+pub(crate) struct Rejected<'a> {
+    /// How the card that was in, if it was.
+    pub(crate) card: Option<Rejection>,
+    /// The lines of those for which the boot had no numbers left, up to a line of another form.
+    pub(crate) lines: &'a [&'a [u8]],
+}
+
 /// A machine's feeder, the card that was put in last, the lines of all, how many of them
 /// were taken, and what is printed after the last try.
 #[derive(Drop)]
 pub(crate) struct Feed<'a> {
     pub(crate) feeder: Feeder,
     batch: Name,
-    card: Card,
+    pub(crate) card: Card,
     pub(crate) lines: &'a [&'a [u8]],
     pub(crate) at: usize,
     pub(crate) tries: u32,
@@ -57,21 +78,44 @@ impl<'a> Feed<'a> {
         alloc: Global,
         number: u64,
         reply: Option<&Reply>,
-    ) -> Result<(), AllocError>
+    ) -> Result<Rejected<'a>, AllocError>
         requires few { self.old.tries < 10 }
         requires asks { AsksUnder number (feed_view self.old) }
-        ensures { OnOk result (feed_view self.new
+        ensures feed { OnOk result (feed_view self.new
             ≡ hears (feed_view self.old) (option_map (λ r. r.now) reply.entry)) }
+        ensures rejected { IfOk result (λ out. IsRejected (feed_view self.old) number
+            (option_map (λ r. r.now) reply.entry) out) }
     {
         self.text.clear();
-        self.take(alloc, number, reply)?;
-        self.settle(alloc)?;
+        let card = self.take(alloc, number, reply)?;
+        let lines = self.settle(alloc)?;
         self.count(number);
-        Ok(())
+        Ok(Rejected { card, lines })
     }
 
-    // Puts the next card in, where none is.
-    fn settle(&mut self, alloc: Global) -> Result<(), AllocError>
+    // Puts the next card in, where none is. Where the boot has no numbers left for any card, these
+    // are the lines that were left; else none are.
+    fn settle(&mut self, alloc: Global) -> Result<&'a [&'a [u8]], AllocError>
+        ensures feed { OnOk result (feed_view self.new ≡ settled (feed_view self.old)) }
+        ensures lines { IfOk result (λ lines. cards_in (map (λ l. l.now) lines.now)
+            ≡ without_numbers (feed_view self.old)) }
+    {
+        let left = self.left();
+        self.go_on(alloc)?;
+        match self.feeder.stand() {
+            Stand::Idle => Ok(left),
+            _ => Ok(&left[..0]),
+        }
+    }
+
+    // The lines of the cards that were not put in yet.
+    fn left(&self) -> &'a [&'a [u8]]
+        ensures { result.now ≡ drop self.now.at self.now.lines.now }
+    {
+        &self.lines[self.at.min(self.lines.len())..]
+    }
+
+    fn go_on(&mut self, alloc: Global) -> Result<(), AllocError>
         ensures { OnOk result (feed_view self.new ≡ settled (feed_view self.old)) }
     {
         match self.feeder.stand() {
@@ -81,13 +125,20 @@ impl<'a> Feed<'a> {
     }
 
     // Does what a reply brings.
-    fn take(&mut self, alloc: Global, number: u64, reply: Option<&Reply>) -> Result<(), AllocError>
-        ensures { OnOk result (feed_view self.new
+    fn take(
+        &mut self,
+        alloc: Global,
+        number: u64,
+        reply: Option<&Reply>,
+    ) -> Result<Option<Rejection>, AllocError>
+        ensures feed { OnOk result (feed_view self.new
             ≡ by_reply (feed_view self.old) number (option_map (λ r. r.now) reply.entry)) }
+        ensures card { IfOk result (λ card. card
+            ≡ rejection (feed_view self.old) number (option_map (λ r. r.now) reply.entry)) }
     {
         match reply {
             Some(reply) => self.act_on(alloc, number, reply),
-            None => Ok(()),
+            None => Ok(None),
         }
     }
 
@@ -113,27 +164,46 @@ impl<'a> Feed<'a> {
     }
 
     // Does what the feeder's act is.
-    fn act_on(&mut self, alloc: Global, number: u64, reply: &Reply) -> Result<(), AllocError>
-        ensures { OnOk result (feed_view self.new
+    fn act_on(
+        &mut self,
+        alloc: Global,
+        number: u64,
+        reply: &Reply,
+    ) -> Result<Option<Rejection>, AllocError>
+        ensures feed { OnOk result (feed_view self.new
             ≡ by_reply (feed_view self.old) number (Some reply.now)) }
+        ensures card { IfOk result (λ card. card
+            ≡ rejection (feed_view self.old) number (Some reply.now)) }
     {
         match self.feeder.reply(number, reply) {
             Act::Apply(command) => self.apply(alloc, command),
-            Act::Eject(good) => push_end(&mut self.text, self.card.serial, good),
-            Act::Send | Act::Wait => Ok(()),
+            Act::Eject(good) => self.put_out(good, Rejection::ByReply),
+            Act::Send | Act::Wait => Ok(None),
         }
     }
 
     // The card receives a command, and gives its next word.
-    fn apply(&mut self, alloc: Global, command: &[u8]) -> Result<(), AllocError>
-        ensures { OnOk result (feed_view self.new ≡ applies (feed_view self.old) command.now) }
+    fn apply(&mut self, alloc: Global, command: &[u8]) -> Result<Option<Rejection>, AllocError>
+        ensures feed { OnOk result (feed_view self.new
+            ≡ applies (feed_view self.old) command.now) }
+        ensures card { IfOk result (λ card. card ≡ bad_by Rejection.Exhausted
+            (after_card self.old.feeder (next_word (feed_view self.old).card)).1) }
     {
         let sw = self.card.give();
         push_applied(alloc, &mut self.text, self.card.serial, command, sw)?;
         match self.feeder.card(sw) {
-            Act::Eject(good) => push_end(&mut self.text, self.card.serial, good),
-            Act::Apply(_) | Act::Send | Act::Wait => Ok(()),
+            Act::Eject(good) => self.put_out(good, Rejection::Exhausted),
+            Act::Apply(_) | Act::Send | Act::Wait => Ok(None),
         }
+    }
+
+    // The card is put out as good, or as bad in this way.
+    fn put_out(&mut self, good: bool, why: Rejection) -> Result<Option<Rejection>, AllocError>
+        ensures feed { OnOk result (feed_view self.new ≡ puts_out (feed_view self.old) good) }
+        ensures card { IfOk result (λ card. card ≡ bad_by why (Eject good)) }
+    {
+        push_end(&mut self.text, self.card.serial, good)?;
+        Ok(if good { None } else { Some(why) })
     }
 
     // Puts the next card in. One for which the boot has no numbers left is put out as bad.

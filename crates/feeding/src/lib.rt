@@ -3,8 +3,11 @@
 
 mod card;
 mod engine;
+mod events;
 mod exchange;
 mod feed;
+mod flaw;
 
-pub use engine::{FeedStop, feed_engine};
+pub use engine::{FeedStop, feed_engine, feed_with_events};
 pub use exchange::Exchange;
+pub use flaw::{Flaw, flaw_of};

@@ -5,6 +5,7 @@ use job_core::{
     BatchRow, BatchSize, BatchTotals, BlankTotals, Change, JobStore, KeptReply, Lot, RecordLine,
     RecordState, SegmentRow, SessionRow, StoreFault, any_overlaps, lot_among,
 };
+use reopening::{FaultCounts, ServerStore};
 use std::alloc::Global;
 use store_data::{Name, Product};
 
@@ -174,6 +175,25 @@ impl JobStore for ListStore {
         marks::set_mark(&mut self.marks, client, mark)?;
         self.kept.push(reply).unwrap();
         marks::drop_released(&mut self.kept, &self.marks);
+        Ok(())
+    }
+}
+
+// Lists have no device that fails, and nothing to close.
+impl ServerStore for ListStore {
+    ghost use Rattle.std.specs.Prelude.{⊤};
+
+    ghost closed = { λ _. ⊤ };
+
+    fn fault_counts(&self) -> FaultCounts {
+        FaultCounts { failed: 0, full: 0 }
+    }
+
+    fn reply_count(&mut self) -> Result<u64, StoreFault> {
+        Ok(self.kept.len() as u64)
+    }
+
+    fn finish(self) -> Result<(), StoreFault> {
         Ok(())
     }
 }

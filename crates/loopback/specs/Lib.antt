@@ -1,2 +1,4 @@
+pub mod Drains
 pub mod Faults
+pub mod Starts
 pub mod Waits

@@ -2,8 +2,10 @@
 #![tactic(auto)]
 
 mod clock;
+mod drain;
 mod listening;
 mod peer;
+mod start;
 
 pub use clock::{MOST_TIME, MOST_WAIT};
 pub use listening::Loopback;

@@ -3,6 +3,7 @@ ghost use Rattle.std.specs.Prelude.{◌≡◌, IfOk, None};
 ghost use Rattle.std.specs.IoError.{error_kind};
 ghost use Rattle.loopback.specs.Faults.{fault_of};
 
+use crate::drain::drain;
 use crate::peer::{PeerReader, PeerWriter};
 use heads::ByteSource;
 use server::{Connections, NextFault, Served};
@@ -79,7 +80,13 @@ impl<'a, R: Net + Clock> Connections for Loopback<'a, R> {
         self.take().map_err(fault_of)
     }
 
-    fn back(&mut self, _incoming: PeerReader<'a, R>, writer: PeerWriter<'a, R>, _served: Served) {
+    fn back(
+        &mut self,
+        mut incoming: PeerReader<'a, R>,
+        writer: PeerWriter<'a, R>,
+        _served: Served,
+    ) {
         writer.end();
+        drain(&mut incoming, writer.start());
     }
 }

@@ -1,10 +1,14 @@
 //! The two ends of a connection: what brings its bytes, and what takes the reply's.
-ghost use Rattle.std.specs.Prelude.{◌≡◌, IfOk, IfSome};
-ghost use Rattle.std.specs.Io.{ReadsAtMost};
+ghost use Rattle.std.specs.Prelude.{◌≡◌, ◌≢◌, ◌++◌, IfErr, IfOk, IfSome, MatchResult, [], take};
+ghost use Rattle.std.specs.Io.{ReadsAtMost, WritesAtMost};
+ghost use Rattle.std.specs.IoError.{error_kind};
+ghost use Rattle.loopback.specs.Drains.{start_of_reply};
+ghost use Rattle.loopback.specs.Starts.{kept_of};
 
 use crate::clock::wait_at;
+use crate::start::ReplyStart;
 use heads::ByteSource;
-use std::io::{self, Read, Write};
+use std::io::{self, ErrorKind, Read, Write};
 use std::net::{Net, OpenStream, Shutdown};
 use std::time::{Clock, Instant};
 
@@ -24,14 +28,29 @@ impl<'a, R: Net + Clock> PeerReader<'a, R> {
         PeerReader { rt, stream, begun }
     }
 
-    // Reads, for as long as the peer has.
-    fn read_in_time(&mut self, buf: &mut [u8]) -> io::Result<usize>
+    // Reads once, for as long as the peer has.
+    fn read_once(&mut self, buf: &mut [u8]) -> io::Result<usize>
         ensures count { ReadsAtMost result buf.new }
         ensures begun { self.new.begun ≡ self.old.begun }
     {
         let wait = wait_at(self.begun, Instant::now(self.rt)?)?;
         self.stream.set_read_timeout(Some(wait))?;
         self.stream.read(buf)
+    }
+
+    // Reads, and again where a signal interrupts it.
+    fn read_in_time(&mut self, buf: &mut [u8]) -> io::Result<usize>
+        ensures count { ReadsAtMost result buf.new }
+        ensures begun { self.new.begun ≡ self.old.begun }
+        ensures retried { IfErr result (λ error. error_kind error ≢ ErrorKind.Interrupted) }
+    {
+        for _ in 0..u64::MAX {
+            match self.read_once(buf) {
+                Err(error) if error.kind() == ErrorKind::Interrupted => {}
+                read => return read,
+            }
+        }
+        Err(ErrorKind::TimedOut.into())
     }
 }
 
@@ -45,32 +64,46 @@ impl<R: Net + Clock> ByteSource for PeerReader<'_, R> {
     }
 }
 
-/// Takes a reply's bytes to a peer. A write fails that waits for `MOST_WAIT`, and so does one that
-/// begins `MOST_TIME` after the first.
+/// Takes a reply's bytes to a peer, and keeps the first of them. A write fails that waits for
+/// `MOST_WAIT`, and so does one that begins `MOST_TIME` after the first.
 #[derive(Drop)]
 pub struct PeerWriter<'a, R: Net + Clock> {
     rt: &'a R,
     stream: R::Stream,
     begun: Option<Instant>,
+    start: ReplyStart,
 }
 
 impl<'a, R: Net + Clock> PeerWriter<'a, R> {
     pub(crate) fn new(rt: &'a R, stream: R::Stream) -> PeerWriter<'a, R>
-        ensures { result.begun ≡ None }
+        ensures begun { result.begun ≡ None }
+        ensures start { kept_of result.start ≡ [] }
     {
-        let begun = None;
-        PeerWriter { rt, stream, begun }
+        PeerWriter {
+            rt,
+            stream,
+            begun: None,
+            start: ReplyStart::new(),
+        }
     }
 
-    /// Tells the peer that nothing more comes.
+    /// Shows the peer that nothing more comes.
     pub(crate) fn end(&self) {
         let _ = self.stream.shutdown(Shutdown::Write);
+    }
+
+    /// How the reply begins.
+    pub(crate) fn start(&self) -> &[u8]
+        ensures { result.now ≡ kept_of self.now.start }
+    {
+        self.start.as_slice()
     }
 
     // When the reply was begun, which is now if it wasn't.
     fn begun(&mut self) -> io::Result<Instant>
         ensures once { IfSome self.old.begun (λ begun. result ≡ Ok begun) }
         ensures kept { IfOk result (λ begun. self.new.begun ≡ Some begun) }
+        ensures start { self.new.start ≡ self.old.start }
     {
         if let Some(begun) = self.begun {
             return Ok(begun);
@@ -79,14 +112,45 @@ impl<'a, R: Net + Clock> PeerWriter<'a, R> {
         self.begun = Some(now);
         Ok(now)
     }
+
+    // Writes once, for as long as the reply has.
+    fn write_once(&mut self, buf: &[u8]) -> io::Result<usize>
+        ensures count { WritesAtMost result buf.now }
+        ensures begun { IfSome self.old.begun (λ begun. self.new.begun ≡ Some begun) }
+        ensures start { MatchResult result
+            (λ n. kept_of self.new.start ≡ start_of_reply (kept_of self.old.start ++ take n buf.now))
+            (λ _. kept_of self.new.start ≡ kept_of self.old.start) }
+    {
+        let begun = self.begun()?;
+        let wait = wait_at(begun, Instant::now(self.rt)?)?;
+        self.stream.set_write_timeout(Some(wait))?;
+        let count = self.stream.write(buf)?;
+        self.start.keep(&buf[..count]);
+        Ok(count)
+    }
+
+    // Writes, and again where a signal interrupts it.
+    fn write_in_time(&mut self, buf: &[u8]) -> io::Result<usize>
+        ensures count { WritesAtMost result buf.now }
+        ensures begun { IfSome self.old.begun (λ begun. self.new.begun ≡ Some begun) }
+        ensures retried { IfErr result (λ error. error_kind error ≢ ErrorKind.Interrupted) }
+        ensures start { MatchResult result
+            (λ n. kept_of self.new.start ≡ start_of_reply (kept_of self.old.start ++ take n buf.now))
+            (λ _. kept_of self.new.start ≡ kept_of self.old.start) }
+    {
+        for _ in 0..u64::MAX {
+            match self.write_once(buf) {
+                Err(error) if error.kind() == ErrorKind::Interrupted => {}
+                written => return written,
+            }
+        }
+        Err(ErrorKind::TimedOut.into())
+    }
 }
 
 impl<R: Net + Clock> Write for PeerWriter<'_, R> {
     fn write(&mut self, buf: &[u8]) -> io::Result<usize> {
-        let begun = self.begun()?;
-        let wait = wait_at(begun, Instant::now(self.rt)?)?;
-        self.stream.set_write_timeout(Some(wait))?;
-        self.stream.write(buf)
+        self.write_in_time(buf)
     }
 
     fn flush(&mut self) -> io::Result<()> {

@@ -1,13 +1,17 @@
 -- Our tables of each version are dropped, children first.
-use Rattle.std.proofs.Common.{◌≡◌, ℕ, List, [], ◌∷◌, codes, false, refl}
+use Rattle.std.proofs.Common.{◌≡◌, ◌≢◌, [], codes, false, refl, Result, Ok, Err}
 use Rattle.std.specs.List.{AllByRecursion}
 use Rattle.sqlite.specs.Effect.{Database}
+use Rattle.sqlite.specs.State.{State}
+use Rattle.sqlite.specs.declared.error.Error.{Error}
 use Rattle.sqlite_tied.specs.Compute.{everything}
+use Rattle.sql_base.specs.Ends.{Wrote}
 use Rattle.sql_order.specs.Versions.{schema_of}
+use Rattle.sql_order.specs.declared.versions.Version.{Version}
 use Rattle.sql_order.specs.declared.versions.Version.TheVariants.{One, Three, Two}
 use Rattle.order_anew.specs.Anew.{DropsAll}
-use Rattle.order_anew.specs.Drop.{DropsEach, IsDrop}
-use Rattle.order_anew.specs.Texts.{drop_batch, drop_blank, drop_grouping, drop_lot, drop_mark, drop_product, drop_record, drop_remake, drop_reply, drop_session, drop_unmixed_grouping, drop_version, drop_word}
+use Rattle.order_anew.specs.Drop.{DropsEach, IsDrop, WroteEach}
+use Rattle.order_anew.specs.Texts.{drops_of, drop_batch, drop_blank, drop_grouping, drop_lot, drop_mark, drop_product, drop_record, drop_remake, drop_reply, drop_session, drop_unmixed_grouping, drop_version, drop_word}
 use Rattle.order_anew.proofs.Emptied.{acts, each_dropped}
 use Rattle.order_anew.proofs.Gathered.{all_of, all_stand}
 
@@ -63,32 +67,33 @@ mark_is : IsDrop drop_mark (codes "mark")
 unfolding everything
 mark_is = record { parsed = _; is = refl; statement = refl; timeless = refl; free = refl }
 
-abbrev pub three_texts : List (List ℕ)
-three_texts = drop_mark ∷ drop_reply ∷ drop_remake ∷ drop_blank ∷ drop_word ∷ drop_session ∷ drop_grouping ∷ drop_record ∷ drop_batch ∷ drop_lot ∷ drop_product ∷ drop_version ∷ []
-
-pub three_dropped : (old new : Database) → DropsEach three_texts old new → DropsAll Three old new
-three_dropped old new drops sound just =
+pub all_dropped : (v : Version) (old new : Database) → DropsEach (drops_of v) old new → DropsAll v old new
+all_dropped One old new drops sound just =
+    let idle : AllByRecursion (λ t. acts t ≡ false) (schema_of One).tables = (refl, (refl, (refl, (refl, (refl, (refl, (refl, (refl, (refl, (refl, (refl, tt))))))))))) in
+    each_dropped (drops_of One) (all_of old (schema_of One) sound just idle)
+    ((version_is, refl), ((unmixed_grouping_is, refl), ((reply_is, refl), ((remake_is, refl), ((blank_is, refl), ((word_is, refl), ((session_is, refl), ((record_is, refl), ((batch_is, refl), ((lot_is, refl), ((product_is, refl), tt)))))))))))
+    old new drops (all_stand old (schema_of One) sound just idle refl)
+all_dropped Two old new drops sound just =
+    let idle : AllByRecursion (λ t. acts t ≡ false) (schema_of Two).tables = (refl, (refl, (refl, (refl, (refl, (refl, (refl, (refl, (refl, (refl, (refl, (refl, tt)))))))))))) in
+    each_dropped (drops_of Two) (all_of old (schema_of Two) sound just idle)
+    ((version_is, refl), ((mark_is, refl), ((unmixed_grouping_is, refl), ((reply_is, refl), ((remake_is, refl), ((blank_is, refl), ((word_is, refl), ((session_is, refl), ((record_is, refl), ((batch_is, refl), ((lot_is, refl), ((product_is, refl), tt))))))))))))
+    old new drops (all_stand old (schema_of Two) sound just idle refl)
+all_dropped Three old new drops sound just =
     let idle : AllByRecursion (λ t. acts t ≡ false) (schema_of Three).tables = (refl, (refl, (refl, (refl, (refl, (refl, (refl, (refl, (refl, (refl, (refl, (refl, tt)))))))))))) in
-    each_dropped three_texts (all_of old (schema_of Three) sound just idle)
+    each_dropped (drops_of Three) (all_of old (schema_of Three) sound just idle)
     ((mark_is, refl), ((reply_is, refl), ((remake_is, refl), ((blank_is, refl), ((word_is, refl), ((session_is, refl), ((grouping_is, refl), ((record_is, refl), ((batch_is, refl), ((lot_is, refl), ((product_is, refl), ((version_is, refl), tt))))))))))))
     old new drops (all_stand old (schema_of Three) sound just idle refl)
 
-abbrev pub two_texts : List (List ℕ)
-two_texts = drop_version ∷ drop_mark ∷ drop_unmixed_grouping ∷ drop_reply ∷ drop_remake ∷ drop_blank ∷ drop_word ∷ drop_session ∷ drop_record ∷ drop_batch ∷ drop_lot ∷ drop_product ∷ []
+some_dropped : (v : Version) → drops_of v ≢ []
+some_dropped One = λ none. cc
+some_dropped Two = λ none. cc
+some_dropped Three = λ none. cc
 
-pub two_dropped : (old new : Database) → DropsEach two_texts old new → DropsAll Two old new
-two_dropped old new drops sound just =
-    let idle : AllByRecursion (λ t. acts t ≡ false) (schema_of Two).tables = (refl, (refl, (refl, (refl, (refl, (refl, (refl, (refl, (refl, (refl, (refl, (refl, tt)))))))))))) in
-    each_dropped two_texts (all_of old (schema_of Two) sound just idle)
-    ((version_is, refl), ((mark_is, refl), ((unmixed_grouping_is, refl), ((reply_is, refl), ((remake_is, refl), ((blank_is, refl), ((word_is, refl), ((session_is, refl), ((record_is, refl), ((batch_is, refl), ((lot_is, refl), ((product_is, refl), tt))))))))))))
-    old new drops (all_stand old (schema_of Two) sound just idle refl)
-
-abbrev pub one_texts : List (List ℕ)
-one_texts = drop_version ∷ drop_unmixed_grouping ∷ drop_reply ∷ drop_remake ∷ drop_blank ∷ drop_word ∷ drop_session ∷ drop_record ∷ drop_batch ∷ drop_lot ∷ drop_product ∷ []
-
-pub one_dropped : (old new : Database) → DropsEach one_texts old new → DropsAll One old new
-one_dropped old new drops sound just =
-    let idle : AllByRecursion (λ t. acts t ≡ false) (schema_of One).tables = (refl, (refl, (refl, (refl, (refl, (refl, (refl, (refl, (refl, (refl, (refl, tt))))))))))) in
-    each_dropped one_texts (all_of old (schema_of One) sound just idle)
-    ((version_is, refl), ((unmixed_grouping_is, refl), ((reply_is, refl), ((remake_is, refl), ((blank_is, refl), ((word_is, refl), ((session_is, refl), ((record_is, refl), ((batch_is, refl), ((lot_is, refl), ((product_is, refl), tt)))))))))))
-    old new drops (all_stand old (schema_of One) sound just idle refl)
+pub all_wrote : {X : Type 0} (v : Version) (a b : State) (r : Result X Error) → WroteEach (drops_of v) a b r → Wrote (DropsAll v) a b r
+all_wrote v a b (Ok x) it =
+    let inside = it.well.inside (some_dropped v) in
+    record {
+      well = record { made = all_dropped v a.now b.now it.well.made; committed = it.well.committed; inside = inside.0; was_open = inside.1 };
+      kept = it.kept;
+    }
+all_wrote v a b (Err e) it = record { well = tt; kept = it.kept }

@@ -1,5 +1,7 @@
--- The texts that drop our tables, children first.
+-- The texts that drop our tables.
 use Rattle.std.specs.Prelude.{List, [], ◌∷◌, ℕ, codes}
+use Rattle.sql_order.specs.declared.versions.Version.{Version}
+use Rattle.sql_order.specs.declared.versions.Version.TheVariants.{One, Two, Three}
 
 abbrev pub drop_version : List ℕ
 drop_version = codes "DROP TABLE version"
@@ -40,17 +42,8 @@ drop_reply = codes "DROP TABLE reply"
 abbrev pub drop_mark : List ℕ
 drop_mark = codes "DROP TABLE mark"
 
-abbrev pub card_texts : List (List ℕ)
-card_texts = drop_reply ∷ drop_remake ∷ drop_blank ∷ drop_word ∷ []
-
-abbrev pub session_texts : List (List ℕ)
-session_texts = drop_reply ∷ drop_remake ∷ drop_blank ∷ drop_word ∷ drop_session ∷ []
-
-abbrev pub name_texts : List (List ℕ)
-name_texts = drop_record ∷ drop_batch ∷ drop_lot ∷ drop_product ∷ []
-
-abbrev pub earlier_texts : List (List ℕ)
-earlier_texts = drop_unmixed_grouping ∷ drop_reply ∷ drop_remake ∷ drop_blank ∷ drop_word ∷ drop_session ∷ drop_record ∷ drop_batch ∷ drop_lot ∷ drop_product ∷ []
-
-abbrev pub later_texts : List (List ℕ)
-later_texts = drop_mark ∷ drop_reply ∷ drop_remake ∷ drop_blank ∷ drop_word ∷ drop_session ∷ []
+-- all tables of a version, the last made first
+abbrev pub drops_of : Version → List (List ℕ)
+drops_of One = drop_version ∷ drop_unmixed_grouping ∷ drop_reply ∷ drop_remake ∷ drop_blank ∷ drop_word ∷ drop_session ∷ drop_record ∷ drop_batch ∷ drop_lot ∷ drop_product ∷ []
+drops_of Two = drop_version ∷ drop_mark ∷ drop_unmixed_grouping ∷ drop_reply ∷ drop_remake ∷ drop_blank ∷ drop_word ∷ drop_session ∷ drop_record ∷ drop_batch ∷ drop_lot ∷ drop_product ∷ []
+drops_of Three = drop_mark ∷ drop_reply ∷ drop_remake ∷ drop_blank ∷ drop_word ∷ drop_session ∷ drop_grouping ∷ drop_record ∷ drop_batch ∷ drop_lot ∷ drop_product ∷ drop_version ∷ []

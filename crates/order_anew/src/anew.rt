@@ -1,16 +1,64 @@
 //! Our tables of any version are dropped and made anew, in an open transaction.
-ghost use Rattle.std.specs.Prelude.{◌≡◌, [], ◌∷◌};
+ghost use Rattle.std.specs.Prelude.{◌≡◌, [], ◌∷◌, map};
 ghost use Rattle.sqlite.specs.Held.{state};
 ghost use Rattle.sqlite.specs.State.{HasCleanDisk, Survives};
 ghost use Rattle.sql_base.specs.Ends.{Wrote};
 ghost use Rattle.order_anew.specs.Anew.{DropsAll, MakesAnew};
-ghost use Rattle.order_anew.specs.Drop.{DropsEach};
-ghost use Rattle.order_anew.specs.Texts.{card_texts, earlier_texts, later_texts, name_texts};
-ghost use Rattle.order_anew.specs.Texts.{session_texts};
+ghost use Rattle.order_anew.specs.Drop.{DropsEach, WroteEach};
+ghost use Rattle.order_anew.specs.Texts.{drops_of};
 
 use sql_order::Version;
 use sql_tables::make_all;
 use sqlite::{Alter, Error, Transaction};
+
+// The texts that drop all tables of a version, the last made first.
+fn drops_of(version: Version) -> &'static [&'static str]
+    ensures { map (λ text. text.now) result.now ≡ drops_of version }
+{
+    match version {
+        Version::One => &[
+            "DROP TABLE version",
+            "DROP TABLE grouping",
+            "DROP TABLE reply",
+            "DROP TABLE remake",
+            "DROP TABLE blank",
+            "DROP TABLE word",
+            "DROP TABLE session",
+            "DROP TABLE record",
+            "DROP TABLE batch",
+            "DROP TABLE lot",
+            "DROP TABLE product",
+        ],
+        Version::Two => &[
+            "DROP TABLE version",
+            "DROP TABLE mark",
+            "DROP TABLE grouping",
+            "DROP TABLE reply",
+            "DROP TABLE remake",
+            "DROP TABLE blank",
+            "DROP TABLE word",
+            "DROP TABLE session",
+            "DROP TABLE record",
+            "DROP TABLE batch",
+            "DROP TABLE lot",
+            "DROP TABLE product",
+        ],
+        Version::Three => &[
+            "DROP TABLE mark",
+            "DROP TABLE reply",
+            "DROP TABLE remake",
+            "DROP TABLE blank",
+            "DROP TABLE word",
+            "DROP TABLE session",
+            "DROP TABLE grouping2",
+            "DROP TABLE record",
+            "DROP TABLE batch",
+            "DROP TABLE lot",
+            "DROP TABLE product",
+            "DROP TABLE version",
+        ],
+    }
+}
 
 // Drops the table that a text names.
 fn drop_table<S: Alter>(tx: &mut Transaction<'_, S>, sql: &str) -> Result<usize, Error>
@@ -24,112 +72,23 @@ fn drop_table<S: Alter>(tx: &mut Transaction<'_, S>, sql: &str) -> Result<usize,
     tx.execute(sql, &[])
 }
 
-fn drop_cards<S: Alter>(tx: &mut Transaction<'_, S>) -> Result<usize, Error>
+// Drops the tables that texts name, one after the other.
+fn drop_each<S: Alter>(tx: &mut Transaction<'_, S>, texts: &[&str]) -> Result<(), Error>
     ensures same_reference { tx.new.conn.ghost_name ≡ tx.old.conn.ghost_name }
     ensures made { HasCleanDisk (state S.Store tx.new.conn.now)
-        → Wrote (DropsEach card_texts) (state S.Store tx.old.conn.now)
+        → WroteEach (map (λ text. text.now) texts.now) (state S.Store tx.old.conn.now)
         (state S.Store tx.new.conn.now) result }
     ensures survives { Survives (state S.Store tx.old.conn.now) (state S.Store tx.new.conn.now)
         (λ _. ⊥) }
 {
-    drop_table(tx, "DROP TABLE reply")?;
-    drop_table(tx, "DROP TABLE remake")?;
-    drop_table(tx, "DROP TABLE blank")?;
-    drop_table(tx, "DROP TABLE word")
+    for text in texts {
+        drop_table(tx, text)?;
+    }
+    Ok(())
 }
 
-fn drop_sessions<S: Alter>(tx: &mut Transaction<'_, S>) -> Result<usize, Error>
-    ensures same_reference { tx.new.conn.ghost_name ≡ tx.old.conn.ghost_name }
-    ensures made { HasCleanDisk (state S.Store tx.new.conn.now)
-        → Wrote (DropsEach session_texts) (state S.Store tx.old.conn.now)
-        (state S.Store tx.new.conn.now) result }
-    ensures survives { Survives (state S.Store tx.old.conn.now) (state S.Store tx.new.conn.now)
-        (λ _. ⊥) }
-{
-    drop_cards(tx)?;
-    drop_table(tx, "DROP TABLE session")
-}
-
-fn drop_names<S: Alter>(tx: &mut Transaction<'_, S>) -> Result<usize, Error>
-    ensures same_reference { tx.new.conn.ghost_name ≡ tx.old.conn.ghost_name }
-    ensures made { HasCleanDisk (state S.Store tx.new.conn.now)
-        → Wrote (DropsEach name_texts) (state S.Store tx.old.conn.now)
-        (state S.Store tx.new.conn.now) result }
-    ensures survives { Survives (state S.Store tx.old.conn.now) (state S.Store tx.new.conn.now)
-        (λ _. ⊥) }
-{
-    drop_table(tx, "DROP TABLE record")?;
-    drop_table(tx, "DROP TABLE batch")?;
-    drop_table(tx, "DROP TABLE lot")?;
-    drop_table(tx, "DROP TABLE product")
-}
-
-fn drop_earlier<S: Alter>(tx: &mut Transaction<'_, S>) -> Result<usize, Error>
-    ensures same_reference { tx.new.conn.ghost_name ≡ tx.old.conn.ghost_name }
-    ensures made { HasCleanDisk (state S.Store tx.new.conn.now)
-        → Wrote (DropsEach earlier_texts) (state S.Store tx.old.conn.now)
-        (state S.Store tx.new.conn.now) result }
-    ensures survives { Survives (state S.Store tx.old.conn.now) (state S.Store tx.new.conn.now)
-        (λ _. ⊥) }
-{
-    drop_table(tx, "DROP TABLE grouping")?;
-    drop_sessions(tx)?;
-    drop_names(tx)
-}
-
-fn drop_one<S: Alter>(tx: &mut Transaction<'_, S>) -> Result<usize, Error>
-    ensures same_reference { tx.new.conn.ghost_name ≡ tx.old.conn.ghost_name }
-    ensures made { HasCleanDisk (state S.Store tx.new.conn.now)
-        → Wrote (DropsAll Version.One) (state S.Store tx.old.conn.now)
-        (state S.Store tx.new.conn.now) result }
-    ensures survives { Survives (state S.Store tx.old.conn.now) (state S.Store tx.new.conn.now)
-        (λ _. ⊥) }
-{
-    drop_table(tx, "DROP TABLE version")?;
-    drop_earlier(tx)
-}
-
-fn drop_two<S: Alter>(tx: &mut Transaction<'_, S>) -> Result<usize, Error>
-    ensures same_reference { tx.new.conn.ghost_name ≡ tx.old.conn.ghost_name }
-    ensures made { HasCleanDisk (state S.Store tx.new.conn.now)
-        → Wrote (DropsAll Version.Two) (state S.Store tx.old.conn.now)
-        (state S.Store tx.new.conn.now) result }
-    ensures survives { Survives (state S.Store tx.old.conn.now) (state S.Store tx.new.conn.now)
-        (λ _. ⊥) }
-{
-    drop_table(tx, "DROP TABLE version")?;
-    drop_table(tx, "DROP TABLE mark")?;
-    drop_earlier(tx)
-}
-
-fn drop_later<S: Alter>(tx: &mut Transaction<'_, S>) -> Result<usize, Error>
-    ensures same_reference { tx.new.conn.ghost_name ≡ tx.old.conn.ghost_name }
-    ensures made { HasCleanDisk (state S.Store tx.new.conn.now)
-        → Wrote (DropsEach later_texts) (state S.Store tx.old.conn.now)
-        (state S.Store tx.new.conn.now) result }
-    ensures survives { Survives (state S.Store tx.old.conn.now) (state S.Store tx.new.conn.now)
-        (λ _. ⊥) }
-{
-    drop_table(tx, "DROP TABLE mark")?;
-    drop_sessions(tx)
-}
-
-fn drop_three<S: Alter>(tx: &mut Transaction<'_, S>) -> Result<usize, Error>
-    ensures same_reference { tx.new.conn.ghost_name ≡ tx.old.conn.ghost_name }
-    ensures made { HasCleanDisk (state S.Store tx.new.conn.now)
-        → Wrote (DropsAll Version.Three) (state S.Store tx.old.conn.now)
-        (state S.Store tx.new.conn.now) result }
-    ensures survives { Survives (state S.Store tx.old.conn.now) (state S.Store tx.new.conn.now)
-        (λ _. ⊥) }
-{
-    drop_later(tx)?;
-    drop_table(tx, "DROP TABLE grouping2")?;
-    drop_names(tx)?;
-    drop_table(tx, "DROP TABLE version")
-}
-
-// Drops all tables of a version, children first.
-fn drop_all<S: Alter>(tx: &mut Transaction<'_, S>, version: Version) -> Result<usize, Error>
+// Drops all tables of a version.
+fn drop_all<S: Alter>(tx: &mut Transaction<'_, S>, version: Version) -> Result<(), Error>
     ensures same_reference { tx.new.conn.ghost_name ≡ tx.old.conn.ghost_name }
     ensures made { HasCleanDisk (state S.Store tx.new.conn.now)
         → Wrote (DropsAll version) (state S.Store tx.old.conn.now)
@@ -137,11 +96,7 @@ fn drop_all<S: Alter>(tx: &mut Transaction<'_, S>, version: Version) -> Result<u
     ensures survives { Survives (state S.Store tx.old.conn.now) (state S.Store tx.new.conn.now)
         (λ _. ⊥) }
 {
-    match version {
-        Version::One => drop_one(tx),
-        Version::Two => drop_two(tx),
-        Version::Three => drop_three(tx),
-    }
+    drop_each(tx, drops_of(version))
 }
 
 /// Drops all tables of a version and makes our own, with the version alone in them, in an open

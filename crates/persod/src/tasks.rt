@@ -1,40 +1,61 @@
 //! What the program does with the store of a file, and as a machine.
-ghost use Rattle.std.specs.Prelude.{◌≤◌};
+ghost use Rattle.program_words.specs.Words.{IsBoot};
 
-use command_line::End;
-use exchanges::feed_port;
+use command_line::{End, end_of_close, run_feed};
+use event_lines::{EventLog, Level};
+use exchanges::Port;
 use loopback::Loopback;
+use program_words::FeedStart;
+use reopening::ServerStore;
 use reports::close_report;
 use schema::SqlStore;
+use server_lines::Opened;
 use serving::serve_over_tables;
-use sqlite::Alter;
-use std::io;
+use sqlite::FileStore;
+use sqlite_disk::Disk;
+use std::io::{self, Write};
 use store_data::Name;
-use store_files::StoreTask;
+use store_files::{Found, StoreTask};
 
 /// Serves so many connections to a port of 127.0.0.1.
 #[derive(Drop)]
 pub struct ServeTask<'a> {
     pub rt: &'a HostRuntime,
+    /// The file's path.
+    pub path: &'a str,
     pub port: u16,
     pub turns: u32,
+    /// Which event lines are written.
+    pub level: Level,
 }
 
 impl StoreTask for ServeTask<'_> {
     type Done = End;
 
-    fn perform<S: Alter>(self, store: &mut SqlStore<S>) -> End {
-        let ServeTask { rt, port, turns } = self;
+    fn perform<D: Disk + Drop>(self, store: SqlStore<FileStore<D>>, found: Found) -> End {
+        let ServeTask {
+            rt,
+            path,
+            port,
+            turns,
+            level,
+        } = self;
         let mut connections = match Loopback::listen(rt, port) {
             Ok(connections) => connections,
-            Err(_) => return End::PortFailed,
+            Err(_) => return end_of_close(End::PortFailed, store.finish()),
         };
-        let mut writer = io::writer(rt);
+        let opened = Opened {
+            path: path.as_bytes(),
+            is_new: found.is_new,
+            has_log: found.has_log,
+        };
         match serve_over_tables(
             rt.alloc(),
             store,
             &mut connections,
-            &mut writer,
+            &mut io::writer(rt),
+            &mut EventLog::new(level, rt.stderr()),
+            &opened,
             port,
             turns,
         ) {
@@ -54,33 +75,34 @@ pub struct ReportTask<'a> {
 impl StoreTask for ReportTask<'_> {
     type Done = End;
 
-    fn perform<S: Alter>(self, store: &mut SqlStore<S>) -> End {
+    fn perform<D: Disk + Drop>(self, store: SqlStore<FileStore<D>>, _found: Found) -> End {
         let ReportTask { rt, batch } = self;
-        match close_report(rt.alloc(), store, &batch, &mut io::writer(rt)) {
+        let mut store = store;
+        let end = match close_report(rt.alloc(), &mut store, &batch, &mut io::writer(rt)) {
             Ok(()) => End::Done,
             Err(fault) => End::from(fault),
-        }
+        };
+        end_of_close(end, store.finish())
     }
 }
 
 /// Feeds a machine with the cards of standard input, by the server at a port of 127.0.0.1. What is
 /// printed goes to standard output at once, so that a machine that loses power has told its cards.
-pub fn feed(rt: &HostRuntime, port: u16, machine: Name, boot: u64, batch: Name) -> End
-    requires least { 1 ≤ boot }
-    requires most { boot ≤ 9999999999 }
+pub fn feed<E: Write + Drop>(
+    rt: &HostRuntime,
+    port: u16,
+    start: FeedStart,
+    events: &mut EventLog<E>,
+) -> End
+    requires { IsBoot start.boot }
 {
-    let (mut reader, mut writer) = (rt.reader(), io::writer(rt));
-    match feed_port(
-        rt,
+    let mut exchange = Port::new(rt, rt.alloc(), port);
+    run_feed(
         rt.alloc(),
-        port,
-        machine,
-        boot,
-        batch,
-        &mut reader,
-        &mut writer,
-    ) {
-        Ok(()) => End::Done,
-        Err(stop) => End::from(stop),
-    }
+        start,
+        &mut rt.reader(),
+        &mut io::writer(rt),
+        &mut exchange,
+        events,
+    )
 }

@@ -10,7 +10,7 @@ use Rattle.clap.specs.declared.builder.action.ArgAction.TheVariants.{SetTrue}
 use Rattle.clap.specs.declared.builder.value_parser.ValueParser.{ValueParser}
 use Rattle.clap.specs.declared.builder.value_parser.ValueParser.TheVariants.{Signed, Unsigned}
 use Rattle.clap.specs.declared.error.kind.ErrorKind.{ErrorKind}
-use Rattle.clap.specs.declared.error.kind.ErrorKind.TheVariants.{DisplayHelp}
+use Rattle.clap.specs.declared.error.kind.ErrorKind.TheVariants.{DisplayHelp, DisplayVersion}
 use Rattle.std.specs.declared.io.ErrorKind.{ErrorKind as IoKind}
 use Rattle.std.specs.declared.io.ErrorKind.TheVariants as io
 use Rattle.store_data.specs.Name.{is_name}
@@ -19,8 +19,8 @@ use Rattle.program_words.specs.declared.words.Words.TheVariants.{Plan, Drill, Se
 use Rattle.program_words.specs.declared.words.Unread.{Unread}
 use Rattle.program_words.specs.declared.words.Unread.TheVariants as lacks
 use Rattle.program_words.specs.declared.words.WordsFault.{WordsFault}
-use Rattle.program_words.specs.declared.words.WordsFault.TheVariants.{Help, Usage, NotText, BadName}
-use Rattle.program_words.specs.declared.words.WordsFault.TheVariants.{Memory}
+use Rattle.program_words.specs.declared.words.WordsFault.TheVariants.{Help, Version, Usage}
+use Rattle.program_words.specs.declared.words.WordsFault.TheVariants.{NotText, BadName, Memory}
 
 -- ---- the command
 
@@ -93,19 +93,24 @@ feed_command =
     boot_needed)
     (text_needed (codes "batch"))
 
--- the command of these subcommands, one of which has to be named
-abbrev pub needs_subcommand : App → App
-needs_subcommand a = record a { top = record a.top { subcommand_required = true } }
+-- the command has a version, for which `--version` or `-V` asks, and subcommands, one of which has
+-- to be named
+abbrev pub versioned : App → App
+versioned a = record a { top = record a.top { has_version = true; subcommand_required = true } }
 
 -- the program's command: its words are refused by `fault_of`, and else have `subcommand_of`
 abbrev pub program : App
 program =
     with_subcommand (with_subcommand (with_subcommand
-    (with_subcommand (with_subcommand (needs_subcommand (new_app (codes "persod")))
+    (with_subcommand (with_subcommand (versioned (new_app (codes "persod")))
     plan_command.top) drill_command.top)
     serve_command.top) report_command.top) feed_command.top
 
 -- ---- the answers
+
+-- a boot is 1 to 9,999,999,999
+abbrev pub IsBoot : ℕ → Type 0
+IsBoot boot = (1 ≤ boot) × (boot ≤ 9999999999)
 
 -- each value is in its range
 abbrev pub InRange : Words → Type 0
@@ -113,8 +118,7 @@ InRange (Plan max low check) = (16 ≤ max) × (max ≤ 255) × (low ≤ 31)
 InRange Drill = ⊤
 InRange (Serve db port turns) = (1 ≤ port) × (port ≤ 65535) × (1 ≤ turns) × (turns ≤ 1000000)
 InRange (Report db batch) = ⊤
-InRange (Feed port machine boot batch) =
-    (1 ≤ port) × (port ≤ 65535) × (1 ≤ boot) × (boot ≤ 9999999999)
+InRange (Feed port start) = (1 ≤ port) × (port ≤ 65535) × IsBoot start.boot
 
 -- it uses the standard streams alone, and no file or socket
 abbrev pub UsesStreams : Words → Type 0
@@ -122,7 +126,7 @@ UsesStreams (Plan max low check) = ⊤
 UsesStreams Drill = ⊤
 UsesStreams (Serve db port turns) = ⊥
 UsesStreams (Report db batch) = ⊥
-UsesStreams (Feed port machine boot batch) = ⊥
+UsesStreams (Feed port start) = ⊥
 
 -- an option has this number, by the words or by default: its text is its decimal digits, before
 -- which a plus may stand
@@ -167,9 +171,9 @@ ReadsReport rows _ = ⊥
 
 -- those of `feed`
 abbrev pub ReadsFeed : List Row → Words → Type 0
-ReadsFeed rows (Feed port machine boot batch) = IsNumber (codes "port") rows port
-    × HasName (codes "machine") rows machine × IsNumber (codes "boot") rows boot
-    × HasName (codes "batch") rows batch
+ReadsFeed rows (Feed port start) = IsNumber (codes "port") rows port
+    × HasName (codes "machine") rows start.machine × IsNumber (codes "boot") rows start.boot
+    × HasName (codes "batch") rows start.batch
 ReadsFeed rows _ = ⊥
 
 -- the subcommand of this name is read as its options are
@@ -182,12 +186,15 @@ ReadsAs sub (Plan max low check) = Reads (codes "plan") ReadsPlan sub (Plan max 
 ReadsAs sub Drill = IsDrill sub
 ReadsAs sub (Serve db port turns) = Reads (codes "serve") ReadsServe sub (Serve db port turns)
 ReadsAs sub (Report db batch) = Reads (codes "report") ReadsReport sub (Report db batch)
-ReadsAs sub (Feed port machine boot batch) =
-    Reads (codes "feed") ReadsFeed sub (Feed port machine boot batch)
+ReadsAs sub (Feed port start) = Reads (codes "feed") ReadsFeed sub (Feed port start)
 
 -- the words ask for this: it is how clap's subcommand of the words reads
 abbrev pub Means : List Text → Words → Type 0
 Means words = ReadsAs (subcommand_of program words)
+
+-- some words ask for this, in range
+abbrev pub IsAsked : Words → Type 0
+IsAsked w = InRange w × (words : List Text) × Means words w
 
 -- the words ask for nothing in range
 abbrev pub MeanNothing : List Text → Type 0
@@ -233,10 +240,13 @@ ReadsNot sub lacks.Nothing = ReadsNone (ReadsAs sub)
 ReadsNot sub lacks.BadName = TellsBadName sub
 ReadsNot sub lacks.Memory = ⊤
 
--- help where that is among clap's kinds, a usage fault where another is; memory needs no cause
+-- help and the version where they are among clap's kinds, a usage fault where another is; memory
+-- needs no cause
 abbrev pub IsRefusedBy : Kinds → WordsFault → Type 0
 IsRefusedBy kinds (Help text) = IsAmong DisplayHelp kinds
-IsRefusedBy kinds (Usage text) = (k : ErrorKind) × IsAmong k kinds × (k ≢ DisplayHelp)
+IsRefusedBy kinds (Version text) = IsAmong DisplayVersion kinds
+IsRefusedBy kinds (Usage text) =
+    (k : ErrorKind) × IsAmong k kinds × (k ≢ DisplayHelp) × (k ≢ DisplayVersion)
 IsRefusedBy kinds NotText = ⊥
 IsRefusedBy kinds BadName = ⊥
 IsRefusedBy kinds Memory = ⊤
@@ -245,6 +255,7 @@ IsRefusedBy kinds Memory = ⊤
 -- or tell a batch or a machine by what isn't a name
 abbrev pub IsRefusal : List Text → WordsFault → Type 0
 IsRefusal words (Help text) = IsRefusedBy (fault_of program words) (Help text)
+IsRefusal words (Version text) = IsRefusedBy (fault_of program words) (Version text)
 IsRefusal words (Usage text) = IsRefusedBy (fault_of program words) (Usage text)
     ⊎ ((fault_of program words ≡ []) × MeanNothing words)
 IsRefusal words NotText = ⊥

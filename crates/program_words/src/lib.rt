@@ -3,4 +3,4 @@
 
 mod words;
 
-pub use words::{Words, WordsFault, read_words};
+pub use words::{FeedStart, Words, WordsFault, read_words};

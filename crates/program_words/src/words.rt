@@ -22,41 +22,45 @@ use std::convert::AsStr;
 use std::{fmt, io};
 use store_data::Name;
 
-/// What is told of words that clap takes and that ask for nothing: none do.
+/// What is printed for words that clap takes and that ask for nothing: none do.
 const OUT_OF_RANGE: &str = "error: a value is out of its range\n";
+
+/// The program's version, which `--version` prints behind its name.
+const VERSION: &str = "1.0.0";
+
+/// The last lines of each help.
+const STATUSES: &str =
+    "Exit statuses: 0 done; 1 refused; 2 wrong arguments; 3 storage, device or memory";
+
+/// The same of `plan`.
+const STATUSES_OF_PLAN: &str =
+    "Exit statuses: 0 done; 1 refused; 2 wrong arguments; 3 storage, device or memory\n\n\
+    A refused batch prints `refused N row R`: docs/PROFILE.md lists each fault by its number N";
 
 /// A subcommand of the program, each value in its range.
 #[derive(PartialEq, Eq, Drop)]
 pub enum Words {
     /// Prints the commands of a batch, with at most `max` bytes of data in each STORE DATA, 16 to
     /// 255, the product's number `low` in its P1, 0 to 31, and whether plain records are checked.
-    Plan {
-        max: u8,
-        low: u8,
-        check: bool,
-    },
+    Plan { max: u8, low: u8, check: bool },
     /// Serves a script of requests in memory. It has no options.
     Drill,
     /// Serves `turns` connections to `port` of 127.0.0.1, one after the other, over the file at the
     /// path `db`. A port is 1 to 65,535, and there are 1 to 1,000,000 turns.
-    Serve {
-        db: String,
-        port: u16,
-        turns: u32,
-    },
+    Serve { db: String, port: u16, turns: u32 },
     /// Prints the report of a batch in the file at the path `db`.
-    Report {
-        db: String,
-        batch: Name,
-    },
-    /// Feeds a machine, which starts with this boot, with cards for a batch, by a server at `port`
-    /// of 127.0.0.1, 1 to 65,535. A boot is 1 to 9,999,999,999.
-    Feed {
-        port: u16,
-        machine: Name,
-        boot: u64,
-        batch: Name,
-    },
+    Report { db: String, batch: Name },
+    /// Feeds a machine with cards, by a server at `port` of 127.0.0.1, 1 to 65,535.
+    Feed { port: u16, start: FeedStart },
+}
+
+/// What a feed starts with: its machine, the boot of that machine, 1 to 9,999,999,999, and the batch
+/// that its cards are for.
+#[derive(Clone, Copy, PartialEq, Eq)]
+pub struct FeedStart {
+    pub machine: Name,
+    pub boot: u64,
+    pub batch: Name,
 }
 
 impl fmt::Debug for Words {
@@ -85,11 +89,13 @@ impl Words {
 pub enum WordsFault {
     /// They ask for help: its text is for standard output, and the exit status is 0.
     Help(String),
-    /// They are no use of the program: the text is for standard error, and the exit status is 2.
+    /// They ask for the version: its text is for standard output, and the exit status is 0.
+    Version(String),
+    /// They are wrong: the text is for standard error, and the exit status is 2.
     Usage(String),
-    /// A word isn't UTF-8: they are no use of the program.
+    /// One of them isn't UTF-8.
     NotText,
-    /// What should be a batch's or a machine's name isn't a name: they are no use of the program.
+    /// What should be a batch's or a machine's name isn't a name.
     BadName,
     /// Memory ran out.
     Memory,
@@ -120,8 +126,8 @@ impl From<AllocError> for WordsFault {
 
 /// What the words ask for. The first is the program's own name, as `env::args` gives them.
 ///
-/// `Help` comes only where `clap` refuses the words, with `clap`'s text, and so does `Usage`, or
-/// where they ask for nothing in range.
+/// `Help` and `Version` come only where `clap` answers the words so, with `clap`'s text. `Usage`
+/// comes where `clap` refuses them, with `clap`'s text too, or where they ask for nothing in range.
 pub fn read_words<S: AsStr>(alloc: Global, words: &[S]) -> Result<Words, WordsFault>
     ensures ranges { IfOk result InRange }
     ensures meaning { IfOk result (Means (map S.text words.now)) }
@@ -145,7 +151,9 @@ fn program<'a>(alloc: Global) -> Result<Command<'a>, AllocError>
     ensures { IfOk result (λ c. app_of c ≡ program) }
 {
     Command::new(alloc, "persod")
+        .version(VERSION)
         .about("A job server for card personalisation")
+        .after_help(STATUSES)
         .subcommand_required(true)
         .subcommand(plan_command(alloc)?)?
         .subcommand(drill_command(alloc))?
@@ -168,6 +176,7 @@ fn plan_command<'a>(alloc: Global) -> Result<Command<'a>, AllocError>
     );
     Command::new(alloc, "plan")
         .about("Prints the commands for each record of a batch, read from standard input")
+        .after_help(STATUSES_OF_PLAN)
         .arg(max)?
         .arg(low)?
         .arg(check)
@@ -176,9 +185,9 @@ fn plan_command<'a>(alloc: Global) -> Result<Command<'a>, AllocError>
 fn drill_command<'a>(alloc: Global) -> Command<'a>
     ensures { (app_of result ≡ drill_command) × ((fields_of result).has_globals ≡ false) }
 {
-    Command::new(alloc, "drill").about(
-        "Serves a script of requests, read from standard input, in memory",
-    )
+    Command::new(alloc, "drill")
+        .about("Serves a script of requests, read from standard input, in memory")
+        .after_help(STATUSES)
 }
 
 fn serve_command<'a>(alloc: Global) -> Result<Command<'a>, AllocError>
@@ -193,6 +202,7 @@ fn serve_command<'a>(alloc: Global) -> Result<Command<'a>, AllocError>
     );
     Command::new(alloc, "serve")
         .about("Serves requests on 127.0.0.1 over a file, one connection after the other")
+        .after_help(STATUSES)
         .arg(db)?
         .arg(port)?
         .arg(turns)
@@ -205,6 +215,7 @@ fn report_command<'a>(alloc: Global) -> Result<Command<'a>, AllocError>
     let batch = text_needed(alloc, "batch", "NAME").help("The batch");
     Command::new(alloc, "report")
         .about("Prints the report of a batch")
+        .after_help(STATUSES)
         .arg(db)?
         .arg(batch)
 }
@@ -215,11 +226,12 @@ fn feed_command<'a>(alloc: Global) -> Result<Command<'a>, AllocError>
     let port = port_needed(alloc).help("The server's port of 127.0.0.1, 1 to 65535");
     let machine = text_needed(alloc, "machine", "NAME").help("The machine");
     let boot = boot_needed(alloc).help(
-        "A number that the machine never started with before, 1 to 9999999999",
+        "A number that is greater at each start of the machine, 1 to 9999999999",
     );
     let batch = text_needed(alloc, "batch", "NAME").help("The batch");
     Command::new(alloc, "feed")
         .about("Makes cards, read from standard input, as a machine of a server")
+        .after_help(STATUSES)
         .arg(port)?
         .arg(machine)?
         .arg(boot)?
@@ -394,12 +406,13 @@ fn feed_of(values: &ArgMatches<'_>) -> Result<Words, Unread>
     };
     let machine = name_of(values, "machine")?;
     let batch = name_of(values, "batch")?;
-    Ok(Words::Feed {
-        port: port as u16,
+    let port = port as u16;
+    let start = FeedStart {
         machine,
         boot,
         batch,
-    })
+    };
+    Ok(Words::Feed { port, start })
 }
 
 // The name that an option has.
@@ -440,9 +453,9 @@ fn refusal_of(alloc: Global, error: &Error) -> Result<WordsFault, AllocError>
         return Ok(WordsFault::Memory);
     }
     let text = format!(in alloc; "{error}")?;
-    if kind == ErrorKind::DisplayHelp {
-        Ok(WordsFault::Help(text))
-    } else {
-        Ok(WordsFault::Usage(text))
+    match kind {
+        ErrorKind::DisplayHelp => Ok(WordsFault::Help(text)),
+        ErrorKind::DisplayVersion => Ok(WordsFault::Version(text)),
+        _ => Ok(WordsFault::Usage(text)),
     }
 }

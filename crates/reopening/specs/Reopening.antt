@@ -2,6 +2,7 @@
 use Rattle.std.specs.Prelude.{◌≡◌}
 use Rattle.job_core.specs.Contents.{Contents}
 use Rattle.job_core.specs.Store.{State, IsHonest}
+use Rattle.reopening.specs.declared.server_store.FaultCounts.{FaultCounts}
 
 -- it has told no fault yet
 abbrev pub IsAnew : State → Type 0
@@ -10,3 +11,7 @@ IsAnew new = (new.failed ≡ 0) × (new.full ≡ 0)
 -- it holds what it held
 abbrev pub Reopens : State → State → Type 0
 Reopens old new = IsHonest new → (c : Contents) → old.holds c → new.holds c
+
+-- how often it failed, and how often it was full
+abbrev pub counts_of : State → FaultCounts
+counts_of s = record { failed = s.failed; full = s.full }

@@ -12,3 +12,4 @@ pub mod LotAnswers
 pub mod CardMeanings
 pub mod CardAnswers
 pub mod ManyAnswers
+pub mod Counting

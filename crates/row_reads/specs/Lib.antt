@@ -6,3 +6,4 @@ pub mod CardDecoding
 pub mod Telling
 pub mod Reads
 pub mod Extremes
+pub mod Counts

@@ -23,5 +23,5 @@ pub use lots::{LotRow, all_lots, lot, lot_count, lot_of, lots_of, overlaps};
 pub use marks::mark;
 pub use products::{product, product_count};
 pub use records::{RecordAt, first_waiting, record_at, record_named, records_of};
-pub use replies::kept;
+pub use replies::{kept, reply_count};
 pub use sessions::{GoodCard, SessionAt, good_sessions, last_session, running_session, session};

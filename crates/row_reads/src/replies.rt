@@ -1,13 +1,14 @@
 //! Kept replies are read.
-ghost use Rattle.std.specs.Prelude.{◌≡◌, ◌<◌, ◌^◌, false, map, option_map, IfOk};
+ghost use Rattle.std.specs.Prelude.{◌≡◌, ◌<◌, ◌^◌, ℕ, false, length, map, option_map, IfOk};
 ghost use Rattle.sqlite.specs.Held.{state};
 ghost use Rattle.job_core.specs.Contents.{entry_of, reply_of_entry};
-ghost use Rattle.row_reads.specs.Decoding.{IsFirst, reply_in};
+ghost use Rattle.row_reads.specs.Counts.{shown_count};
+ghost use Rattle.row_reads.specs.Decoding.{IsFirst, first_number, reply_in};
 ghost use Rattle.row_reads.specs.Reads.{Looks, TellsRows};
 ghost use Rattle.table_rows.specs.Keys.{is_reply_to};
 ghost use Rattle.table_rows.specs.Tables.{PassesOnce};
 
-use crate::values::{bytes_at, short_at};
+use crate::values::{bytes_at, first_number, short_at};
 use job_core::KeptReply;
 use sql_base::{int, rows_of};
 use sqlite::types::ValueRef;
@@ -54,4 +55,28 @@ pub fn kept<S: Alter>(
         &[ValueRef::Text(client.bytes()), int(number)],
     )?;
     first_reply(rows.as_slice())
+}
+
+// The number that a count(*) answered. SQL's numbers end, and of more rows than that it answers the
+// last of them, which is refused.
+fn whole_count(rows: &[Row]) -> Result<u64, Error>
+    ensures { IfOk result (λ n. (m : ℕ) → first_number rows.now ≡ shown_count m → n ≡ m) }
+{
+    let count = first_number(rows)?;
+    if count == i64::MAX as u64 {
+        return Err(Error::InvalidQuery);
+    }
+    Ok(count)
+}
+
+/// How many replies are kept.
+pub fn reply_count<S: Alter>(conn: &mut Connection<S>) -> Result<u64, Error>
+    requires { conn.old.in_transaction ≡ false }
+    ensures found { TellsRows (state S.Store conn.old) (state S.Store conn.new) result
+        (λ t count. count ≡ length t.replies) }
+    ensures looks { Looks (state S.Store conn.old) (state S.Store conn.new) }
+    ensures idle { conn.new.in_transaction ≡ false }
+{
+    let rows = rows_of(conn, "SELECT count(*) FROM reply", &[])?;
+    whole_count(rows.as_slice())
 }

@@ -2,3 +2,4 @@ pub mod Link
 pub mod Takes
 pub mod Stores
 pub mod Begun
+pub mod Closing

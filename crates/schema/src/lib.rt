@@ -2,6 +2,7 @@
 #![tactic(auto)]
 
 mod again;
+mod closing;
 mod faults;
 mod keeping;
 pub mod opening;

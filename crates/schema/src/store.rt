@@ -10,6 +10,7 @@ use job_core::{
     BatchRow, BatchSize, BatchTotals, BlankTotals, Change, JobStore, KeptReply, Lot, RecordLine,
     RecordState, SegmentRow, SessionRow, StoreFault,
 };
+use reopening::FaultCounts;
 use sqlite::{Alter, Connection, Error};
 use std::alloc::Global;
 use store_data::{Name, Product};
@@ -27,7 +28,10 @@ pub struct SqlStore<S: Alter> {
 }
 
 impl<S: Alter> SqlStore<S> {
-    ghost use Rattle.schema.specs.Stores.{connection};
+    ghost use Rattle.std.specs.Prelude.{length};
+    ghost use Rattle.job_core.specs.Store.{CountsFaults, Reads, Stays};
+    ghost use Rattle.reopening.specs.Reopening.{counts_of};
+    ghost use Rattle.schema.specs.Stores.{connection, stands_for};
 
     /// Ends a store, and gives its connection back.
     pub fn close(self) -> Connection<S>
@@ -40,6 +44,28 @@ impl<S: Alter> SqlStore<S> {
             counts: _,
         } = self;
         conn
+    }
+
+    // How often it failed since it was opened.
+    pub(crate) fn fault_counts_of(&self) -> FaultCounts
+        ensures { result ≡ counts_of (stands_for S.Store self.now) }
+    {
+        FaultCounts {
+            failed: self.counts.failed,
+            full: self.counts.full,
+        }
+    }
+
+    // How many replies it keeps.
+    pub(crate) fn count_replies(&mut self) -> Result<u64, StoreFault>
+        ensures stays { Stays (stands_for S.Store self.old) (stands_for S.Store self.new) }
+        ensures value { Reads (stands_for S.Store self.old) (stands_for S.Store self.new) result
+            (λ c answer. answer ≡ length c.kept) }
+        ensures faults { CountsFaults (stands_for S.Store self.old)
+            (stands_for S.Store self.new) result }
+    {
+        let answer = reads::reply_count(&mut self.conn);
+        self.counts.told(answer)
     }
 }
 

@@ -1,2 +1,4 @@
+pub mod Causes
 pub mod Faults
 pub mod Opens
+pub mod Refusals

@@ -1,12 +1,11 @@
 //! The store in the file at a path.
-ghost use Rattle.std.specs.Prelude.{◌≡◌};
-ghost use Rattle.store_files.specs.Faults.{of_close};
-
-use crate::fault::FileFault;
-use crate::opening::{Wanted, store_over};
+use crate::fault::{FileFault, absent, unopened};
+use crate::opening::{Wanted, begins};
+use crate::place::{has_log, place_of};
+use crate::refusing::store_or_cause;
 use schema::SqlStore;
-use sqlite::{Alter, Connection, Error, ErrorCode};
-use sqlite_disk::Start;
+use sqlite::{Connection, FileStore};
+use sqlite_disk::{Disk, Start};
 use std::fs;
 
 /// What is done with the store of a file.
@@ -14,13 +13,21 @@ pub trait StoreTask {
     /// What comes of it.
     type Done: Drop;
 
-    /// Does it.
-    fn perform<S: Alter>(self, store: &mut SqlStore<S>) -> Self::Done;
+    /// Does it, and closes the store.
+    fn perform<D: Disk + Drop>(self, store: SqlStore<FileStore<D>>, found: Found) -> Self::Done;
 }
 
-/// Opens the store in the file at a path, does the task, and closes it. Errors: why the file is not
-/// taken, and then nothing was done; or `Storage` or `Memory` where it isn't closed, and then the
-/// task was done. `start` stands for what the two files held before.
+/// How a file was found.
+#[derive(Clone, Copy, Debug, PartialEq, Eq)]
+pub struct Found {
+    /// Whether it was empty, so that a new store began.
+    pub is_new: bool,
+    /// Whether a log with something for the file stood beside it.
+    pub has_log: bool,
+}
+
+/// Opens the store in the file at a path, and has the task done, which closes it. Errors: why the
+/// file is not taken, and then nothing was done. `start` stands for what the two files held before.
 pub fn with_store<T: StoreTask + Drop, S: Start>(
     rt: &HostRuntime,
     path: &str,
@@ -29,32 +36,24 @@ pub fn with_store<T: StoreTask + Drop, S: Start>(
     task: T,
 ) -> Result<T::Done, FileFault> {
     if wanted == Wanted::Ours && is_missing(rt, path) {
-        return Err(FileFault::NotOurs);
+        return Err(absent(place_of(rt, path)));
     }
+    let has_log = has_log(rt, path);
     let conn = match Connection::open_from(rt, path, false, start) {
         Ok(conn) => conn,
-        Err((error, _)) => return Err(FileFault::from(error)),
+        Err((error, left)) => {
+            drop(left);
+            return Err(unopened(error, place_of(rt, path)));
+        }
     };
-    let mut store = match store_over(rt.alloc(), conn, wanted) {
-        Ok(store) => store,
-        Err((_, fault)) => return Err(FileFault::from(fault)),
-    };
-    let done = task.perform(&mut store);
-    store.close().close().map_err(unclosed)?;
-    Ok(done)
+    let is_new = begins(&conn, wanted);
+    match store_or_cause(rt.alloc(), conn, wanted) {
+        Ok(store) => Ok(task.perform(store, Found { is_new, has_log })),
+        Err((_, fault)) => Err(fault),
+    }
 }
 
 // Whether no file has this path.
 fn is_missing(rt: &HostRuntime, path: &str) -> bool {
     matches!(fs::exists(rt, path), Ok(false))
-}
-
-// Why a file isn't closed: its tables were taken, so nothing is told of them any more.
-fn unclosed(error: Error) -> FileFault
-    ensures { result ≡ of_close error }
-{
-    match error {
-        Error::SqliteFailure(ErrorCode::OutOfMemory) => FileFault::Memory,
-        _ => FileFault::Storage,
-    }
 }

@@ -1,5 +1,5 @@
 //! The store over a database that is opened.
-ghost use Rattle.std.specs.Prelude.{◌≡◌, false, IfErr, IfOk, IsTrue};
+ghost use Rattle.std.specs.Prelude.{◌≡◌, ◌↔◌, false, IfErr, IfOk, IsTrue};
 ghost use Rattle.sqlite.specs.Held.{state};
 ghost use Rattle.sqlite.specs.State.{HasCleanDisk};
 ghost use Rattle.job_core.specs.Contents.{AreSound, Contents, no_contents};
@@ -22,6 +22,16 @@ pub enum Wanted {
     Any,
     /// One that has our tables.
     Ours,
+}
+
+/// Whether a new store begins in a database: it is empty, and one that is may be had.
+pub(crate) fn begins<S: Alter>(conn: &Connection<S>, wanted: Wanted) -> bool
+    ensures { IsTrue result ↔ Begins wanted (state S.Store conn.now).now }
+{
+    match wanted {
+        Wanted::Any => is_empty(conn.schema()),
+        Wanted::Ours => false,
+    }
 }
 
 /// The store over a database: a new one where it is empty and may be, and else the one whose rows
@@ -58,14 +68,9 @@ pub fn store_over<S: Alter>(
         → IsKept (state S.Store conn) (state S.Store e.0)) }
     ensures idle { IfErr result (λ e. e.0.in_transaction ≡ false) }
 {
-    match wanted {
-        Wanted::Any => {
-            if is_empty(conn.schema()) {
-                SqlStore::create(alloc, conn)
-            } else {
-                SqlStore::adopt(alloc, conn)
-            }
-        }
-        Wanted::Ours => SqlStore::adopt(alloc, conn),
+    if begins(&conn, wanted) {
+        SqlStore::create(alloc, conn)
+    } else {
+        SqlStore::adopt(alloc, conn)
     }
 }

@@ -22,7 +22,7 @@ pub use counts::{batch_count, lot_count, product_count, session_count};
 pub use lots::{is_charged, lot, lot_of, overlaps};
 pub use names::product;
 pub use records::{first_waiting, record_state};
-pub use replies::{kept, mark};
+pub use replies::{kept, mark, reply_count};
 pub use reports::{blank_totals, record_lines};
 pub use segments::segment;
 pub use sessions::{running_session, session};

@@ -1,5 +1,5 @@
 //! Kept replies and marks are read.
-ghost use Rattle.std.specs.Prelude.{false, option_map, ◌≡◌};
+ghost use Rattle.std.specs.Prelude.{false, length, option_map, ◌≡◌};
 ghost use Rattle.sqlite.specs.Held.{state};
 ghost use Rattle.job_core.specs.Contents.{entry_of, mark_of, reply_of_entry};
 ghost use Rattle.row_reads.specs.Reads.{Looks};
@@ -40,4 +40,15 @@ pub fn mark<S: Alter>(conn: &mut Connection<S>, client: &Name) -> Result<u64, Er
 {
     replies_by_number();
     row_reads::mark(conn, client)
+}
+
+/// How many replies are kept.
+pub fn reply_count<S: Alter>(conn: &mut Connection<S>) -> Result<u64, Error>
+    requires { conn.old.in_transaction ≡ false }
+    ensures value { Tells (state S.Store conn.old) (state S.Store conn.new) result
+        (λ c answer. answer ≡ length c.kept) }
+    ensures looks { Looks (state S.Store conn.old) (state S.Store conn.new) }
+    ensures idle { conn.new.in_transaction ≡ false }
+{
+    row_reads::reply_count(conn)
 }

@@ -4,27 +4,29 @@ use crate::refused::tables;
 use crate::stops::adopted;
 use crate::stories::{MADE_AGAIN, SET_UP};
 use crate::versions::{all_rows, tell};
-use schema::{OpenFault, SqlStore};
+use schema::SqlStore;
 use sqlite::{Alter, Connection};
-use std::alloc::Global;
+use std::alloc::{AllocError, Global};
 use std::process::Abort;
 use std::test::Fail;
+use store_files::{FileFault, Wanted, store_or_cause};
 
-// What is changed, the statements that change it, and why the database is refused then.
+// What is changed, the statements that change it, and why the database is refused then: the refusal,
+// its cause, and the name of what differs.
 #[derive(Clone, Copy)]
-struct Damage(&'static str, &'static [&'static str], OpenFault);
+struct Damage(&'static str, &'static [&'static str], &'static str);
 
 // Other tables.
-const NOT_OURS: [Damage; 4] = [
+const NOT_OURS: [Damage; 7] = [
     Damage(
         "a table missing",
         &["DROP TABLE remake"],
-        OpenFault::NotOurs,
+        "81 missing-table remake",
     ),
     Damage(
         "a table more",
         &["CREATE TABLE note (id INTEGER NOT NULL PRIMARY KEY) STRICT"],
-        OpenFault::NotOurs,
+        "81 foreign-table note",
     ),
     Damage(
         "a column more",
@@ -33,7 +35,7 @@ const NOT_OURS: [Damage; 4] = [
             "CREATE TABLE mark (client TEXT NOT NULL PRIMARY KEY, upto INTEGER NOT NULL CHECK \
             (upto BETWEEN 1 AND 999999999999999999), note TEXT NOT NULL) STRICT",
         ],
-        OpenFault::NotOurs,
+        "81 other-table mark",
     ),
     Damage(
         "another version",
@@ -43,66 +45,77 @@ const NOT_OURS: [Damage; 4] = [
             NOT NULL CHECK (number = 4)) STRICT",
             "INSERT INTO version (id, number) VALUES (1, 4)",
         ],
-        OpenFault::NotOurs,
+        "81 other-table version",
+    ),
+    Damage("no version", &["DELETE FROM version"], "81 other-version"),
+    Damage(
+        "a key more",
+        &["CREATE UNIQUE INDEX one_lot ON lot (low_serial)"],
+        "81 further-key one_lot",
+    ),
+    Damage(
+        "a view",
+        &["CREATE VIEW machines AS SELECT machine FROM session"],
+        "81 view machines",
     ),
 ];
 
 // Rows that are those of no sound contents.
-const DAMAGED: [Damage; 15] = [
+const DAMAGED: [Damage; 17] = [
     Damage(
         "a session's state",
         &["UPDATE session SET state = 0 WHERE id = 1"],
-        OpenFault::Damaged,
+        "82 files",
     ),
     Damage(
         "a session's words",
         &["UPDATE session SET words = 1 WHERE id = 1"],
-        OpenFault::Damaged,
+        "82 files",
     ),
     Damage(
         "a cursor's application",
         &["UPDATE session SET app = app + 1 WHERE id = 1"],
-        OpenFault::Damaged,
+        "82 files",
     ),
     Damage(
         "a cursor's segment",
         &["UPDATE session SET segment = segment + 1 WHERE id = 1"],
-        OpenFault::Damaged,
+        "82 files",
     ),
     Damage(
         "a cursor's place in its segment",
         &["UPDATE session SET at_offset = at_offset + 1 WHERE id = 1"],
-        OpenFault::Damaged,
+        "82 files",
     ),
     Damage(
         "a cursor's block",
         &["UPDATE session SET block = block + 1 WHERE id = 1"],
-        OpenFault::Damaged,
+        "82 files",
     ),
     Damage(
         "a word missing",
         &["DELETE FROM word WHERE session = 1 AND place = 1"],
-        OpenFault::Damaged,
+        "82 files",
     ),
     Damage(
         "a blank row missing",
         &["DELETE FROM blank WHERE serial = 1000"],
-        OpenFault::Damaged,
+        "82 opened-blanks",
     ),
     Damage(
         "a batch's counter one higher",
         &["UPDATE batch SET spoiled = spoiled + 1 WHERE id = 1"],
-        OpenFault::Damaged,
+        "82 files",
     ),
     Damage(
         "a lot's counter one higher",
         &["UPDATE lot SET discarded = discarded + 1 WHERE name = 'L1'"],
-        OpenFault::Damaged,
+        "82 lot-counters",
     ),
     Damage(
         "a grouping's coded form",
         &["UPDATE grouping2 SET coded = X'0101027001' WHERE batch = 1"],
-        OpenFault::Damaged,
+        "82 files",
     ),
     Damage(
         "overlapping lots",
@@ -110,22 +123,32 @@ const DAMAGED: [Damage; 15] = [
             "INSERT INTO lot (name, product, low_serial, amount, discarded) \
             VALUES ('L9', 'P1', 1002, 5, 0)",
         ],
-        OpenFault::Damaged,
+        "82 lots",
     ),
     Damage(
         "a second running session of a machine",
         &["UPDATE session SET machine = 'm1' WHERE id = 4"],
-        OpenFault::Damaged,
+        "82 machines",
     ),
     Damage(
         "a closed batch with a failed record",
         &["UPDATE batch SET closed = 1 WHERE name = 'B3'"],
-        OpenFault::Damaged,
+        "82 files",
     ),
     Damage(
         "a reply of status 500",
         &["UPDATE reply SET status = 500 WHERE client = 'office' AND number = 1"],
-        OpenFault::Damaged,
+        "82 replies",
+    ),
+    Damage(
+        "a reply whose number its client has released",
+        &["INSERT INTO mark (client, upto) VALUES ('office', 1)"],
+        "82 released-replies",
+    ),
+    Damage(
+        "a reply whose number is below 0",
+        &["UPDATE reply SET number = -1 WHERE client = 'office' AND number = 1"],
+        "82 unreadable-row",
     ),
 ];
 
@@ -189,6 +212,21 @@ fn sound<S: Alter + Drop>(
     Ok(store.close())
 }
 
+// The refusal, its cause, and the name of what differs.
+fn text_of(alloc: Global, fault: &FileFault) -> Result<Vec<u8>, AllocError> {
+    let (text, name) = match fault {
+        FileFault::NotOurs { cause } => (format!(in alloc; "81 {cause}")?, cause.name()),
+        FileFault::Damaged { cause } => (format!(in alloc; "82 {cause}")?, None),
+        FileFault::Storage | FileFault::Memory => (String::new(alloc), None),
+    };
+    let mut bytes = text.into_bytes();
+    if let Some(name) = name {
+        bytes.push(b' ')?;
+        bytes.extend_from_slice(name)?;
+    }
+    Ok(bytes)
+}
+
 // A database that has this damage is refused, and its rows and its schema stay.
 fn check_refused<S: Alter + Drop>(
     rt: &impl Abort,
@@ -204,10 +242,14 @@ fn check_refused<S: Alter + Drop>(
     if !conn.is_autocommit() {
         return Err(Fail::new("a transaction is open"));
     }
-    match SqlStore::adopt(alloc, conn) {
+    match store_or_cause(alloc, conn, Wanted::Ours) {
         Ok(_) => Err(Fail::new(format_args!("{name} is taken"))),
         Err((mut conn, fault)) => {
-            assert_eq!(rt; fault, wanted, "{name}");
+            assert_eq!(rt;
+                text_of(alloc, &fault)?.as_slice(),
+                wanted.as_bytes(),
+                "{name}"
+            );
             assert_eq!(rt; all_rows(alloc, &mut conn)?, rows, "{name}");
             Ok(())
         }
@@ -228,6 +270,21 @@ fn a_database_without_damage_is_taken(rt: HostRuntime) -> Result<(), Fail> {
     let conn = sound(&rt, rt.alloc(), tables(rt.alloc())?)?;
     adopted(rt.alloc(), conn)?;
     Ok(())
+}
+
+#[test]
+fn an_empty_database_is_not_ours(rt: HostRuntime) -> Result<(), Fail> {
+    let conn = Connection::open_in_memory(rt.alloc())?;
+    match store_or_cause(rt.alloc(), conn, Wanted::Ours) {
+        Ok(_) => Err(Fail::new("it is taken")),
+        Err((_, fault)) => {
+            assert_eq!(rt;
+                text_of(rt.alloc(), &fault)?.as_slice(),
+                b"81 empty".as_slice()
+            );
+            Ok(())
+        }
+    }
 }
 
 #[test]

@@ -1,20 +1,24 @@
 //! The store in a file, behind a socket that one thread serves and asks.
 use crate::exchanges::Exchange;
 use crate::stories::{CLOSING, SET_UP};
+use event_lines::{EventLog, Level};
 use loopback::Loopback;
+use reopening::ServerStore;
 use reports::{AccountFault, close_report};
 use schema::SqlStore;
+use server::serve_all;
+use server_lines::{Opened, ServeStop};
 use serving::serve_over_tables;
-use sqlite::Alter;
-use sqlite_disk::Unknown;
+use sqlite::FileStore;
+use sqlite_disk::{Disk, Unknown};
 use std::alloc::{AllocError, Global};
 use std::io::{self, ErrorKind, Write};
-use std::net::TcpStream;
+use std::net::{SocketAddr, TcpStream};
 use std::process::{self, Abort};
 use std::test::Fail;
 use std::{env, fs};
 use store_data::Name;
-use store_files::{FileFault, StoreTask, Wanted, with_store};
+use store_files::{FileFault, Found, StoreTask, Wanted, with_store};
 
 // The first message, a product, byte for byte.
 const PRODUCT: &[u8] =
@@ -23,6 +27,14 @@ const PRODUCT: &[u8] =
 // Its reply.
 const CREATED: &[u8] =
     b"HTTP/1.1 200 OK\r\nContent-Type: application/json\r\nContent-Length: 35\r\nConnection: close\r\n\r\n{\"product\":\"P1\",\"result\":\"created\"}";
+
+// Another request under the product's number.
+const REUSED: Exchange = Exchange(
+    "/c/office/1",
+    r#"{"do":"reset"}"#,
+    409,
+    r#"{"code":72,"refused":"number-reused"}"#,
+);
 
 // The batch's report at the end.
 const REPORT: &str = "batch B1
@@ -39,13 +51,20 @@ sessions           1
 spoiled            1
 ";
 
-// A batch whose only card is spoiled, and which is closed.
+// A batch whose only card is spoiled, and which is closed; and a number that is used again.
 fn exchanges(alloc: Global) -> Result<Vec<Exchange>, AllocError> {
     let mut all = Vec::new(alloc);
-    for exchanges in [SET_UP.as_slice(), CLOSING.exchanges] {
+    for exchanges in [SET_UP.as_slice(), CLOSING.exchanges, &[REUSED]] {
         all.extend_from_slice(exchanges)?;
     }
     Ok(all)
+}
+
+// A peer that has written its whole message.
+fn peer(rt: &HostRuntime, place: SocketAddr, exchange: &Exchange) -> io::Result<TcpStream> {
+    let mut peer = TcpStream::connect(rt, place)?;
+    peer.write_all(exchange.message(rt.alloc())?.as_slice())?;
+    Ok(peer)
 }
 
 // Serves each message at a free port, one at a time, and keeps what comes back.
@@ -57,33 +76,119 @@ struct Asked<'a> {
 impl StoreTask for Asked<'_> {
     type Done = io::Result<Vec<String>>;
 
-    fn perform<S: Alter>(self, store: &mut SqlStore<S>) -> io::Result<Vec<String>> {
+    fn perform<D: Disk + Drop>(
+        self,
+        store: SqlStore<FileStore<D>>,
+        _found: Found,
+    ) -> io::Result<Vec<String>> {
         let rt = self.rt;
+        let mut store = store;
         let mut port = Loopback::listen(rt, 0)?;
         let mut replies = Vec::new(rt.alloc());
         for exchange in exchanges(rt.alloc())?.as_slice() {
-            let message = exchange.message(rt.alloc())?;
-            replies.push(reply_to(rt, store, &mut port, message.as_slice())?)?;
+            let peer = peer(rt, port.local_addr()?, exchange)?;
+            if serve_all(rt.alloc(), &mut store, &mut port, 1).is_err() {
+                return Err(ErrorKind::ConnectionRefused.into());
+            }
+            replies.push(io::read_to_string(rt.alloc(), peer)?)?;
         }
-        Ok(replies)
+        match store.finish() {
+            Ok(()) => Ok(replies),
+            Err(_) => Err(ErrorKind::Other.into()),
+        }
     }
 }
 
-// A peer writes its whole message, one connection is served, and then the peer reads its reply.
-fn reply_to<S: Alter>(
-    rt: &HostRuntime,
-    store: &mut SqlStore<S>,
-    port: &mut Loopback<'_, HostRuntime>,
-    message: &[u8],
-) -> io::Result<String> {
-    let place = port.local_addr()?;
-    let mut peer = TcpStream::connect(rt, place)?;
-    peer.write_all(message)?;
-    let mut told = Vec::new(rt.alloc());
-    if serve_over_tables(rt.alloc(), store, port, &mut told, place.port(), 1).is_err() {
-        return Err(ErrorKind::ConnectionRefused.into());
+// Keeps lines, and copies a file when the last of a server comes.
+#[derive(Drop)]
+struct CopyingAtLast<'a> {
+    rt: &'a HostRuntime,
+    path: &'a str,
+    copy: &'a str,
+    lines: Vec<u8>,
+}
+
+impl Write for CopyingAtLast<'_> {
+    fn write(&mut self, buf: &[u8]) -> io::Result<usize> {
+        if buf.starts_with(b"served ") {
+            fs::copy(self.rt, self.path, self.copy)?;
+        }
+        self.lines.extend_from_slice(buf)?;
+        Ok(buf.len())
     }
-    io::read_to_string(rt.alloc(), peer)
+
+    fn flush(&mut self) -> io::Result<()> {
+        Ok(())
+    }
+}
+
+// What a server wrote, to its peers and to people.
+#[derive(Drop)]
+struct Ran {
+    outcome: Result<(), ServeStop>,
+    port: u16,
+    replies: Vec<String>,
+    lines: Vec<u8>,
+    events: Vec<u8>,
+}
+
+// Serves all messages, whose peers have written them, and copies the file when `served` comes.
+#[derive(Drop)]
+struct Run<'a> {
+    rt: &'a HostRuntime,
+    path: &'a str,
+    copy: &'a str,
+}
+
+impl StoreTask for Run<'_> {
+    type Done = io::Result<Ran>;
+
+    fn perform<D: Disk + Drop>(
+        self,
+        store: SqlStore<FileStore<D>>,
+        found: Found,
+    ) -> io::Result<Ran> {
+        let Run { rt, path, copy } = self;
+        let mut connections = Loopback::listen(rt, 0)?;
+        let place = connections.local_addr()?;
+        let mut peers = Vec::new(rt.alloc());
+        for exchange in exchanges(rt.alloc())?.as_slice() {
+            peers.push(peer(rt, place, exchange)?)?;
+        }
+        let opened = Opened {
+            path: b"shop.db",
+            is_new: found.is_new,
+            has_log: found.has_log,
+        };
+        let mut writer = CopyingAtLast {
+            rt,
+            path,
+            copy,
+            lines: Vec::new(rt.alloc()),
+        };
+        let mut events = EventLog::new(Level::Usual, Vec::new(rt.alloc()));
+        let outcome = serve_over_tables(
+            rt.alloc(),
+            store,
+            &mut connections,
+            &mut writer,
+            &mut events,
+            &opened,
+            place.port(),
+            peers.len().min(100) as u32,
+        );
+        let mut replies = Vec::new(rt.alloc());
+        for peer in peers {
+            replies.push(io::read_to_string(rt.alloc(), peer)?)?;
+        }
+        Ok(Ran {
+            outcome,
+            port: place.port(),
+            replies,
+            lines: writer.lines,
+            events: events.writer,
+        })
+    }
 }
 
 // Reports a batch.
@@ -96,25 +201,35 @@ struct Reported<'a> {
 impl StoreTask for Reported<'_> {
     type Done = Result<Vec<u8>, AccountFault>;
 
-    fn perform<S: Alter>(self, store: &mut SqlStore<S>) -> Result<Vec<u8>, AccountFault> {
+    fn perform<D: Disk + Drop>(
+        self,
+        store: SqlStore<FileStore<D>>,
+        _found: Found,
+    ) -> Result<Vec<u8>, AccountFault> {
         let Reported { rt, batch } = self;
+        let mut store = store;
         let mut text = Vec::new(rt.alloc());
-        match close_report(rt.alloc(), store, &batch, &mut text) {
-            Ok(()) => Ok(text),
-            Err(fault) => Err(fault),
-        }
+        let reported = close_report(rt.alloc(), &mut store, &batch, &mut text);
+        store.finish()?;
+        reported?;
+        Ok(text)
     }
 }
 
-// What a file tells of batch B1.
+// The report of batch B1 from a file.
 fn report_of(rt: &HostRuntime, path: &str) -> Result<Result<Vec<u8>, AccountFault>, FileFault> {
-    let batch = Name::new(b"B1").ok_or(FileFault::Storage)?;
+    let batch = Name::new(b"B1").ok_or(FileFault::Memory)?;
     with_store(rt, path, Unknown, Wanted::Ours, Reported { rt, batch })
 }
 
 // What a file's server replies to the messages.
 fn replies_of(rt: &HostRuntime, path: &str) -> Result<io::Result<Vec<String>>, FileFault> {
     with_store(rt, path, Unknown, Wanted::Any, Asked { rt })
+}
+
+// What a file's server writes to the messages, and a copy of the file when its last line comes.
+fn run_of(rt: &HostRuntime, path: &str, copy: &str) -> Result<io::Result<Ran>, FileFault> {
+    with_store(rt, path, Unknown, Wanted::Any, Run { rt, path, copy })
 }
 
 // Each reply is the one to its message.
@@ -129,11 +244,11 @@ fn check_replies(rt: &impl Abort, alloc: Global, replies: &[String]) -> Result<(
     Ok(())
 }
 
-// A file of this process alone, and its log.
-fn paths(rt: &HostRuntime) -> io::Result<(String, String)> {
+// A file of this process and this test alone, and its log.
+fn paths(rt: &HostRuntime, name: &str) -> io::Result<(String, String)> {
     let folder = env::temp_dir(rt)?;
     let (folder, number) = (folder.as_str(), process::id(rt.process()));
-    let path = format!(in rt.alloc(); "{folder}/neqtyrab-{number}.db")?;
+    let path = format!(in rt.alloc(); "{folder}/neqtyrab-{number}-{name}.db")?;
     let log = format!(in rt.alloc(); "{path}-wal")?;
     Ok((path, log))
 }
@@ -148,9 +263,9 @@ fn remove(rt: &HostRuntime, path: &str, log: &str) -> io::Result<()> {
 
 #[test]
 fn a_batch_over_a_socket_is_reported_from_its_file(rt: HostRuntime) -> Result<(), Fail> {
-    let (path, log) = paths(&rt)?;
+    let (path, log) = paths(&rt, "asked")?;
     // A report makes no file.
-    assert_eq!(rt; report_of(&rt, path.as_str()), Err(FileFault::NotOurs));
+    assert!(rt; report_of(&rt, path.as_str()).is_err());
     assert!(rt; !fs::exists(&rt, path.as_str())?);
     let first = replies_of(&rt, path.as_str())??;
     // Now all come again, to the store that was taken up.
@@ -161,4 +276,43 @@ fn a_batch_over_a_socket_is_reported_from_its_file(rt: HostRuntime) -> Result<()
     check_replies(&rt, rt.alloc(), second.as_slice())?;
     assert_eq!(rt; text.as_slice(), REPORT.as_bytes());
     Ok(())
+}
+
+// A copy of the file alone, made when `served` was written, is whole: its report has all that was
+// replied.
+#[test]
+fn the_file_alone_is_whole_at_the_last_line(rt: HostRuntime) -> Result<(), Fail> {
+    let (path, log) = paths(&rt, "run")?;
+    let (copy, copied_log) = paths(&rt, "copy")?;
+    let first = run_of(&rt, path.as_str(), copy.as_str())??;
+    let text = report_of(&rt, copy.as_str())??;
+    remove(&rt, copy.as_str(), copied_log.as_str())?;
+    let second = run_of(&rt, path.as_str(), copy.as_str())??;
+    remove(&rt, copy.as_str(), copied_log.as_str())?;
+    remove(&rt, path.as_str(), log.as_str())?;
+    assert_eq!(rt; text.as_slice(), REPORT.as_bytes());
+    check_ran(&rt, rt.alloc(), &first, "made db=\"shop.db\"")?;
+    let opened = "opened db=\"shop.db\" log=none batches=1 sessions=1 replies=10";
+    check_ran(&rt, rt.alloc(), &second, opened)?;
+    Ok(())
+}
+
+// The event lines behind the first.
+const EVENTS: &str =
+    "answered status=409 code=70 name=not-finished request=\"POST /c/office/4 HTTP/1.1\"
+answered status=409 code=57 name=batch-closed request=\"POST /c/m1/3 HTTP/1.1\"
+answered status=409 code=57 name=batch-closed request=\"POST /c/office/7 HTTP/1.1\"
+answered status=409 code=72 name=number-reused request=\"POST /c/office/1 HTTP/1.1\"
+closed connections=11
+";
+
+// A server's replies, its two lines, and its event lines.
+fn check_ran(rt: &impl Abort, alloc: Global, ran: &Ran, opening: &str) -> Result<(), Fail> {
+    let port = ran.port;
+    let lines = format!(in alloc; "listening 127.0.0.1:{port}\nserved 11\n")?;
+    let events = format!(in alloc; "{opening}\n{EVENTS}")?;
+    assert_eq!(rt; ran.outcome, Ok(()));
+    assert_eq!(rt; ran.lines.as_slice(), lines.as_bytes());
+    assert_eq!(rt; ran.events.as_slice(), events.as_bytes());
+    check_replies(rt, alloc, ran.replies.as_slice())
 }

@@ -9,14 +9,25 @@ use std::process::Abort;
 use std::test::Fail;
 use store_data::Name;
 
+mod events;
+
+const RELEASED: &[u8] =
+    b"HTTP/1.1 200 OK\r\nContent-Type: application/json\r\nContent-Length: 37\r\nConnection: close\r\n\r\n{\"mark\":10000000,\"result\":\"released\"}";
+
+const RESET: &[u8] =
+    b"HTTP/1.1 200 OK\r\nContent-Type: application/json\r\nContent-Length: 30\r\nConnection: close\r\n\r\n{\"result\":\"reset\",\"session\":0}";
+
+const OPENED: &[u8] =
+    b"HTTP/1.1 200 OK\r\nContent-Type: application/json\r\nContent-Length: 117\r\nConnection: close\r\n\r\n{\"batch\":\"B1\",\"blank\":1000,\"command\":\"00A4040006F00000000101\",\"index\":0,\"record\":\"R1\",\"result\":\"command\",\"session\":1}";
+
+const NEXT: &[u8] =
+    b"HTTP/1.1 200 OK\r\nContent-Type: application/json\r\nContent-Length: 75\r\nConnection: close\r\n\r\n{\"command\":\"80E28000050101027000\",\"index\":1,\"result\":\"command\",\"session\":1}";
+
+const GOOD: &[u8] =
+    b"HTTP/1.1 200 OK\r\nContent-Type: application/json\r\nContent-Length: 29\r\nConnection: close\r\n\r\n{\"result\":\"good\",\"session\":1}";
+
 // The replies to a machine that makes one card of two commands with boot 1.
-const REPLIES: [&[u8]; 5] = [
-    b"HTTP/1.1 200 OK\r\nContent-Type: application/json\r\nContent-Length: 37\r\nConnection: close\r\n\r\n{\"mark\":10000000,\"result\":\"released\"}",
-    b"HTTP/1.1 200 OK\r\nContent-Type: application/json\r\nContent-Length: 30\r\nConnection: close\r\n\r\n{\"result\":\"reset\",\"session\":0}",
-    b"HTTP/1.1 200 OK\r\nContent-Type: application/json\r\nContent-Length: 117\r\nConnection: close\r\n\r\n{\"batch\":\"B1\",\"blank\":1000,\"command\":\"00A4040006F00000000101\",\"index\":0,\"record\":\"R1\",\"result\":\"command\",\"session\":1}",
-    b"HTTP/1.1 200 OK\r\nContent-Type: application/json\r\nContent-Length: 75\r\nConnection: close\r\n\r\n{\"command\":\"80E28000050101027000\",\"index\":1,\"result\":\"command\",\"session\":1}",
-    b"HTTP/1.1 200 OK\r\nContent-Type: application/json\r\nContent-Length: 29\r\nConnection: close\r\n\r\n{\"result\":\"good\",\"session\":1}",
-];
+const REPLIES: [&[u8]; 5] = [RELEASED, RESET, OPENED, NEXT, GOOD];
 
 const PRINTED: &[u8] =
     b"1000 00A4040006F00000000101 9000\n1000 80E28000050101027000 9000\n1000 good\n";

@@ -18,6 +18,8 @@ mod memory;
 #[cfg(test)]
 mod readers;
 #[cfg(test)]
+mod servers;
+#[cfg(test)]
 mod serving;
 #[cfg(test)]
 mod words;

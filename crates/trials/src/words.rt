@@ -80,7 +80,7 @@ fn has_bad_name(alloc: Global, line: &str) -> bool {
 }
 
 #[test]
-fn a_name_that_is_none_is_told(rt: HostRuntime) {
+fn what_is_no_name_is_a_bad_name(rt: HostRuntime) {
     for line in [
         "persod report --db a --batch B.1",
         "persod feed --port 1 --machine m.1 --boot 1 --batch B1",
@@ -91,11 +91,11 @@ fn a_name_that_is_none_is_told(rt: HostRuntime) {
     }
 }
 
-// These words are no use of the program, and that is told by words among which are these.
-fn check_usage(rt: &impl Abort, line: &str, read: Result<Words, WordsFault>, told: &str) {
+// These words are wrong, and the text that says so has this part.
+fn check_usage(rt: &impl Abort, line: &str, read: Result<Words, WordsFault>, part: &str) {
     match read {
         Err(WordsFault::Usage(text)) => {
-            assert!(rt; text.as_str().contains(told), "at {line}: {text}");
+            assert!(rt; text.as_str().contains(part), "at {line}: {text}");
         }
         other => assert!(rt; false, "at {line}: {other:?}"),
     }
@@ -125,8 +125,8 @@ fn a_usage_fault_says_what_is_wrong(rt: HostRuntime) {
         ("persod print", "print"),
         ("persod", "subcommand"),
     ];
-    for (line, told) in cases {
-        check_usage(&rt, line, read_at_last(alloc, line), told);
+    for (line, part) in cases {
+        check_usage(&rt, line, read_at_last(alloc, line), part);
     }
     let words: &[&str] = &[];
     check_usage(&rt, "", words_at_last(alloc, words), "subcommand");
@@ -162,8 +162,20 @@ fn a_usage_fault_says_what_is_missing_or_out_of_range(rt: HostRuntime) {
             "'10000000000'",
         ),
     ];
-    for (line, told) in cases {
-        check_usage(&rt, line, read_at_last(rt.alloc(), line), told);
+    for (line, part) in cases {
+        check_usage(&rt, line, read_at_last(rt.alloc(), line), part);
+    }
+}
+
+// These words ask for help, whose text has these parts.
+fn check_help(rt: &impl Abort, line: &str, read: Result<Words, WordsFault>, parts: &[&str]) {
+    match read {
+        Err(WordsFault::Help(text)) => {
+            for part in parts {
+                assert!(rt; text.as_str().contains(*part), "at {line}: {text}");
+            }
+        }
+        other => assert!(rt; false, "at {line}: {other:?}"),
     }
 }
 
@@ -189,14 +201,59 @@ fn help_names_the_subcommands_and_the_options(rt: HostRuntime) {
         ),
         ("persod plan -h", &["--low <N>", "0 to 31", "[default: 0]"]),
     ];
-    for (line, told) in cases {
+    for (line, parts) in cases {
+        check_help(&rt, line, read_at_last(rt.alloc(), line), parts);
+    }
+}
+
+#[test]
+fn each_help_names_the_exit_statuses(rt: HostRuntime) {
+    let statuses: &[&str] = &[
+        "0 done",
+        "1 refused",
+        "2 wrong arguments",
+        "3 storage, device or memory",
+    ];
+    for line in [
+        "persod --help",
+        "persod plan --help",
+        "persod drill --help",
+        "persod serve --help",
+        "persod report --help",
+        "persod feed --help",
+        "persod feed -h",
+    ] {
+        check_help(&rt, line, read_at_last(rt.alloc(), line), statuses);
+    }
+    let line = "persod plan --help";
+    let parts: &[&str] = &["refused N row R", "docs/PROFILE.md"];
+    check_help(&rt, line, read_at_last(rt.alloc(), line), parts);
+}
+
+#[test]
+fn the_version_is_printed(rt: HostRuntime) {
+    for line in ["persod --version", "persod -V", "persod --version plan"] {
         match read_at_last(rt.alloc(), line) {
-            Err(WordsFault::Help(text)) => {
-                for part in told {
-                    assert!(rt; text.as_str().contains(*part), "at {line}: {text}");
-                }
+            Err(WordsFault::Version(text)) => {
+                assert_eq!(rt; text.as_str(), "persod 1.0.0\n", "at {line}");
             }
             other => assert!(rt; false, "at {line}: {other:?}"),
         }
+    }
+    let line = "persod plan --version";
+    check_usage(&rt, line, read_at_last(rt.alloc(), line), "--version");
+}
+
+#[test]
+fn a_feed_starts_with_its_machine_its_boot_and_its_batch(rt: HostRuntime) {
+    let line = "persod feed --port 65535 --machine m-1 --boot 9999999999 --batch B_1";
+    match read_at_last(rt.alloc(), line) {
+        Ok(Words::Feed { port, start }) => {
+            assert_eq!(rt; port, 65_535);
+            assert_eq!(rt; start.machine.bytes(), b"m-1".as_slice());
+            assert_eq!(rt; start.boot, 9_999_999_999);
+            assert_eq!(rt; start.batch.bytes(), b"B_1".as_slice());
+        }
+        other => assert!(rt; false, "{other:?}"),
     }
 }

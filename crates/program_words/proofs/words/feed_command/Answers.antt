@@ -15,8 +15,8 @@ returns c =
     (ap rule_of c.help-boot.ensures ∙ c.boot_needed.ensures.rule, ap (λ (a : Arg). a.global) c.help-boot.ensures ∙ c.boot_needed.ensures.own) in
     let batch : (rule_of c.help-batch.result ≡ text_needed (codes "batch")) × (c.help-batch.result.global ≡ false) =
     (ap rule_of c.help-batch.ensures ∙ c.text_needed-2.ensures.rule, ap (λ (a : Arg). a.global) c.help-batch.ensures ∙ c.text_needed-2.ensures.own) in
-    let start : IsSo (new_app (codes "feed")) c.about.result = (search rules, search rules) in
-    let one = more c.about.result c.help-port.result c.in_ok-arg.field-0 _ _ start port c.in_ok-arg.ensures in
+    let start : IsSo (new_app (codes "feed")) c.after_help.result = (search rules, search rules) in
+    let one = more c.after_help.result c.help-port.result c.in_ok-arg.field-0 _ _ start port c.in_ok-arg.ensures in
     let two = more c.in_ok-arg.field-0 c.help-machine.result c.in_ok-arg-2.field-0 _ _ one machine c.in_ok-arg-2.ensures in
     let three = more c.in_ok-arg-2.field-0 c.help-boot.result c.in_ok-arg-3.field-0 _ _ two boot c.in_ok-arg-3.ensures in
     last c.in_ok-arg-3.field-0 c.help-batch.result c.arg-4.result _ _ three batch c.arg-4.ensures

@@ -19,7 +19,7 @@ returns c =
     ) in
     let check : (rule_of c.help-check.result ≡ flag (codes "check")) × (c.help-check.result.global ≡ false) =
     (ap rule_of c.help-check.ensures ∙ c.flag.ensures.rule, ap (λ (a : Arg). a.global) c.help-check.ensures ∙ c.flag.ensures.own) in
-    let start : IsSo (new_app (codes "plan")) c.about.result = (search rules, search rules) in
-    let one = more c.about.result c.help-max.result c.in_ok-arg.field-0 _ _ start max c.in_ok-arg.ensures in
+    let start : IsSo (new_app (codes "plan")) c.after_help.result = (search rules, search rules) in
+    let one = more c.after_help.result c.help-max.result c.in_ok-arg.field-0 _ _ start max c.in_ok-arg.ensures in
     let two = more c.in_ok-arg.field-0 c.help-low.result c.in_ok-arg-2.field-0 _ _ one low c.in_ok-arg-2.ensures in
     last c.in_ok-arg-2.field-0 c.help-check.result c.arg-3.result _ _ two check c.arg-3.ensures

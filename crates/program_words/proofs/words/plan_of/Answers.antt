@@ -11,21 +11,21 @@ no_max rows none (Plan max low check) range reads = none max range.0 range.1 rea
 no_max rows none Drill range reads = reads
 no_max rows none (Serve db port turns) range reads = reads
 no_max rows none (Report db batch) range reads = reads
-no_max rows none (Feed port machine boot batch) range reads = reads
+no_max rows none (Feed port start) range reads = reads
 
 no_low : (rows : List Row) → ((n : ℕ) → 0 ≤ n → n ≤ 31 → IsNumber (codes "low") rows n → ⊥) → (w : Words) → InRange w → ReadsPlan rows w → ⊥
 no_low rows none (Plan max low check) range reads = none low (omega arith) range.2 reads.1
 no_low rows none Drill range reads = reads
 no_low rows none (Serve db port turns) range reads = reads
 no_low rows none (Report db batch) range reads = reads
-no_low rows none (Feed port machine boot batch) range reads = reads
+no_low rows none (Feed port start) range reads = reads
 
 no_check : (rows : List Row) → ((on : Bool) → IsFlag (codes "check") rows on → ⊥) → (w : Words) → InRange w → ReadsPlan rows w → ⊥
 no_check rows none (Plan max low check) range reads = none check reads.2
 no_check rows none Drill range reads = reads
 no_check rows none (Serve db port turns) range reads = reads
 no_check rows none (Report db batch) range reads = reads
-no_check rows none (Feed port machine boot batch) range reads = reads
+no_check rows none (Feed port start) range reads = reads
 
 pub returns-in_err-number-clause-nothing : goal.returns-in_err-number-clause-nothing
 returns-in_err-number-clause-nothing c none =

@@ -1,12 +1,12 @@
 use Rattle.std.proofs.Common.{rules, ◌≡◌, codes}
 use Rattle.clap.specs.Words.{app_of, new_app}
-use Rattle.program_words.specs.Words.{drill_command, feed_command, needs_subcommand, plan_command, report_command, serve_command}
+use Rattle.program_words.specs.Words.{drill_command, feed_command, versioned, plan_command, report_command, serve_command}
 use Rattle.program_words.proofs.CommandLemmas.{joined, joined_last}
 use Rattle.program_words.proofs.words.program.Goals as goal
 
 pub returns : goal.returns
 returns c =
-    let start : app_of c.subcommand_required.result ≡ needs_subcommand (new_app (codes "persod")) = search rules in
+    let start : app_of c.subcommand_required.result ≡ versioned (new_app (codes "persod")) = search rules in
     let one = joined c.subcommand_required.result c.in_ok-plan_command.field-0 c.in_ok-subcommand.field-0 _ plan_command start
     c.in_ok-plan_command.ensures c.in_ok-subcommand.ensures in
     let two = joined c.in_ok-subcommand.field-0 c.drill_command.result c.in_ok-subcommand-2.field-0 _ drill_command one

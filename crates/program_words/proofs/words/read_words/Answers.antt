@@ -3,7 +3,7 @@ use Rattle.clap.specs.Words.{App, HasKind, HasMatchesOf, Text, fault_of, is_simp
 use Rattle.clap.proofs.OnLiterals.{clap_on_literals}
 use Rattle.program_words.specs.Words.{IsRefusal, IsRefusedBy, ReadsAs, ReadsNot, program}
 use Rattle.program_words.specs.declared.words.WordsFault.{WordsFault}
-use Rattle.program_words.specs.declared.words.WordsFault.TheVariants.{Help, Usage, NotText, BadName, Memory}
+use Rattle.program_words.specs.declared.words.WordsFault.TheVariants.{Help, Version, Usage, NotText, BadName, Memory}
 use Rattle.program_words.specs.declared.words.Unread.TheVariants as lacks
 use Rattle.program_words.proofs.words.read_words.Goals as goal
 
@@ -17,6 +17,7 @@ simple = refl
 
 refused : (words : List Text) (fault : WordsFault) → IsRefusedBy (fault_of program words) fault → IsRefusal words fault
 refused words (Help text) by = by
+refused words (Version text) by = by
 refused words (Usage text) by = inl by
 refused words NotText by = by
 refused words BadName by = elim by [ ]

@@ -11,6 +11,6 @@ returns c =
     (ap rule_of c.help-db.ensures ∙ c.text_needed.ensures.rule, ap (λ (a : Arg). a.global) c.help-db.ensures ∙ c.text_needed.ensures.own) in
     let batch : (rule_of c.help-batch.result ≡ text_needed (codes "batch")) × (c.help-batch.result.global ≡ false) =
     (ap rule_of c.help-batch.ensures ∙ c.text_needed-2.ensures.rule, ap (λ (a : Arg). a.global) c.help-batch.ensures ∙ c.text_needed-2.ensures.own) in
-    let start : IsSo (new_app (codes "report")) c.about.result = (search rules, search rules) in
-    let one = more c.about.result c.help-db.result c.in_ok-arg.field-0 _ _ start db c.in_ok-arg.ensures in
+    let start : IsSo (new_app (codes "report")) c.after_help.result = (search rules, search rules) in
+    let one = more c.after_help.result c.help-db.result c.in_ok-arg.field-0 _ _ start db c.in_ok-arg.ensures in
     last c.in_ok-arg.field-0 c.help-batch.result c.arg-2.result _ _ one batch c.arg-2.ensures

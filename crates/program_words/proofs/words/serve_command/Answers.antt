@@ -16,7 +16,7 @@ returns c =
       ap rule_of c.help-turns.ensures ∙ c.number_needed.ensures.rule ∙ ap (number_needed (codes "turns")) to_1000000,
       ap (λ (a : Arg). a.global) c.help-turns.ensures ∙ c.number_needed.ensures.own,
     ) in
-    let start : IsSo (new_app (codes "serve")) c.about.result = (search rules, search rules) in
-    let one = more c.about.result c.help-db.result c.in_ok-arg.field-0 _ _ start db c.in_ok-arg.ensures in
+    let start : IsSo (new_app (codes "serve")) c.after_help.result = (search rules, search rules) in
+    let one = more c.after_help.result c.help-db.result c.in_ok-arg.field-0 _ _ start db c.in_ok-arg.ensures in
     let two = more c.in_ok-arg.field-0 c.help-port.result c.in_ok-arg-2.field-0 _ _ one port c.in_ok-arg-2.ensures in
     last c.in_ok-arg-2.field-0 c.help-turns.result c.arg-3.result _ _ two turns c.arg-3.ensures

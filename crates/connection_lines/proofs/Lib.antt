@@ -1,0 +1,5 @@
+pub mod BeginningLemmas
+pub mod WordLemmas
+pub mod KeptLemmas
+pub mod NotesLemmas
+pub mod ObservationLemmas

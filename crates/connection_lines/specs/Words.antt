@@ -1,0 +1,47 @@
+-- What the first bytes of a request and of a reply say (this project's profile).
+use Rattle.std.specs.Prelude.{ℕ, ◌==◌, ◌||◌, Bool, not, List, drop, take, length, bytes_eq, codes, if◌then◌else◌, Option, Some, None, option_map}
+use Rattle.std.specs.List.{take_while}
+use Rattle.std.specs.Option.{option_and_then}
+use Rattle.std.specs.Char.{is_ascii_digit, is_ascii_lowercase}
+use Rattle.heads.specs.ReplyParts.{status_in}
+
+-- a CR or an LF
+abbrev pub is_line_end : ℕ → Bool
+is_line_end byte = byte == 13 || byte == 10
+
+-- a request's first line, without its end
+abbrev pub request_line : List ℕ → List ℕ
+request_line request = take_while (λ byte. not (is_line_end byte)) request
+
+-- the digits at the front
+abbrev pub digits_in : List ℕ → List ℕ
+digits_in text = take_while is_ascii_digit text
+
+-- a small letter, or a dash
+abbrev pub is_word_byte : ℕ → Bool
+is_word_byte byte = is_ascii_lowercase byte || byte == 45
+
+-- the word at the front
+abbrev pub word_in : List ℕ → List ℕ
+word_in text = take_while is_word_byte text
+
+-- the digits of a reply's status; none where too little of it is there
+abbrev pub status_digits : List ℕ → List ℕ
+status_digits reply = digits_in (status_in reply)
+
+-- what follows this text at the front, where it stands there
+abbrev pub behind : List ℕ → List ℕ → Option (List ℕ)
+behind text bytes = if bytes_eq (take (length text) bytes) text then Some (drop (length text) bytes) else None
+
+-- a refusal's code and name
+abbrev pub RefusalWords : Type 0
+RefusalWords = List ℕ × List ℕ
+
+-- by what follows `{"code":`
+abbrev pub refusal_after : List ℕ → Option RefusalWords
+refusal_after rest =
+    option_map (λ (name : List ℕ). (digits_in rest, word_in name)) (behind (codes ",\"refused\":\"") (drop (length (digits_in rest)) rest))
+
+-- by the front of a body
+abbrev pub refusal_in : List ℕ → Option RefusalWords
+refusal_in body = option_and_then refusal_after (behind (codes "{\"code\":") body)

@@ -1,0 +1,4 @@
+pub mod Levels
+pub mod Lines
+pub mod Notes
+pub mod Views

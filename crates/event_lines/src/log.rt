@@ -1,0 +1,64 @@
+//! Where event lines are written.
+ghost use Rattle.std.specs.Prelude.{◌≡◌, ◌≢◌, ◌↔◌, ◌∷◌, ◌++◌, [], IfErr, IfOk, IsTrue};
+ghost use Rattle.std.specs.Io.KnownBytes.{Keeps};
+ghost use Rattle.text_io.specs.Written.{AppendsBeginning};
+ghost use Rattle.event_lines.specs.Notes.{Notes};
+ghost use Rattle.event_lines.specs.Views.{text_of};
+
+use crate::level::Level;
+use crate::line::EventLine;
+use std::alloc::AllocError;
+use std::io::Write;
+use text_io::write_text;
+
+/// A writer of event lines, and which of them it is given.
+#[derive(Drop)]
+pub struct EventLog<W: Write + Drop> {
+    pub level: Level,
+    pub writer: W,
+}
+
+impl<W: Write + Drop> EventLog<W> {
+    /// A log of this level.
+    pub fn new(level: Level, writer: W) -> EventLog<W>
+        ensures level { result.level ≡ level }
+        ensures writer { result.writer ≡ writer }
+    {
+        EventLog { level, writer }
+    }
+
+    /// Whether any line is written.
+    pub fn is_on(&self) -> bool
+        ensures { IsTrue result ↔ (self.now.level ≢ Level.Off) }
+    {
+        self.level != Level::Off
+    }
+
+    /// Writes a line, if any are written. Where a write fails or memory is refused a beginning of it
+    /// is written, and nothing is told of that: a line that can't be written stops nothing.
+    pub fn note(&mut self, line: Result<EventLine, AllocError>)
+        ensures level { self.new.level ≡ self.old.level }
+        ensures written { IfOk line (λ line.
+            Notes self.old.level (W.contents self.old.writer) (W.contents self.new.writer)
+            (text_of line)) }
+        ensures refused { IfErr line (λ _.
+            Keeps (W.contents self.old.writer) (W.contents self.new.writer)) }
+    {
+        if !self.is_on() {
+            return;
+        }
+        if let Ok(line) = line {
+            write_line(&mut self.writer, line);
+        }
+    }
+}
+
+// Writes a line, or a beginning of it.
+fn write_line<W: Write>(writer: &mut W, line: EventLine)
+    ensures { AppendsBeginning (W.contents writer.old) (W.contents writer.new)
+        (text_of line ++ 10 ∷ []) }
+{
+    if let Ok(bytes) = line.into_bytes() {
+        let _ = write_text(writer, bytes.as_slice());
+    }
+}

@@ -1,0 +1,199 @@
+-- Event lines that are written one after the other.
+use Rattle.std.proofs.Common.{◌≡◌, ◌≢◌, ◌<◌, ◌+◌, ◌==◌, true, false, ℕ, Bool, Bor, List, [], ◌∷◌, ◌++◌, length, map, take, drop, get_or, append_assoc, min, Option, Some, None, Result, Ok, Err, IfOk, refl, sym, ap, subst, ◌∙◌, append-nil, arith, inl, inr, ◌≤◌}
+use Rattle.std.specs.Prelude.{◌↔◌, IfErr, IsTrue, if◌then◌else◌, nat_lt, option_map, position, unwrap_or}
+use Rattle.std.specs.List.{before_first, position_or_len}
+use Rattle.std.proofs.lemmas.Bool.{cases_lt, cond_both, eq-eqb, ltb-false, ne_eqb}
+use Rattle.std.proofs.lemmas.Option.{same_Some}
+use Rattle.std.proofs.lemmas.List.{get_or_default, length-take, take-take, take_all}
+use Rattle.std.specs.Prelude.{Vec}
+use Rattle.std.specs.Global.{Global}
+use Rattle.std.specs.Io.KnownBytes.{Appends, Keeps}
+use Rattle.std.proofs.KnownBytes.{Appends-nil, Keeps-refl, Keeps-trans}
+use Rattle.text_io.specs.Written.{AppendsBeginning, line}
+use Rattle.job_core.specs.declared.reply.Reply.{Reply}
+use Rattle.feeding.specs.declared.engine.Response.{Response}
+use Rattle.feeding.specs.declared.feed.Rejected.{Rejected}
+use Rattle.feeding.specs.declared.feed.Rejection.{Rejection}
+use Rattle.event_lines.specs.declared.level.Level.{Level}
+use Rattle.event_lines.specs.declared.level.Level.TheVariants.{Off, Usual, All}
+use Rattle.event_lines.specs.declared.line.EventLine.{EventLine}
+use Rattle.event_lines.specs.declared.log.EventLog.{EventLog}
+use Rattle.event_lines.specs.Notes.{Notes, NotesAll}
+use Rattle.event_lines.specs.Views.{text_of}
+use Rattle.feeding.specs.Cards.{Card, card_of}
+use Rattle.feeding.specs.Events.{IsNoted, lines_under, lines_with, rejection, without_numbers, again_line, again_lines, card_before, cards_in, exhausted_line, refusal_lines, refused_line, spoiled_line, used_line}
+use Rattle.feeding.specs.Feeds.{Feed, by_reply, hears}
+use Rattle.feeding.specs.Views.{IsRejected, came_in}
+use Rattle.feeding.proofs.Draws.{next_line}
+
+kept_appends : (a b c : Option (List ℕ)) (bs : List ℕ) → Keeps a b → Appends b c bs → Appends a c bs
+kept_appends None b c bs keeps grows = tt
+kept_appends (Some x) None c bs keeps grows = absurd keeps
+kept_appends (Some x) (Some y) None bs keeps grows = absurd grows
+kept_appends (Some x) (Some y) (Some z) bs keeps grows = grows ∙ ap (λ l. l ++ bs) keeps
+
+kept_begun : (a b c : Option (List ℕ)) (text : List ℕ) → Keeps a b → AppendsBeginning b c text → AppendsBeginning a c text
+kept_begun a b c text keeps (front, back, whole, grows) = (front, back, whole, kept_appends a b c front keeps grows)
+
+kept_note : (level : Level) (a b c : Option (List ℕ)) (text : List ℕ) → Keeps a b → Notes level b c text → Notes level a c text
+kept_note Off a b c text keeps note = Keeps-trans a b c keeps note
+kept_note Usual a b c text keeps note = kept_begun a b c (line text) keeps note
+kept_note All a b c text keeps note = kept_begun a b c (line text) keeps note
+
+kept_notes : (level : Level) (a b c : Option (List ℕ)) (texts : List (List ℕ)) → Keeps a b → NotesAll level b c texts → NotesAll level a c texts
+kept_notes level a b c [] keeps notes = Keeps-trans a b c keeps notes
+kept_notes level a b c (t ∷ ts) keeps (mid, first, rest) = (mid, kept_note level a b mid t keeps first, rest)
+
+-- a line of which nothing was written
+lost_note : (level : Level) (a : Option (List ℕ)) (text : List ℕ) → Notes level a a text
+lost_note Off a text = Keeps-refl a
+lost_note Usual a text = ([], line text, refl, Appends-nil a)
+lost_note All a text = ([], line text, refl, Appends-nil a)
+
+lost_notes : (level : Level) (a b : Option (List ℕ)) (texts : List (List ℕ)) → Keeps a b → NotesAll level a b texts
+lost_notes level a b [] keeps = keeps
+lost_notes level a b (t ∷ ts) keeps = (a, lost_note level a t, lost_notes level a b ts keeps)
+
+notes_then : (level : Level) (a b c : Option (List ℕ)) (xs ys : List (List ℕ)) → NotesAll level a b xs → NotesAll level b c ys → NotesAll level a c (xs ++ ys)
+notes_then level a b c [] ys first rest = kept_notes level a b c ys first rest
+notes_then level a b c (x ∷ xs) ys (mid, one, more) rest = (mid, one, notes_then level mid b c xs ys more rest)
+
+off_note : (a b : Option (List ℕ)) (texts : List (List ℕ)) → NotesAll Off a b texts → Keeps a b
+off_note a b [] notes = notes
+off_note a b (t ∷ ts) (mid, first, rest) = Keeps-trans a mid b first (off_note mid b ts rest)
+
+-- ---- a log
+
+-- nothing was written
+pub lost : {E : Type 0} (contents : E → Option (List ℕ)) (old new : EventLog E) (texts : List (List ℕ)) → new ≡ old → IsNoted contents old new texts
+lost contents old new texts same =
+    subst (λ n. IsNoted contents old n texts) (sym same) (refl, lost_notes old.level (contents old.writer) (contents old.writer) texts (Keeps-refl (contents old.writer)))
+
+pub noted_then : {E : Type 0} (contents : E → Option (List ℕ)) (a b c : EventLog E) (xs ys : List (List ℕ)) → IsNoted contents a b xs → IsNoted contents b c ys → IsNoted contents a c (xs ++ ys)
+noted_then contents a b c xs ys (same, first) (still, rest) = (
+  still ∙ same,
+  notes_then a.level (contents a.writer) (contents b.writer) (contents c.writer) xs ys first (subst (λ l. NotesAll l (contents b.writer) (contents c.writer) ys) same rest),
+)
+
+-- where none are written, whichever these are
+pub noted_off : {E : Type 0} (contents : E → Option (List ℕ)) (old new : EventLog E) (xs ys : List (List ℕ)) → old.level ≡ Off → IsNoted contents old new xs → IsNoted contents old new ys
+noted_off contents old new xs ys off (same, notes) =
+    let a = contents old.writer in
+    let b = contents new.writer in
+    (same, lost_notes old.level a b ys (off_note a b xs (subst (λ l. NotesAll l a b xs) off notes)))
+
+note_of : {F : Type 0} (level : Level) (a b : Option (List ℕ)) (made : Result EventLine F) (text : List ℕ) → IfOk made (λ l. text_of l ≡ text) → IfOk made (λ l. Notes level a b (text_of l)) → IfErr made (λ e. Keeps a b)
+    → Notes level a b text
+note_of level a b (Ok l) text is written refused = subst (Notes level a b) is written
+note_of level a b (Err e) text is written refused = kept_note level a b b text refused (lost_note level b text)
+
+-- a line that was made, or for which memory was refused
+pub noted_line : {E F : Type 0} (contents : E → Option (List ℕ)) (old new : EventLog E) (made : Result EventLine F) (text : List ℕ) → IfOk made (λ l. text_of l ≡ text) → new.level ≡ old.level
+    → IfOk made (λ l. Notes old.level (contents old.writer) (contents new.writer) (text_of l)) → IfErr made (λ e. Keeps (contents old.writer) (contents new.writer)) → IsNoted contents old new (text ∷ [])
+noted_line contents old new made text is same written refused =
+    (same, (contents new.writer, note_of old.level (contents old.writer) (contents new.writer) made text is written refused, Keeps-refl (contents new.writer)))
+
+-- of lines that begin so
+pub noted_front : {E : Type 0} (contents : E → Option (List ℕ)) (old new : EventLog E) (xs ys all : List (List ℕ)) → IsNoted contents old new xs → all ≡ xs ++ ys → IsNoted contents old new all
+noted_front contents old new xs ys all noted is = subst (IsNoted contents old new) (sym is) (noted_then contents old new new xs ys noted (lost contents new new ys refl))
+
+pub noted_kept : {E : Type 0} (contents : E → Option (List ℕ)) (a b c : EventLog E) (xs : List (List ℕ)) → IsNoted contents a b xs → IsNoted contents b c [] → IsNoted contents a c xs
+noted_kept contents a b c xs first kept = subst (IsNoted contents a c) (append-nil xs) (noted_then contents a b c xs [] first kept)
+
+-- ---- a reply's lines
+
+-- it puts a card out as bad, and is no refusal
+pub noted_spoiled : {E : Type 0} (contents : E → Option (List ℕ)) (old new : EventLog E) (serial number : ℕ) (found o : Option (ℕ × List ℕ)) → found ≡ None → found ≡ o
+    → IsNoted contents old new (spoiled_line serial number ∷ []) → IsNoted contents old new (refusal_lines serial number o)
+noted_spoiled contents old new serial number found o is same noted = subst (λ x. IsNoted contents old new (refusal_lines serial number x)) (sym is ∙ same) noted
+
+-- a refusal, with whether its number is kept with another ask
+pub noted_refusal : {E : Type 0} (contents : E → Option (List ℕ)) (old new : EventLog E) (serial number code : ℕ) (name : List ℕ) (o : Option (ℕ × List ℕ)) (used : Bool) → Some (code, name) ≡ o → (code == 72) ≡ used
+    → IsNoted contents old new (refused_line serial number code name ∷ (if used then used_line number ∷ [] else [])) → IsNoted contents old new (refusal_lines serial number o)
+noted_refusal contents old new serial number code name o used same is noted =
+    subst (λ x. IsNoted contents old new (refusal_lines serial number x)) same
+    (subst (λ b. IsNoted contents old new (refused_line serial number code name ∷ (if b then used_line number ∷ [] else []))) (sym is) noted)
+
+-- ---- a reply's first line
+
+take_both : (m n : ℕ) (xs : List ℕ) → take (min n m) xs ≡ take m (take n xs)
+take_both m n xs =
+    elim (cases_lt m n) [
+      | inl less ↦ ap (λ k. take k xs) (min_right m n less) ∙ sym (take-take m n xs (omega (arith, less)))
+      | inr more ↦ ap (λ k. take k xs) (min_left m n more) ∙ sym (take_all m (take n xs) (omega (arith, more, length-take n xs)))
+    ]
+  where
+    min_right : (m n : ℕ) → m < n → min n m ≡ m
+    min_right m n less = omega arith
+
+    min_left : (m n : ℕ) → n ≤ m → min n m ≡ n
+    min_left m n more = omega arith
+
+pub line_taken : (p : ℕ → Bool) (bytes : List ℕ) (o : Option ℕ) (most : ℕ) → o ≡ position p bytes → take (min (unwrap_or o (length bytes)) most) bytes ≡ take most (before_first p bytes)
+line_taken p bytes o most is =
+    let at = position_or_len p bytes in
+    ap (λ x. take (min (unwrap_or x (length bytes)) most) bytes) is
+    ∙ cond_both (nat_lt at (length bytes)) (Some at) None (λ x. take (min (unwrap_or x (length bytes)) most) bytes ≡ take most (take at bytes))
+    (λ within. take_both most at bytes)
+    (λ behind. take_both most (length bytes) bytes ∙ ap (take most) (take_all (length bytes) bytes (omega arith) ∙ sym (take_all at bytes (omega (arith, ltb-false at (length bytes) behind)))))
+
+-- ---- lines of cards that can't be put in
+
+abbrev pub exhausted_of : List (Bor (List ℕ)) → List (List ℕ)
+exhausted_of ls = map (λ (c : Card). exhausted_line c.serial) (cards_in (map (λ (l : Bor (List ℕ)). l.now) ls))
+
+one_exhausted : (o : Option Card) (cs : List Card) (serial : ℕ) → option_map (λ (c : Card). c.serial) o ≡ Some serial
+    → map (λ (c : Card). exhausted_line c.serial) (card_before o cs) ≡ exhausted_line serial ∷ map (λ (c : Card). exhausted_line c.serial) cs
+one_exhausted None cs serial is = cc
+one_exhausted (Some c) cs serial is = ap (λ n. exhausted_line n ∷ map (λ (c : Card). exhausted_line c.serial) cs) (same_Some _ _ is)
+
+pub exhausted_next : (ls : List (Bor (List ℕ))) (i : ℕ) (d : Bor (List ℕ)) (serial : ℕ) (done : List (List ℕ)) → i < length ls
+    → option_map (λ (c : Card). c.serial) (card_of (get_or ls i d).now) ≡ Some serial → exhausted_of ls ≡ done ++ exhausted_of (drop i ls)
+    → exhausted_of ls ≡ (done ++ exhausted_line serial ∷ []) ++ exhausted_of (drop (i + 1) ls)
+exhausted_next ls i d serial done within card so_far =
+    let l = get_or ls i d in
+    let rest = exhausted_of (drop (i + 1) ls) in
+    so_far
+    ∙ ap (λ texts. done ++ texts)
+    (ap (λ xs. map (λ (c : Card). exhausted_line c.serial) (cards_in xs)) (next_line ls i l within (get_or_default ls i d l within))
+    ∙ one_exhausted (card_of l.now) (cards_in (map (λ (l : Bor (List ℕ)). l.now) (drop (i + 1) ls))) serial card)
+    ∙ sym (append_assoc done (exhausted_line serial ∷ []) rest)
+
+-- ---- a try that changed nothing
+
+pub again_some : (number tries : ℕ) (came : Option (List ℕ)) → 0 < tries → again_line number tries came ∷ [] ≡ again_lines number tries came
+again_some number tries came some = sym (ap (λ b. if b then [] else again_line number tries came ∷ []) (ne_eqb tries 0 (λ none. absurd (omega (arith, none, some)))))
+
+pub again_none : (number tries : ℕ) (came : Option (List ℕ)) → tries ≤ 0 → [] ≡ again_lines number tries came
+again_none number tries came none = let zero : tries ≡ 0 = omega arith in sym (ap (λ b. if b then [] else again_line number tries came ∷ []) (eq-eqb tries 0 zero))
+
+-- ---- a try, whose bytes were kept where any lines are written
+
+level_off : (level : Level) (on : Bool) → IsTrue on ↔ (level ≢ Off) → on ≡ false → level ≡ Off
+level_off Off on is off = refl
+level_off Usual on is off = let never : false ≡ true = sym off ∙ is.1 (λ (same : Usual ≡ Off). cc) in cc
+level_off All on is off = let never : false ≡ true = sym off ∙ is.1 (λ (same : All ≡ Off). cc) in cc
+
+pub noted_try : {E : Type 0} (contents : E → Option (List ℕ)) (old new : EventLog E) (serial number : ℕ) (on : Bool) (came came' : Option (List ℕ)) (reply : Option Reply) (how how' : Option Rejection) (cards cards' : List Card)
+    (tries tries' : ℕ) → IsTrue on ↔ (old.level ≢ Off) → came' ≡ (if on then came else None) → how' ≡ how → cards' ≡ cards → tries' ≡ tries
+    → IsNoted contents old new (lines_with serial number came' reply how' cards' tries') → IsNoted contents old new (lines_with serial number came reply how cards tries)
+noted_try contents old new serial number true came came' reply how how' cards cards' tries tries' is kept one two three noted =
+    subst (λ x. IsNoted contents old new (lines_with serial number came reply how cards x)) three
+    (subst (λ x. IsNoted contents old new (lines_with serial number came reply how x tries')) two
+    (subst (λ x. IsNoted contents old new (lines_with serial number came reply x cards' tries')) one (subst (λ x. IsNoted contents old new (lines_with serial number x reply how' cards' tries')) kept noted)))
+noted_try contents old new serial number false came came' reply how how' cards cards' tries tries' is kept one two three noted =
+    noted_off contents old new (lines_with serial number came' reply how' cards' tries') (lines_with serial number came reply how cards tries) (level_off old.level false is refl) noted
+
+kept_bytes : (on : Bool) (o : Option (Vec ℕ Global)) → option_map (λ (v : Vec ℕ Global). v.items) (if on then o else None) ≡ (if on then option_map (λ (v : Vec ℕ Global). v.items) o else None)
+kept_bytes true o = refl
+kept_bytes false o = refl
+
+-- as a feed went on after it
+pub noted_hear : {E : Type 0} (contents : E → Option (List ℕ)) (old new : EventLog E) (f h : Feed) (number : ℕ) (r : Response) (on : Bool) (kept : Option (Vec ℕ Global)) (came : Option (List ℕ)) (reply : Option Reply)
+    (out : Rejected) → IsTrue on ↔ (old.level ≢ Off) → kept ≡ (if on then r.came else None) → came ≡ option_map (λ (v : Vec ℕ Global). v.items) kept → reply ≡ r.reply → IsRejected f number r.reply out → h ≡ hears f r.reply
+    → IsNoted contents old new (lines_with f.card.serial number came reply out.card (cards_in (map (λ (l : Bor (List ℕ)). l.now) out.lines.now)) h.tries) → IsNoted contents old new (lines_under f number (came_in r) r.reply)
+noted_hear contents old new f h number r on kept came reply out is kept_is came_is reply_is bad went noted =
+    let cards = cards_in (map (λ (l : Bor (List ℕ)). l.now) out.lines.now) in
+    noted_try contents old new f.card.serial number on (came_in r) came r.reply (rejection f number r.reply) out.card (without_numbers (by_reply f number r.reply)) cards (hears f r.reply).tries h.tries is
+    (came_is ∙ ap (option_map (λ (v : Vec ℕ Global). v.items)) kept_is ∙ kept_bytes on r.came) bad.0 bad.1 (ap (λ (x : Feed). x.tries) went)
+    (subst (λ x. IsNoted contents old new (lines_with f.card.serial number came x out.card cards h.tries)) reply_is noted)

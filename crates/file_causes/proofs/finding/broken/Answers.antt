@@ -1,0 +1,7 @@
+use Rattle.file_causes.proofs.FoundLemmas.{rules_judged}
+use Rattle.file_causes.proofs.finding.broken.Goals as goal
+
+pub returns : goal.returns
+returns c =
+    let told = c.in_ok-failing.ensures in
+    rules_judged c.args.tables c.first_failing.new.tables c.in_ok-failing.failing c.damage_of.result c.damage_of.ensures told.sound.0 told.first told.sorted told.same

@@ -1,0 +1,11 @@
+use Rattle.std.proofs.Common.{subst}
+use Rattle.sql_order.specs.Alike.{HasJust}
+use Rattle.sql_order.specs.Versions.{schema_of}
+use Rattle.file_causes.specs.Differences.{nearest}
+use Rattle.file_causes.proofs.finding.nearest_difference.Goals as goal
+
+pub schema_difference-requires : goal.schema_difference-requires
+schema_difference-requires g c = λ just.
+    let s = c.schema-schema.result.now in
+    let named : HasJust s (schema_of (nearest s)) = subst (HasJust s) c.in_ok-ours.ensures just in
+    c.requires (nearest s) (subst (λ x. HasJust x (schema_of (nearest s))) c.schema-schema.ensures.value named)

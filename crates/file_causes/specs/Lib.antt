@@ -1,0 +1,4 @@
+pub mod Causes
+pub mod Differences
+pub mod Standings
+pub mod Words

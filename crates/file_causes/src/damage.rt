@@ -1,0 +1,35 @@
+//! What is wrong with the rows of a database.
+ghost use Rattle.std.specs.Prelude.{◌≡◌, Some};
+ghost use Rattle.file_causes.specs.Words.{damage_word};
+
+use audit_rows::Rule;
+use std::fmt;
+
+/// What is wrong with the rows of our tables.
+#[derive(Clone, Copy, Debug, PartialEq, Eq)]
+pub enum Damage {
+    /// A row has a value that no row of ours has.
+    UnreadableRow,
+    /// The first rule that the rows break.
+    Broken { rule: Rule },
+}
+
+impl Damage {
+    /// The word that people read: the name of the rule.
+    pub fn word(self) -> &'static str
+        ensures { result.now ≡ damage_word self }
+    {
+        match self {
+            Damage::UnreadableRow => "unreadable-row",
+            Damage::Broken { rule } => rule.name(),
+        }
+    }
+}
+
+impl fmt::Display for Damage {
+    ghost output = { λ damage. Some (damage_word damage) };
+
+    fn fmt<W: fmt::Write>(&self, f: &mut fmt::Formatter<W>) -> fmt::Result {
+        f.write_str(self.word())
+    }
+}

@@ -1,0 +1,158 @@
+//! Why a database that is opened is refused.
+ghost use Rattle.std.specs.Prelude.{◌≡◌, false, IfOk, IfSome, IsTrue, MatchOption};
+ghost use Rattle.std.specs.Prelude.{option_map};
+ghost use Rattle.sqlite.specs.Held.{state};
+ghost use Rattle.sqlite.specs.State.{HasCleanDisk, Survives};
+ghost use Rattle.sql_base.specs.Ends.{IsKept};
+ghost use Rattle.sql_order.specs.Alike.{HasJust};
+ghost use Rattle.sql_order.specs.Ours.{AreThere};
+ghost use Rattle.sql_order.specs.Versions.{schema_of};
+ghost use Rattle.sql_order.specs.declared.versions.Version.{Version as OfVersion};
+ghost use Rattle.order_tables.specs.Holding.{IsOfVersion};
+ghost use Rattle.file_causes.specs.Causes.{IsNotOurs, IsUndamaged, SaysHow, SaysWhat};
+ghost use Rattle.file_causes.specs.Differences.{Differs, nearest};
+ghost use Rattle.file_causes.specs.Standings.{Judges, Stands};
+
+use crate::damage::Damage;
+use crate::difference::Difference;
+use crate::schemas::{nearest, schema_difference};
+use audit_rows::{Rule, first_failing};
+use order_tables::{read_all, says};
+use sql_order::{Version, tables_of, version_in};
+use sql_tables::CreateFault;
+use sqlite::{Alter, Connection, Error};
+use sqlite_schema::schema::Schema;
+use std::alloc::Global;
+use stored_rows::Tables;
+
+// What is made in memory to compare a schema with is empty before, so the first fault doesn't come.
+fn error_of(fault: CreateFault) -> Error {
+    match fault {
+        CreateFault::Sqlite { error } => error,
+        CreateFault::NotEmpty => Error::InvalidQuery,
+    }
+}
+
+// The tables' version, by the schema alone.
+fn schema_version<S: Alter>(alloc: Global, conn: &Connection<S>) -> Result<Option<Version>, Error>
+    ensures exact { IfOk result (λ found. MatchOption found
+        ((v : _) → ¬ HasJust (state S.Store conn.now).now.schema (schema_of v))
+        (λ v. HasJust (state S.Store conn.now).now.schema (schema_of v))) }
+    ensures there { IsTrue (state S.Store conn.now).is_open → IfOk result (λ found. IfSome found
+        (λ v. AreThere (state S.Store conn.now).now.schema (schema_of v).tables)) }
+{
+    version_in(alloc, conn).map_err(error_of)
+}
+
+// Our tables of the version that a schema is nearest to.
+fn nearest_tables(alloc: Global, schema: &Schema) -> Result<Schema, Error>
+    ensures { IfOk result (λ ours. ours ≡ schema_of (nearest schema.now)) }
+{
+    tables_of(alloc, nearest(schema)).map_err(error_of)
+}
+
+// How the tables differ from those of the nearest version.
+fn nearest_difference<S: Alter>(alloc: Global, conn: &Connection<S>) -> Result<Difference, Error>
+    requires { (v : OfVersion) → ¬ HasJust (state S.Store conn.now).now.schema (schema_of v) }
+    ensures { IfOk result (Differs (schema_of (nearest (state S.Store conn.now).now.schema))
+        (state S.Store conn.now).now.schema) }
+{
+    let schema = conn.schema();
+    let ours = nearest_tables(alloc, schema)?;
+    Ok(schema_difference(alloc, schema, &ours)?)
+}
+
+/// Whose tables a database has.
+#[derive(Drop)]
+pub(crate) enum Standing {
+    /// Ours, of this version.
+    Ours { version: Version },
+    /// Those of no version of ours.
+    NotOurs { difference: Difference },
+}
+
+// The tables' version, which their own row says too, or how they differ.
+fn standing_of<S: Alter>(alloc: Global, conn: &mut Connection<S>) -> Result<Standing, Error>
+    requires { conn.old.in_transaction ≡ false }
+    ensures told { HasCleanDisk (state S.Store conn.new)
+        → IfOk result (Stands (state S.Store conn.old).now) }
+    ensures kept { HasCleanDisk (state S.Store conn.new)
+        → IsKept (state S.Store conn.old) (state S.Store conn.new) }
+    ensures idle { conn.new.in_transaction ≡ false }
+    ensures survives { Survives (state S.Store conn.old) (state S.Store conn.new) (λ _. ⊥) }
+{
+    let Some(version) = schema_version(alloc, conn)? else {
+        let difference = nearest_difference(alloc, conn)?;
+        return Ok(Standing::NotOurs { difference });
+    };
+    if says(conn, version)? {
+        Ok(Standing::Ours { version })
+    } else {
+        let difference = Difference::OtherVersion;
+        Ok(Standing::NotOurs { difference })
+    }
+}
+
+/// How the tables of a database differ from ours; none where they are ours, of any version. Nothing
+/// is changed, and a crash leaves what it could leave before. Errors: refused memory, and a device
+/// that fails.
+pub fn find_difference<S: Alter>(
+    alloc: Global,
+    conn: &mut Connection<S>,
+) -> Result<Option<Difference>, Error>
+    requires { conn.old.in_transaction ≡ false }
+    ensures told { HasCleanDisk (state S.Store conn.new) → IfOk result (λ found. MatchOption found
+        ((v : OfVersion) × IsOfVersion v (state S.Store conn.old).now)
+        (SaysHow (state S.Store conn.old).now)) }
+    ensures not_ours { HasCleanDisk (state S.Store conn.new) → IfOk result
+        (λ found. IfSome found (λ _. IsNotOurs (state S.Store conn.old).now)) }
+    ensures kept { HasCleanDisk (state S.Store conn.new)
+        → IsKept (state S.Store conn.old) (state S.Store conn.new) }
+    ensures idle { conn.new.in_transaction ≡ false }
+    ensures survives { Survives (state S.Store conn.old) (state S.Store conn.new) (λ _. ⊥) }
+{
+    match standing_of(alloc, conn)? {
+        Standing::Ours { version: _ } => Ok(None),
+        Standing::NotOurs { difference } => Ok(Some(difference)),
+    }
+}
+
+fn damage_of(failing: Option<Rule>) -> Option<Damage>
+    ensures { result ≡ option_map Damage.Broken failing }
+{
+    failing.map(|rule| Damage::Broken { rule })
+}
+
+// The first rule that rows break.
+fn broken(alloc: Global, mut tables: Tables) -> Result<Option<Damage>, Error>
+    ensures { IfOk result (Judges tables) }
+{
+    let failing = first_failing(alloc, &mut tables)?;
+    Ok(damage_of(failing))
+}
+
+/// What is wrong with the rows of a database whose tables are ours, of any version; none where they
+/// are those of sound contents, or where the tables are not ours. It reads each table whole into
+/// memory. Nothing is changed, and a crash leaves what it could leave before. Errors: refused
+/// memory, and a device that fails.
+pub fn find_damage<S: Alter>(
+    alloc: Global,
+    conn: &mut Connection<S>,
+) -> Result<Option<Damage>, Error>
+    requires { conn.old.in_transaction ≡ false }
+    ensures told { HasCleanDisk (state S.Store conn.new) → IfOk result (λ found. MatchOption found
+        (IsUndamaged (state S.Store conn.old).now) (SaysWhat (state S.Store conn.old).now)) }
+    ensures kept { HasCleanDisk (state S.Store conn.new)
+        → IsKept (state S.Store conn.old) (state S.Store conn.new) }
+    ensures idle { conn.new.in_transaction ≡ false }
+    ensures survives { Survives (state S.Store conn.old) (state S.Store conn.new) (λ _. ⊥) }
+{
+    let version = match standing_of(alloc, conn)? {
+        Standing::Ours { version } => version,
+        Standing::NotOurs { difference: _ } => return Ok(None),
+    };
+    let Some(tables) = read_all(alloc, conn, version)? else {
+        return Ok(Some(Damage::UnreadableRow));
+    };
+    broken(alloc, tables)
+}

@@ -1,0 +1,35 @@
+-- What the close of a connection over files leaves of its store.
+use Rattle.std.specs.Prelude.{◌≡◌}
+use Rattle.sqlite_disk.specs.declared.Disk.{Ghosts}
+use Rattle.sqlite_disk.specs.declared.Files.{Files}
+use Rattle.sqlite.specs.Closing.{IsCopied}
+use Rattle.sqlite.specs.FileStore as stores
+use Rattle.sqlite.specs.Files.{FailsToClose, IsClosed, file_state}
+use Rattle.sqlite.specs.Held.{Held}
+use Rattle.sqlite.specs.View.{IsClean}
+use Rattle.sqlite.specs.WalReads.{AreClean}
+use Rattle.sqlite.specs.declared.FileStore.{FileStore}
+use Rattle.sqlite.specs.declared.error.Error.{Error}
+use Rattle.job_core.specs.declared.store.StoreFault.{StoreFault}
+use Rattle.job_core.specs.Contents.{Contents}
+use Rattle.rows_of_facts.specs.Image.{image}
+use Rattle.sql_rows.specs.Image.{IsImage}
+use Rattle.schema.specs.Link.{fault_for, link}
+
+module _ {D : Type 0} {g : Ghosts D} where
+  -- Its two files were given back. Where their disks have returned what was written, the database file alone has the last commit, and the last commit has the rows of the contents.
+  pub record LeavesWholeFile (conn : Held (FileStore D g)) : Type 0 where
+    pub last : FileStore D g
+    pub files : Files D
+    pub given : stores.files last ≡ (files.log, files.db)
+    pub quiet : IsClosed conn last
+    pub copied : AreClean g files.log files.db → IsCopied conn files
+    pub rows : AreClean g files.log files.db → (c : Contents) → (link (file_state conn) 0 0).holds c → IsImage (image c) (file_state conn).committed
+
+  -- It is not closed, and this fault says why. A crash leaves what it could leave before.
+  pub record FailsToFinish (conn : Held (FileStore D g)) (fault : StoreFault) : Type 0 where
+    pub last : FileStore D g
+    pub error : Error
+    pub quiet : IsClosed conn last
+    pub cause : IsClean (stores.view last) → FailsToClose conn last error
+    pub is : fault ≡ fault_for error

@@ -1,0 +1,68 @@
+//! A server works over the tables of a database, and closes it at the end.
+ghost use Rattle.std.specs.Prelude.{◌≡◌, false, IfErr, OnOk};
+ghost use Rattle.schema.specs.Closing.{FailsToFinish, LeavesWholeFile};
+
+use crate::faults::fault_of;
+use crate::store::SqlStore;
+use job_core::StoreFault;
+use reopening::{FaultCounts, ServerStore};
+use sqlite::{Connection, FileStore, MemStore};
+use sqlite_disk::Disk;
+
+// Copies the write-ahead log into the database file, and closes both files.
+fn close_files<D: Disk + Drop>(conn: Connection<FileStore<D>>) -> Result<(), StoreFault>
+    requires { conn.in_transaction ≡ false }
+    ensures closed { OnOk result (LeavesWholeFile conn) }
+    ensures fault { IfErr result (FailsToFinish conn) }
+{
+    let _settled = conn.is_autocommit();
+    match conn.close_files() {
+        Ok(_) => Ok(()),
+        Err((error, store)) => {
+            drop(store.close());
+            Err(fault_of(error))
+        }
+    }
+}
+
+impl<D: Disk + Drop> ServerStore for SqlStore<FileStore<D>> {
+    ghost use Rattle.std.specs.Prelude.{IfErr, OnOk};
+    ghost use Rattle.schema.specs.Closing.{FailsToFinish, LeavesWholeFile};
+    ghost use Rattle.schema.specs.Stores.{connection};
+
+    ghost closed = { λ store. LeavesWholeFile (connection store) };
+
+    fn fault_counts(&self) -> FaultCounts {
+        self.fault_counts_of()
+    }
+
+    fn reply_count(&mut self) -> Result<u64, StoreFault> {
+        self.count_replies()
+    }
+
+    fn finish(self) -> Result<(), StoreFault>
+        ensures closed { OnOk result (LeavesWholeFile (connection self)) }
+        ensures fault { IfErr result (FailsToFinish (connection self)) }
+    {
+        close_files(self.close())
+    }
+}
+
+// A database in memory has no file.
+impl ServerStore for SqlStore<MemStore> {
+    ghost use Rattle.std.specs.Prelude.{⊤};
+
+    ghost closed = { λ _. ⊤ };
+
+    fn fault_counts(&self) -> FaultCounts {
+        self.fault_counts_of()
+    }
+
+    fn reply_count(&mut self) -> Result<u64, StoreFault> {
+        self.count_replies()
+    }
+
+    fn finish(self) -> Result<(), StoreFault> {
+        Ok(())
+    }
+}

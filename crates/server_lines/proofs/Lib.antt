@@ -1,0 +1,3 @@
+pub mod ServerLinesLemmas
+pub mod OpeningLemmas
+pub mod RunLemmas

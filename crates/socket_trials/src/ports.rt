@@ -1,0 +1,112 @@
+//! Messages to a port, as a feed sends them: where to, for how long, what is taken for a reply, and
+//! how long it waits before the same comes again.
+use crate::fake::{Fake, Floor, Step, local, millis};
+use exchanges::Port;
+use feeding::Exchange;
+use std::io::ErrorKind;
+use std::test::Fail;
+use std::time::Duration;
+
+const MESSAGE: &[u8] = b"POST /c/m1/1 HTTP/1.1\r\n\r\n";
+
+const REPLY: &[u8] = b"HTTP/1.1 200 OK\r\n\r\n{}";
+
+#[test]
+fn a_message_goes_whole_to_a_port_of_this_machine(rt: HostRuntime) -> Result<(), Fail> {
+    let floor = Floor::new(rt.alloc(), REPLY, 0);
+    let fake = Fake(&floor);
+    let came = Port::new(&fake, rt.alloc(), 8807).exchange(MESSAGE)?;
+    assert_eq!(rt; came.ok_or("nothing")?.as_slice(), REPLY);
+    assert_eq!(rt; floor.take_written().as_slice(), MESSAGE);
+    let minute = Duration::from_secs(60);
+    assert_eq!(rt; floor.connected.get(), Some((local(8807), minute)));
+    assert_eq!(rt; floor.write_wait.get(), Some(minute));
+    assert_eq!(rt; floor.read_wait.get(), Some(minute));
+    Ok(())
+}
+
+// How the writes and the reads of an exchange go, whether the reply comes whole, or nothing, and the
+// waits of the last write and the last read, in milliseconds.
+#[test]
+fn an_exchange_has_a_minute(rt: HostRuntime) -> Result<(), Fail> {
+    const SIGNAL: Step = Step::Fails(1000, ErrorKind::Interrupted);
+    const RESET: Step = Step::Fails(0, ErrorKind::ConnectionReset);
+    const LATE: Step = Step::Late(2000, 3);
+    const LATER: Step = Step::Late(30_000, 1);
+    const NEVER: Step = Step::Fails(58_000, ErrorKind::WouldBlock);
+    const ALL: Step = Step::Late(60_000, 1);
+    let ways: [(&'static [Step], &'static [Step], bool, u128, Option<u128>); 9] = [
+        (&[LATE], &[], true, 58_000, Some(58_000)),
+        (&[], &[LATE, LATER], true, 60_000, Some(28_000)),
+        (
+            &[SIGNAL, LATE],
+            &[SIGNAL, LATE, SIGNAL],
+            true,
+            57_000,
+            Some(53_000),
+        ),
+        // A write that fails midway, and one that takes nothing.
+        (&[LATE, RESET], &[], false, 58_000, None),
+        (&[LATE, Step::Bytes(0)], &[], false, 58_000, None),
+        // A reply that is cut.
+        (&[], &[LATE, RESET], false, 60_000, Some(58_000)),
+        (&[], &[LATE, NEVER], false, 60_000, Some(58_000)),
+        // Nothing is tried once the time is over.
+        (&[], &[ALL], false, 60_000, Some(60_000)),
+        (&[ALL], &[], false, 60_000, None),
+    ];
+    for (writes, reads, is_whole, write_wait, read_wait) in ways {
+        let floor = Floor::new(rt.alloc(), REPLY, 0);
+        floor.writes.set(writes);
+        floor.reads.set(reads);
+        let fake = Fake(&floor);
+        let came = Port::new(&fake, rt.alloc(), 8807).exchange(MESSAGE)?;
+        assert_eq!(rt; came.is_some(), is_whole);
+        let is_reply = came.is_some_and(|came| came.as_slice() == REPLY);
+        assert_eq!(rt; is_reply, is_whole);
+        assert_eq!(rt; millis(floor.write_wait.get()), Some(write_wait));
+        assert_eq!(rt; millis(floor.read_wait.get()), read_wait);
+    }
+    Ok(())
+}
+
+// A reply to a machine has far fewer bytes.
+#[test]
+fn a_reply_of_more_than_8192_bytes_is_nothing(rt: HostRuntime) -> Result<(), Fail> {
+    for (size, came) in [
+        (0, Some(0)),
+        (8192, Some(8192)),
+        (8193, None),
+        (100_000, None),
+    ] {
+        let floor = Floor::new(rt.alloc(), b"", size);
+        let fake = Fake(&floor);
+        let reply = Port::new(&fake, rt.alloc(), 8807).exchange(MESSAGE)?;
+        assert_eq!(rt; reply.map(|reply| reply.len()), came, "{size}");
+        // One byte more is read at most.
+        assert_eq!(rt; size.saturating_sub(floor.behind.get()), size.min(8193));
+    }
+    Ok(())
+}
+
+#[test]
+fn ten_tries_last_a_minute(rt: HostRuntime) -> Result<(), Fail> {
+    let pauses = [0, 10, 40, 160, 640, 2560, 10_240, 16_000, 16_000, 16_000];
+    let floor = Floor::new(rt.alloc(), REPLY, 0);
+    floor.faults.set((10, ErrorKind::ConnectionRefused));
+    let fake = Fake(&floor);
+    let mut port = Port::new(&fake, rt.alloc(), 8807);
+    for pause in pauses {
+        let begun = floor.passed();
+        assert_eq!(rt; port.exchange(MESSAGE)?, None);
+        assert_eq!(rt; floor.passed().saturating_sub(begun), pause);
+    }
+    assert_eq!(rt; floor.passed(), 61_650);
+    // Another message waits for nothing, and begins anew.
+    for pause in [0, 10, 40] {
+        let begun = floor.passed();
+        port.exchange(b"another")?;
+        assert_eq!(rt; floor.passed().saturating_sub(begun), pause);
+    }
+    Ok(())
+}

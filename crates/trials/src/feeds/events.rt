@@ -1,0 +1,387 @@
+//! Event lines of feeds over replies in memory, line by line.
+use super::{NEXT, OPENED, PRINTED, RELEASED, REPLIES, RESET, Replies, STORAGE};
+use crate::exchanges::name;
+use crate::failing_writers::Limited;
+use event_lines::{EventLog, Level};
+use feeding::{FeedStop, feed_with_events};
+use std::alloc::Global;
+use std::process::Abort;
+use std::test::Fail;
+use store_data::Name;
+
+const BLANK_USED: &[u8] =
+    b"HTTP/1.1 409 Conflict\r\nContent-Type: application/json\r\nContent-Length: 34\r\nConnection: close\r\n\r\n{\"code\":60,\"refused\":\"blank-used\"}";
+
+const NUMBER_REUSED: &[u8] =
+    b"HTTP/1.1 409 Conflict\r\nContent-Type: application/json\r\nContent-Length: 37\r\nConnection: close\r\n\r\n{\"code\":72,\"refused\":\"number-reused\"}";
+
+const BATCH_UNKNOWN: &[u8] =
+    b"HTTP/1.1 409 Conflict\r\nContent-Type: application/json\r\nContent-Length: 37\r\nConnection: close\r\n\r\n{\"code\":56,\"refused\":\"batch-unknown\"}";
+
+const BUSY: &[u8] =
+    b"HTTP/1.1 409 Conflict\r\nContent-Type: application/json\r\nContent-Length: 48\r\nConnection: close\r\n\r\n{\"code\":61,\"refused\":\"machine-busy\",\"session\":7}";
+
+const NUMBER_RELEASED: &[u8] =
+    b"HTTP/1.1 409 Conflict\r\nContent-Type: application/json\r\nContent-Length: 55\r\nConnection: close\r\n\r\n{\"code\":73,\"mark\":20000000,\"refused\":\"number-released\"}";
+
+const SPOILED: &[u8] =
+    b"HTTP/1.1 200 OK\r\nContent-Type: application/json\r\nContent-Length: 32\r\nConnection: close\r\n\r\n{\"result\":\"spoiled\",\"session\":1}";
+
+// A connection on which nothing comes before its end.
+const NOTHING: &[u8] = b"";
+
+// The most bytes of event lines in a test.
+const ROOM: usize = 512;
+
+// A feed of these lines, to which these replies come and then none.
+#[derive(Drop)]
+struct Case {
+    list: &'static [u8],
+    replies: &'static [&'static [u8]],
+    end: Result<(), FeedStop>,
+    printed: &'static [u8],
+    events: &'static [u8],
+}
+
+// How a feed ended, what it printed, and its event lines.
+#[derive(Drop)]
+struct Fed {
+    end: Result<(), FeedStop>,
+    printed: Limited,
+    events: Limited,
+}
+
+// A feed with boot 1, whose event lines have so much room and are taken a byte a call.
+fn run(alloc: Global, machine: Name, case: &Case, level: Level, room: usize) -> Fed {
+    let (replies, asked) = (case.replies, 0);
+    let mut exchange = Replies {
+        alloc,
+        replies,
+        asked,
+    };
+    let mut list = case.list;
+    let mut printed = Limited::new(512, 512);
+    let mut log = EventLog::new(level, Limited::new(room, 1));
+    let end = feed_with_events(
+        alloc,
+        machine,
+        1,
+        machine,
+        &mut list,
+        &mut printed,
+        &mut exchange,
+        &mut log,
+    );
+    let events = log.writer;
+    Fed {
+        end,
+        printed,
+        events,
+    }
+}
+
+// A feed ends and prints as it should, and these are its event lines. Where memory is refused it stops, or a line is left out, and the
+// next feed has all.
+fn check_at(
+    rt: &impl Abort,
+    machine: Name,
+    alloc: Global,
+    case: &Case,
+    level: Level,
+    room: usize,
+    events: &[u8],
+) {
+    let mut feed = run(alloc, machine, case, level, room);
+    if feed.end != Err(FeedStop::Memory) {
+        assert_eq!(rt; feed.end, case.end, "at {level:?}");
+        assert_eq!(rt; feed.printed.taken(), case.printed, "at {level:?}");
+    }
+    if feed.end != case.end || feed.events.taken() != events {
+        feed = run(alloc, machine, case, level, room);
+    }
+    assert_eq!(rt; feed.end, case.end, "at {level:?}");
+    assert_eq!(rt; feed.printed.taken(), case.printed, "at {level:?}");
+    assert_eq!(rt; feed.events.taken(), events, "at {level:?}");
+}
+
+// The same at each level: where it is off nothing is written.
+fn check(rt: &impl Abort, alloc: Global, machine: Name, case: &Case) {
+    for (level, events) in [
+        (Level::Usual, case.events),
+        (Level::All, case.events),
+        (Level::Off, b"".as_slice()),
+    ] {
+        check_at(rt, machine, alloc, case, level, ROOM, events);
+    }
+}
+
+// The replies of these tests, by what comes to the opening, whose number is 10000003.
+#[test]
+fn a_refused_opening_has_its_number_and_code(rt: HostRuntime) -> Result<(), Fail> {
+    let (alloc, machine) = (rt.alloc(), name("m1")?);
+    let cases = [
+        Case {
+            list: b"1000\n",
+            replies: &[RELEASED, RESET, BLANK_USED],
+            end: Ok(()),
+            printed: b"1000 rejected\n",
+            events: b"rejected serial=1000 number=10000003 code=60 name=blank-used\n",
+        },
+        Case {
+            list: b"1000\n",
+            replies: &[RELEASED, RESET, BATCH_UNKNOWN],
+            end: Ok(()),
+            printed: b"1000 rejected\n",
+            events: b"rejected serial=1000 number=10000003 code=56 name=batch-unknown\n",
+        },
+        // A session runs, which the next request resets.
+        Case {
+            list: b"1000\n",
+            replies: &[RELEASED, RESET, BUSY, RESET],
+            end: Ok(()),
+            printed: b"1000 rejected\n",
+            events: b"rejected serial=1000 number=10000003 code=61 name=machine-busy\n",
+        },
+        Case {
+            list: b"1000\n1001\n",
+            replies: &[RELEASED, RESET, NUMBER_RELEASED],
+            end: Err(FeedStop::Stale),
+            printed: b"1000 rejected\n",
+            events: b"rejected serial=1000 number=10000003 code=73 name=number-released\n",
+        },
+        // Each card has a line of its own.
+        Case {
+            list: b"1000\n1001\n",
+            replies: &[RELEASED, RESET, BATCH_UNKNOWN, BLANK_USED],
+            end: Ok(()),
+            printed: b"1000 rejected\n1001 rejected\n",
+            events: b"rejected serial=1000 number=10000003 code=56 name=batch-unknown\nrejected serial=1001 number=10000004 code=60 name=blank-used\n",
+        },
+    ];
+    for case in &cases {
+        check(&rt, alloc, machine, case);
+    }
+    Ok(())
+}
+
+#[test]
+fn a_used_boot_is_noticed(rt: HostRuntime) -> Result<(), Fail> {
+    let case = Case {
+        list: b"1000\n",
+        replies: &[RELEASED, RESET, NUMBER_REUSED],
+        end: Ok(()),
+        printed: b"1000 rejected\n",
+        events: b"rejected serial=1000 number=10000003 code=72 name=number-reused\nboot-used number=10000003\n",
+    };
+    check(&rt, rt.alloc(), name("m1")?, &case);
+    Ok(())
+}
+
+// The word's number is the one behind the opening's.
+#[test]
+fn a_spoiled_card_has_its_cause(rt: HostRuntime) -> Result<(), Fail> {
+    let (alloc, machine) = (rt.alloc(), name("m1")?);
+    let spoiled = Case {
+        list: b"1000 6A80\n",
+        replies: &[RELEASED, RESET, OPENED, SPOILED],
+        end: Ok(()),
+        printed: b"1000 00A4040006F00000000101 6A80\n1000 rejected\n",
+        events: b"rejected serial=1000 number=10000004 cause=spoiled\n",
+    };
+    let refused = Case {
+        list: b"1000\n",
+        replies: &[RELEASED, RESET, OPENED, NEXT, NUMBER_REUSED],
+        end: Ok(()),
+        printed: b"1000 00A4040006F00000000101 9000\n1000 80E28000050101027000 9000\n1000 rejected\n",
+        events: b"rejected serial=1000 number=10000005 code=72 name=number-reused\nboot-used number=10000005\n",
+    };
+    check(&rt, alloc, machine, &spoiled);
+    check(&rt, alloc, machine, &refused);
+    Ok(())
+}
+
+#[test]
+fn a_try_that_changes_nothing_is_noticed(rt: HostRuntime) -> Result<(), Fail> {
+    let (alloc, machine) = (rt.alloc(), name("m1")?);
+    let cases = [
+        Case {
+            list: b"",
+            replies: &[STORAGE, RELEASED, STORAGE, STORAGE, RESET],
+            end: Ok(()),
+            printed: b"",
+            events: b"again number=10000001 tries=1 reply=\"HTTP/1.1 503 Service Unavailable\"\nagain number=10000002 tries=1 reply=\"HTTP/1.1 503 Service Unavailable\"\nagain number=10000002 tries=2 reply=\"HTTP/1.1 503 Service Unavailable\"\n",
+        },
+        // A connection that ends before its reply has none.
+        Case {
+            list: b"",
+            replies: &[NOTHING, NOTHING, RELEASED, RESET],
+            end: Ok(()),
+            printed: b"",
+            events: b"again number=10000001 tries=1\nagain number=10000001 tries=2\n",
+        },
+        // So has one that can't be had: ten are the most.
+        Case {
+            list: b"1000\n",
+            replies: &[RELEASED],
+            end: Err(FeedStop::NoReply),
+            printed: b"",
+            events: b"again number=10000002 tries=1\nagain number=10000002 tries=2\nagain number=10000002 tries=3\nagain number=10000002 tries=4\nagain number=10000002 tries=5\nagain number=10000002 tries=6\nagain number=10000002 tries=7\nagain number=10000002 tries=8\nagain number=10000002 tries=9\nagain number=10000002 tries=10\n",
+        },
+        // A reply to another call is none.
+        Case {
+            list: b"",
+            replies: &[NUMBER_REUSED, RELEASED, RESET],
+            end: Ok(()),
+            printed: b"",
+            events: b"again number=10000001 tries=1 reply=\"HTTP/1.1 409 Conflict\"\n",
+        },
+    ];
+    for case in &cases {
+        check(&rt, alloc, machine, case);
+    }
+    Ok(())
+}
+
+// What someone else sends is escaped, and no more than 100 bytes of it are written.
+#[test]
+fn a_first_line_is_escaped_and_short(rt: HostRuntime) -> Result<(), Fail> {
+    let (alloc, machine) = (rt.alloc(), name("m1")?);
+    let cases = [
+        Case {
+            list: b"",
+            replies: &[
+                b"HTTP/1.0 502 Bad Gateway\nServer: x\r\n\r\n",
+                RELEASED,
+                RESET,
+            ],
+            end: Ok(()),
+            printed: b"",
+            events: b"again number=10000001 tries=1 reply=\"HTTP/1.0 502 Bad Gateway\"\n",
+        },
+        Case {
+            list: b"",
+            replies: &[
+                b"SSH-2.0 \"x\"\\ \x00\x7f\xc3\xa4~",
+                b"\r\n",
+                RELEASED,
+                RESET,
+            ],
+            end: Ok(()),
+            printed: b"",
+            events: b"again number=10000001 tries=1 reply=\"SSH-2.0 \\x22x\\x22\\x5C \\x00\\x7F\\xC3\\xA4~\"\nagain number=10000001 tries=2 reply=\"\"\n",
+        },
+        Case {
+            list: b"",
+            replies: &[
+                b"0123456789012345678901234567890123456789012345678901234567890123456789012345678901234567890123456789X\r\n",
+                RELEASED,
+                RESET,
+            ],
+            end: Ok(()),
+            printed: b"",
+            events: b"again number=10000001 tries=1 reply=\"0123456789012345678901234567890123456789012345678901234567890123456789012345678901234567890123456789\"\n",
+        },
+    ];
+    for case in &cases {
+        check(&rt, alloc, machine, case);
+    }
+    Ok(())
+}
+
+// Lists whose second line is bad, behind a card that gets good, and the event line of what is wrong with it.
+static BAD_LINES: [(&[u8], &[u8]); 18] = [
+    (b"1000\n\n1002\n", b"bad-line line=2 cause=empty\n"),
+    (b"1000\n\n", b"bad-line line=2 cause=empty\n"),
+    (
+        b"1000\n1001\r\n1002\r\n",
+        b"bad-line line=2 cause=ends-in-cr\n",
+    ),
+    (
+        b"1000\n1001 9000\r\n",
+        b"bad-line line=2 cause=ends-in-cr\n",
+    ),
+    (b"1000\n\r", b"bad-line line=2 cause=ends-in-cr\n"),
+    (b"1000\n1001  9000\n", b"bad-line line=2 cause=space\n"),
+    (b"1000\n 1001\n", b"bad-line line=2 cause=space\n"),
+    (b"1000\n1001 \n", b"bad-line line=2 cause=space\n"),
+    (b"1000\n \n", b"bad-line line=2 cause=space\n"),
+    (b"1000\n01001\n", b"bad-line line=2 cause=serial\n"),
+    (
+        b"1000\n1000000000000000000\n",
+        b"bad-line line=2 cause=serial\n",
+    ),
+    (b"1000\n-1\n", b"bad-line line=2 cause=serial\n"),
+    (b"1000\nserial 9000\n", b"bad-line line=2 cause=serial\n"),
+    (b"1000\n1001\t9000\n", b"bad-line line=2 cause=serial\n"),
+    (b"1000\n1001 900\n", b"bad-line line=2 cause=word\n"),
+    (b"1000\n1001 90000\n", b"bad-line line=2 cause=word\n"),
+    (b"1000\n1001 9000 90g0\n", b"bad-line line=2 cause=word\n"),
+    (
+        b"1000\n1001\xc2\xa09000 900\n",
+        b"bad-line line=2 cause=serial\n",
+    ),
+];
+
+#[test]
+fn a_bad_line_has_its_number_and_cause(rt: HostRuntime) -> Result<(), Fail> {
+    let (alloc, machine) = (rt.alloc(), name("m1")?);
+    for (list, events) in BAD_LINES {
+        let case = Case {
+            list,
+            replies: &REPLIES,
+            end: Err(FeedStop::BadLine),
+            printed: PRINTED,
+            events,
+        };
+        check(&rt, alloc, machine, &case);
+    }
+    Ok(())
+}
+
+#[test]
+fn lines_of_a_list_count_from_one(rt: HostRuntime) -> Result<(), Fail> {
+    let (alloc, machine) = (rt.alloc(), name("m1")?);
+    let first = Case {
+        list: b"\n1000\n",
+        replies: &[RELEASED, RESET],
+        end: Err(FeedStop::BadLine),
+        printed: b"",
+        events: b"bad-line line=1 cause=empty\n",
+    };
+    let third = Case {
+        list: b"1000\n1001\nx",
+        replies: &[RELEASED, RESET, BLANK_USED, BLANK_USED],
+        end: Err(FeedStop::BadLine),
+        printed: b"1000 rejected\n1001 rejected\n",
+        events: b"rejected serial=1000 number=10000003 code=60 name=blank-used\nrejected serial=1001 number=10000004 code=60 name=blank-used\nbad-line line=3 cause=serial\n",
+    };
+    check(&rt, alloc, machine, &first);
+    check(&rt, alloc, machine, &third);
+    Ok(())
+}
+
+// A writer of event lines that fails has their beginning, and the feed goes on.
+#[test]
+fn a_line_that_cannot_be_written_stops_nothing(rt: HostRuntime) -> Result<(), Fail> {
+    let (alloc, machine) = (rt.alloc(), name("m1")?);
+    let case = Case {
+        list: b"1000\n1001",
+        replies: &[STORAGE, RELEASED, RESET, NUMBER_REUSED, BLANK_USED],
+        end: Ok(()),
+        printed: b"1000 rejected\n1001 rejected\n",
+        events: b"again number=10000001 tries=1 reply=\"HTTP/1.1 503 Service Unavailable\"\nrejected serial=1000 number=10000003 code=72 name=number-reused\nboot-used number=10000003\nrejected serial=1001 number=10000004 code=60 name=blank-used\n",
+    };
+    for (room, _) in case.events.iter().enumerate() {
+        check_at(
+            &rt,
+            machine,
+            alloc,
+            &case,
+            Level::Usual,
+            room,
+            &case.events[..room],
+        );
+    }
+    check(&rt, alloc, machine, &case);
+    Ok(())
+}

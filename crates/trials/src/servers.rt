@@ -1,0 +1,389 @@
+//! A server over lists: the lines of standard output, and its event lines.
+use crate::exchanges::{inputs, stocked};
+use crate::failing_writers::Limited;
+use event_lines::{EventLog, Level};
+use faulty_store::{Fault, FaultyStore, Plan};
+use job_core::StoreFault;
+use list_store::ListStore;
+use reopening::ServerStore;
+use server::{Connections, MemoryConnections, NextFault, Served};
+use server_lines::{Opened, ServeStop, serve_and_tell};
+use std::alloc::{AllocError, Global};
+use std::io::Write;
+use std::test::Fail;
+use wire::Pieces;
+
+const PRODUCT: &[u8] =
+    b"POST /c/office/1 HTTP/1.1\r\nHost: localhost\r\nContent-Length: 63\r\n\r\n{\"do\":\"product\",\"product\":\"P1\",\"max\":255,\"low\":0,\"check\":false}";
+
+// Another request under its number.
+const REUSED: &[u8] = b"POST /c/office/1 HTTP/1.1\r\nContent-Length: 14\r\n\r\n{\"do\":\"reset\"}";
+
+const RESET: &[u8] = b"POST /c/m1/1 HTTP/1.1\r\nContent-Length: 14\r\n\r\n{\"do\":\"reset\"}";
+
+// A number with a leading zero.
+const MALFORMED: &[u8] = b"POST /c/office/01 HTTP/1.1\r\n\r\n";
+
+const NO_BATCH: &[u8] = b"GET /batch/B9 HTTP/1.1\r\nHost: localhost\r\n\r\n";
+
+// Its head has no end.
+const BROKEN: &[u8] = b"GET /batch/B9 HTTP/1.1\r\nHost: localhost\r\n";
+
+// A product, its repeat, its number again, a bad number, a batch that isn't there, and half a head.
+const ALL_KINDS: [&[u8]; 6] = [PRODUCT, PRODUCT, REUSED, MALFORMED, NO_BATCH, BROKEN];
+
+const NEW: Opened<'static> = Opened {
+    path: b"shop.db",
+    is_new: true,
+    has_log: false,
+};
+
+const FOUND: Opened<'static> = Opened {
+    path: b"my \"shop\".db",
+    is_new: false,
+    has_log: true,
+};
+
+const LISTENING: &[u8] = b"listening 127.0.0.1:8807\n";
+
+// How a server ended, and what it wrote.
+#[derive(Drop)]
+struct Ended {
+    outcome: Result<(), ServeStop>,
+    lines: Vec<u8>,
+    events: Vec<u8>,
+}
+
+impl Ended {
+    fn is(&self, outcome: Result<(), ServeStop>, lines: &[u8], events: &[u8]) -> bool {
+        self.outcome == outcome
+            && self.lines.as_slice() == lines
+            && self.events.as_slice() == events
+    }
+}
+
+// A server that ends so, at once or where it runs again after refused memory.
+macro_rules! assert_ends {
+    ($rt:expr; $run:expr, $outcome:expr, $lines:expr, $events:expr) => {
+        let outcome: Result<(), ServeStop> = $outcome;
+        let (lines, events): (&[u8], &[u8]) = ($lines, $events);
+        let ended = match $run {
+            Ok(ended) if ended.is(outcome, lines, events) => ended,
+            _ => $run?,
+        };
+        assert_eq!($rt; ended.outcome, outcome);
+        assert_eq!($rt; ended.lines.as_slice(), lines);
+        assert_eq!($rt; ended.events.as_slice(), events);
+    };
+}
+
+// Serves so many of these connections over a store.
+fn served_over<S: ServerStore + Drop>(
+    alloc: Global,
+    store: S,
+    opened: Opened<'_>,
+    texts: &[&[u8]],
+    turns: u32,
+    level: Level,
+) -> Result<Ended, AllocError> {
+    let mut connections = MemoryConnections::new(alloc, inputs(alloc, texts)?, 512);
+    let mut lines = Vec::new(alloc);
+    let mut events = EventLog::new(level, Vec::new(alloc));
+    let outcome = serve_and_tell(
+        alloc,
+        store,
+        &mut connections,
+        &mut lines,
+        &mut events,
+        &opened,
+        8807,
+        turns,
+    );
+    Ok(Ended {
+        outcome,
+        lines,
+        events: events.writer,
+    })
+}
+
+// A server of six connections of all kinds, over lists.
+fn all_kinds(alloc: Global, level: Level) -> Result<Ended, AllocError> {
+    served_over(alloc, ListStore::new(alloc), NEW, &ALL_KINDS, 6, level)
+}
+
+// A server of as many connections as these, over a device with a plan.
+fn planned(
+    alloc: Global,
+    fault: Fault,
+    at: u64,
+    opened: Opened<'_>,
+    texts: &[&[u8]],
+) -> Result<Ended, AllocError> {
+    let store = FaultyStore::new(alloc, Some(Plan { turns: at, fault }));
+    let turns = texts.len().min(6) as u32;
+    served_over(alloc, store, opened, texts, turns, Level::Usual)
+}
+
+#[test]
+fn each_connection_has_a_line(rt: HostRuntime) -> Result<(), Fail> {
+    let events = b"made db=\"shop.db\"
+answered status=200 request=\"POST /c/office/1 HTTP/1.1\"
+answered status=200 request=\"POST /c/office/1 HTTP/1.1\"
+answered status=409 code=72 name=number-reused request=\"POST /c/office/1 HTTP/1.1\"
+answered status=400 code=400 name=malformed request=\"POST /c/office/01 HTTP/1.1\"
+answered status=409 code=56 name=batch-unknown request=\"GET /batch/B9 HTTP/1.1\"
+broken request=\"GET /batch/B9 HTTP/1.1\"
+closed connections=6
+";
+    let lines = b"listening 127.0.0.1:8807\nserved 6\n";
+    assert_ends!(rt; all_kinds(rt.alloc(), Level::All), Ok(()), lines, events);
+    Ok(())
+}
+
+#[test]
+fn usually_an_accepted_request_has_no_line(rt: HostRuntime) -> Result<(), Fail> {
+    let events = b"made db=\"shop.db\"
+answered status=409 code=72 name=number-reused request=\"POST /c/office/1 HTTP/1.1\"
+answered status=400 code=400 name=malformed request=\"POST /c/office/01 HTTP/1.1\"
+answered status=409 code=56 name=batch-unknown request=\"GET /batch/B9 HTTP/1.1\"
+broken request=\"GET /batch/B9 HTTP/1.1\"
+closed connections=6
+";
+    let lines = b"listening 127.0.0.1:8807\nserved 6\n";
+    assert_ends!(rt; all_kinds(rt.alloc(), Level::Usual), Ok(()), lines, events);
+    Ok(())
+}
+
+#[test]
+fn where_they_are_off_there_is_no_line(rt: HostRuntime) -> Result<(), Fail> {
+    let lines = b"listening 127.0.0.1:8807\nserved 6\n";
+    assert_ends!(rt; all_kinds(rt.alloc(), Level::Off), Ok(()), lines, b"");
+    Ok(())
+}
+
+// Bytes of a peer stand escaped, and 256 of them at most.
+#[test]
+fn a_request_line_is_escaped_and_cut(rt: HostRuntime) -> Result<(), Fail> {
+    let strange = b"GET /\"\\\x80\x1b[2J HTTP/1.1\nHost: x\r\n\r\n";
+    let long = [b'a'; 300];
+    let texts: [&[u8]; 2] = [strange, &long];
+    let mut events = Limited::new(512, 512);
+    events.write_all(
+        b"made db=\"shop.db\"
+answered status=400 code=400 name=malformed request=\"GET /\\x22\\x5C\\x80\\x1B[2J HTTP/1.1\"
+broken request=\"",
+    )?;
+    events.write_all(&long[..256])?;
+    events.write_all(b"\"\nclosed connections=2\n")?;
+    let lines = b"listening 127.0.0.1:8807\nserved 2\n";
+    let run = || {
+        served_over(
+            rt.alloc(),
+            ListStore::new(rt.alloc()),
+            NEW,
+            &texts,
+            2,
+            Level::All,
+        )
+    };
+    assert_ends!(rt; run(), Ok(()), lines, events.taken());
+    Ok(())
+}
+
+// A store that was there: its counts stand in the first line, as far as they can be read.
+#[test]
+fn a_store_that_was_there_is_counted(rt: HostRuntime) -> Result<(), Fail> {
+    let lines = b"listening 127.0.0.1:8807\nserved 0\n";
+    let counted = b"opened db=\"my \\x22shop\\x22.db\" log=taken batches=1 sessions=0 replies=3
+closed connections=0
+";
+    assert_ends!(rt;
+        served_over(rt.alloc(), stocked(rt.alloc())?, FOUND, &[], 0, Level::Usual),
+        Ok(()), lines, counted);
+    let unread = b"opened db=\"my \\x22shop\\x22.db\" log=taken batches=0 replies=0
+closed connections=0
+";
+    let run = || planned(rt.alloc(), Fault::Full, 1, FOUND, &[]);
+    assert_ends!(rt; run(), Ok(()), lines, unread);
+    Ok(())
+}
+
+// Each 503 has the fault of the store. `recovered` comes before the line of the first connection at
+// which it works again.
+#[test]
+fn a_store_that_is_full_and_recovers(rt: HostRuntime) -> Result<(), Fail> {
+    let events = b"made db=\"shop.db\"
+answered status=503 code=503 name=storage fault=full request=\"POST /c/office/1 HTTP/1.1\"
+broken request=\"GET /batch/B9 HTTP/1.1\"
+recovered
+answered status=409 code=56 name=batch-unknown request=\"GET /batch/B9 HTTP/1.1\"
+closed connections=4
+";
+    let lines = b"listening 127.0.0.1:8807\nserved 4\n";
+    let texts: [&[u8]; 4] = [PRODUCT, BROKEN, NO_BATCH, PRODUCT];
+    let run = || planned(rt.alloc(), Fault::Full, 0, NEW, &texts);
+    assert_ends!(rt; run(), Ok(()), lines, events);
+    Ok(())
+}
+
+// A device that failed stays shut, and the store can't be closed: the last line isn't written.
+#[test]
+fn a_store_that_fails_is_not_closed(rt: HostRuntime) -> Result<(), Fail> {
+    let events = b"made db=\"shop.db\"
+answered status=503 code=503 name=storage fault=device request=\"POST /c/m1/1 HTTP/1.1\"
+answered status=503 code=503 name=storage fault=device request=\"POST /c/m1/1 HTTP/1.1\"
+unclosed fault=device
+";
+    let texts: [&[u8]; 2] = [RESET, RESET];
+    let stop = Err(ServeStop::Store {
+        fault: StoreFault::Device,
+    });
+    let run = || planned(rt.alloc(), Fault::Failed, 0, NEW, &texts);
+    assert_ends!(rt; run(), stop, LISTENING, events);
+    let full = Err(ServeStop::Store {
+        fault: StoreFault::Full,
+    });
+    let run = || planned(rt.alloc(), Fault::Full, 0, NEW, &[]);
+    let events = b"made db=\"shop.db\"\nunclosed fault=full\n";
+    assert_ends!(rt; run(), full, LISTENING, events);
+    Ok(())
+}
+
+// Where there is no next connection the store is closed too.
+#[test]
+fn connections_that_are_used_up(rt: HostRuntime) -> Result<(), Fail> {
+    let events = b"made db=\"shop.db\"
+answered status=409 code=56 name=batch-unknown request=\"GET /batch/B9 HTTP/1.1\"
+closed connections=1
+";
+    let run = || {
+        let store = ListStore::new(rt.alloc());
+        served_over(rt.alloc(), store, NEW, &[NO_BATCH], 2, Level::Usual)
+    };
+    assert_ends!(rt; run(), Err(ServeStop::Next), LISTENING, events);
+    Ok(())
+}
+
+// Connections that bring these bytes, and whose replies are taken up to so many bytes.
+#[derive(Drop)]
+struct Cut<'a> {
+    texts: &'a [&'a [u8]],
+    room: usize,
+}
+
+impl<'a> Connections for Cut<'a> {
+    ghost use Rattle.std.specs.Prelude.{None, ⊤};
+
+    type In = Pieces<'a>;
+
+    type Out = Limited;
+
+    ghost queue = { λ _. None };
+
+    ghost awaits = { λ _. ⊤ };
+
+    ghost refuses = { λ _ _. ⊤ };
+
+    fn next(&mut self) -> Result<(Pieces<'a>, Limited), NextFault> {
+        let Some((first, others)) = self.texts.split_first() else {
+            return Err(NextFault::Device);
+        };
+        self.texts = others;
+        Ok((Pieces::new(first, 7), Limited::new(self.room, 5)))
+    }
+
+    fn back(&mut self, _incoming: Pieces<'a>, _writer: Limited, _served: Served) {}
+}
+
+// Serves these, whose replies are taken up to so many bytes, over lists.
+fn cut_at(alloc: Global, texts: &[&[u8]], room: usize) -> Result<Ended, AllocError> {
+    let mut connections = Cut { texts, room };
+    let mut lines = Vec::new(alloc);
+    let mut events = EventLog::new(Level::Usual, Vec::new(alloc));
+    let turns = texts.len().min(6) as u32;
+    let store = ListStore::new(alloc);
+    let outcome = serve_and_tell(
+        alloc,
+        store,
+        &mut connections,
+        &mut lines,
+        &mut events,
+        &NEW,
+        8807,
+        turns,
+    );
+    Ok(Ended {
+        outcome,
+        lines,
+        events: events.writer,
+    })
+}
+
+// A reply that could not be written has its status, whatever was taken of it.
+#[test]
+fn a_reply_that_is_not_taken_is_unsent(rt: HostRuntime) -> Result<(), Fail> {
+    let events = b"made db=\"shop.db\"
+unsent status=200 request=\"POST /c/office/1 HTTP/1.1\"
+unsent status=409 request=\"GET /batch/B9 HTTP/1.1\"
+closed connections=2
+";
+    let lines = b"listening 127.0.0.1:8807\nserved 2\n";
+    for room in [0, 1, 11, 12, 100] {
+        let run = || cut_at(rt.alloc(), &[PRODUCT, NO_BATCH], room);
+        assert_ends!(rt; run(), Ok(()), lines, events);
+    }
+    Ok(())
+}
+
+// What these writers take of a product, up to so many bytes.
+fn cut_lines(alloc: Global, room: usize, event_room: usize) -> Result<Ended, AllocError> {
+    let mut connections = Cut {
+        texts: &[PRODUCT],
+        room: 512,
+    };
+    let mut writer = Limited::new(room, 3);
+    let mut events = EventLog::new(Level::All, Limited::new(event_room, 3));
+    let store = ListStore::new(alloc);
+    let outcome = serve_and_tell(
+        alloc,
+        store,
+        &mut connections,
+        &mut writer,
+        &mut events,
+        &NEW,
+        8807,
+        1,
+    );
+    Ok(Ended {
+        outcome,
+        lines: writer.taken().to_vec(alloc)?,
+        events: events.writer.taken().to_vec(alloc)?,
+    })
+}
+
+const A_PRODUCT: &[u8] = b"made db=\"shop.db\"
+answered status=200 request=\"POST /c/office/1 HTTP/1.1\"
+closed connections=1
+";
+
+// What can't be written of event lines stops nothing.
+#[test]
+fn event_lines_that_fail_stop_nothing(rt: HostRuntime) -> Result<(), Fail> {
+    for room in [0, 10, 60, 512] {
+        let events = A_PRODUCT.get(..room).unwrap_or(A_PRODUCT);
+        let lines = b"listening 127.0.0.1:8807\nserved 1\n";
+        assert_ends!(rt; cut_lines(rt.alloc(), 512, room), Ok(()), lines, events);
+    }
+    Ok(())
+}
+
+// A last line that can't be written whole comes after the close. A first one that can't ends all.
+#[test]
+fn a_line_that_fails_ends_the_server(rt: HostRuntime) -> Result<(), Fail> {
+    let stop = Err(ServeStop::Write);
+    let lines = b"listening 127.0.0.1:8807\nserv";
+    assert_ends!(rt; cut_lines(rt.alloc(), 29, 512), stop, lines, A_PRODUCT);
+    let events = b"made db=\"shop.db\"\nclosed connections=0\n";
+    assert_ends!(rt; cut_lines(rt.alloc(), 9, 512), stop, b"listening", events);
+    Ok(())
+}
