@@ -1,6 +1,6 @@
 -- What joins the program's words to its streams and its file, and the file to its end.
 use Rattle.std.specs.Prelude.{◌≡◌, ◌++◌, ◌∷◌, [], ℕ, List, Option, Some, None, Result, Ok, Err}
-use Rattle.std.specs.Prelude.{codes, string_bytes}
+use Rattle.std.specs.Prelude.{String, codes, string_bytes}
 use Rattle.std.specs.Global.{Global}
 use Rattle.std.specs.declared.env.VarError.{VarError}
 use Rattle.std.specs.declared.env.VarError.TheVariants as variable

@@ -38,11 +38,11 @@ pub fn serve_over_tables<D: Disk + Drop, C: Connections, W: Write, E: Write + Dr
     ensures served { (s : Store (File D D.Disk) over_files) × (es : List Exchange)
         × Moves (C.queue connections.old) (C.queue connections.new) es
         × ServesAll (stands_for over_files store) (stands_for over_files s) es
-        × WritesLines (LeavesWholeFile (connection s)) port turns (length es) (W.contents writer.old)
-        (W.contents writer.new) result
-        × NotesRun (LeavesWholeFile (connection s)) (stands_for over_files store) (stands_for over_files s)
-        (is_some (C.queue connections.old)) opened.now es result events.old.level
-        (E.contents events.old.writer) (E.contents events.new.writer) }
+        × WritesLines (LeavesWholeFile (connection s)) port turns (length es)
+        (W.contents writer.old) (W.contents writer.new) result
+        × NotesRun (LeavesWholeFile (connection s)) (stands_for over_files store)
+        (stands_for over_files s) (is_some (C.queue connections.old)) opened.now es result
+        events.old.level (E.contents events.old.writer) (E.contents events.new.writer) }
     ensures cause { IfErr result (λ stop. stop ≡ ServeStop.Next
         → C.refuses connections.new NextFault.Device) }
 {
