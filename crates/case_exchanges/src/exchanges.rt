@@ -4,10 +4,10 @@ use crate::ways::{
     Exchange, ONE_BY_ONE, StoreKind, WHOLE, are_few, check_same, check_wanted, check_way,
     connected, over, served,
 };
-use case_files::{Case, CaseFault, Line, Repeats, cases, get, post, wanted_of};
 use server::Replied;
 use std::alloc::{AllocError, Global};
 use wire::reply_parts;
+use worked_files::{Case, CaseFault, Line, Repeats, cases, get, post, wanted_of};
 
 /// The asks of a case, as they are read.
 #[derive(Drop)]

@@ -1,11 +1,10 @@
 //! A machine that makes every card of a batch.
 use crate::typed::reply_to;
 use crate::ways::{StoreKind, over};
-use case_files::{CaseFault, check_bytes, post};
-use case_plans::{Printed, put_command, put_name};
 use job_core::{JobStore, Reply};
 use std::alloc::Global;
 use store_data::Product;
+use worked_files::{CaseFault, Printed, check_bytes, post, put_command, put_name};
 
 /// A machine is handed the commands that were printed.
 pub fn check_machine<K: StoreKind>(alloc: Global, printed: &Printed) -> Result<(), CaseFault> {

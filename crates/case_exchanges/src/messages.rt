@@ -4,10 +4,10 @@ use crate::ways::{
     Exchange, ONE_BY_ONE, StoreKind, WHOLE, Way, are_few, check_wanted, check_way, connected,
     inputs, over, served,
 };
-use case_files::{Case, CaseFault, Line, Wanted, check_bytes, put_bytes};
 use job_core::JobStore;
 use server::Replied;
 use std::alloc::{AllocError, Global};
+use worked_files::{Case, CaseFault, Line, Wanted, check_bytes, put_bytes};
 
 const PIECES: Way = Way {
     name: "in pieces of 7 bytes",

@@ -6,7 +6,6 @@ ghost use Rattle.wire.specs.Sending.{IsSendable};
 
 use crate::ways::{Exchange, StoreKind};
 use arrivals::{Kept, body_of, status_of};
-use case_files::{CaseFault, JSON, TEXT, check_bytes, reply_bytes};
 use job_core::{Arrival, Call, JobStore, Refusal, Reply, Request};
 use reply_store::{handle, run};
 use reports::{AccountFault, batch_counts, blank_counts, close_report};
@@ -17,6 +16,7 @@ use text_io::MOST_INPUT;
 use wire::{
     AskFault, Asked, Pieces, Reading, Wanted, parse_reply, read_message, request_text, to_ask,
 };
+use worked_files::{CaseFault, JSON, TEXT, check_bytes, reply_bytes};
 
 /// One more than the greatest serial or session (this project's profile).
 const PAST_NUMBERS: u64 = 1_000_000_000_000_000_000;

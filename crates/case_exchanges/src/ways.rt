@@ -1,8 +1,8 @@
 //! Connections in memory, and what comes out of them.
-use case_files::{CaseFault, NO_STORE, Wanted, check_bytes};
 use job_core::JobStore;
 use server::{End, MemoryConnections, Replied, serve_all};
 use std::alloc::{AllocError, Global};
+use worked_files::{CaseFault, NO_STORE, Wanted, check_bytes};
 
 /// A kind of stores, of which a case may have one for itself.
 pub trait StoreKind {

@@ -15,7 +15,7 @@ use Rattle.drill.specs.Steps.{Did}
 use Rattle.drill.specs.Ends.{EndsAt, IsWritten, Runs, printed, unopened}
 use Rattle.drill.specs.declared.stop.DrillStop.{DrillStop}
 use Rattle.drill.specs.declared.stop.DrillStop.TheVariants as drill
-use Rattle.drill_tables.specs.Drills.{DrillEnds}
+use Rattle.over_tables.specs.Drills.{DrillEnds}
 use Rattle.command_line.specs.Runs.{DrillRuns, PlanRuns}
 use Rattle.command_line.specs.declared.end.End.{End}
 use Rattle.command_line.specs.declared.end.End.TheVariants.{Done, BadLine, WriteFailed}

@@ -10,8 +10,8 @@ use Rattle.reports.specs.declared.fault.AccountFault.{AccountFault}
 use Rattle.reports.specs.declared.fault.AccountFault.TheVariants as account
 use Rattle.server_lines.specs.declared.lines.ServeStop.{ServeStop}
 use Rattle.server_lines.specs.declared.lines.ServeStop.TheVariants as serve
-use Rattle.store_files.specs.declared.fault.FileFault.{FileFault}
-use Rattle.store_files.specs.declared.fault.FileFault.TheVariants as file
+use Rattle.over_tables.specs.declared.fault.FileFault.{FileFault}
+use Rattle.over_tables.specs.declared.fault.FileFault.TheVariants as file
 use Rattle.feeding.specs.declared.engine.FeedStop.{FeedStop}
 use Rattle.feeding.specs.declared.engine.FeedStop.TheVariants as feed
 use Rattle.drill.specs.declared.stop.DrillStop.{DrillStop}

@@ -10,14 +10,14 @@ use Rattle.event_lines.specs.declared.level.Level.TheVariants.{Off, Usual}
 use Rattle.event_lines.specs.Lines.{number_pair, pair, quoted_pair}
 use Rattle.file_causes.specs.Words.{damage_word}
 use Rattle.job_core.specs.declared.store.StoreFault.{StoreFault}
-use Rattle.store_files.specs.Causes.{name_in, word_of}
-use Rattle.store_files.specs.declared.fault.FileFault.{FileFault}
-use Rattle.store_files.specs.declared.fault.FileFault.TheVariants as file
+use Rattle.over_tables.specs.Causes.{name_in, word_of}
+use Rattle.over_tables.specs.declared.fault.FileFault.{FileFault}
+use Rattle.over_tables.specs.declared.fault.FileFault.TheVariants as file
 use Rattle.command_line.specs.Ends.{end_of_store}
 use Rattle.command_line.specs.declared.end.End.{End}
 use Rattle.std.specs.Io.KnownBytes.{Keeps}
-use Rattle.store_files.specs.declared.opening.Wanted.{Wanted}
-use Rattle.store_files.specs.declared.opening.Wanted.TheVariants as wanted
+use Rattle.over_tables.specs.declared.opening.Wanted.{Wanted}
+use Rattle.over_tables.specs.declared.opening.Wanted.TheVariants as wanted
 use Rattle.text_io.specs.Written.{Writes}
 use Rattle.text_io.specs.declared.writing.WriteFailed.{WriteFailed}
 use Rattle.program_words.specs.declared.words.Words.{Words}

@@ -4,7 +4,7 @@ use Rattle.store_data.specs.declared.row.Product.{Product}
 use Rattle.text_io.specs.Inputs.{Tells}
 use Rattle.plan_print.specs.PlanEnds.{PlanEnds}
 use Rattle.plan_print.specs.declared.plan.PlanStop.{PlanStop}
-use Rattle.drill_tables.specs.Drills.{DrillEnds}
+use Rattle.over_tables.specs.Drills.{DrillEnds}
 use Rattle.drill.specs.declared.stop.DrillStop.{DrillStop}
 use Rattle.feeding.specs.Feeds.{at_first}
 use Rattle.event_lines.specs.declared.log.EventLog.{EventLog}

@@ -14,7 +14,7 @@ use reports::AccountFault;
 use server_lines::ServeStop;
 use std::error::Error;
 use std::fmt;
-use store_files::FileFault;
+use over_tables::FileFault;
 
 /// What a run came to.
 #[derive(Clone, Copy, Debug, PartialEq, Eq)]

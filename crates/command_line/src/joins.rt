@@ -12,7 +12,7 @@ use program_words::{Words, WordsFault};
 use std::alloc::{AllocError, Global};
 use std::env::VarError;
 use std::io::Write;
-use store_files::{FileFault, Wanted};
+use over_tables::{FileFault, Wanted};
 use text_io::{WriteFailed, write_text};
 
 /// Which event lines are written, by what the environment's variable is found to be. A value that

@@ -10,7 +10,7 @@ ghost use Rattle.command_line.specs.declared.end.End.TheVariants.{WriteFailed};
 
 use crate::end::End;
 use drill::DrillStop;
-use drill_tables::drill_engine;
+use over_tables::drill_engine;
 use event_lines::EventLog;
 use feeding::{Exchange, feed_with_events};
 use plan_print::plan_engine;

@@ -1,3 +1,4 @@
+pub mod Asking
 pub mod Drains
 pub mod Faults
 pub mod Starts

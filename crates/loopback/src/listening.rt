@@ -38,7 +38,7 @@ impl<'a, R: Net + Clock> Loopback<'a, R> {
 
     // Takes the next connection, as its two ends.
     fn take(&self) -> io::Result<(PeerReader<'a, R>, PeerWriter<'a, R>)>
-        ensures { IfOk result (λ ends. ends.1.begun ≡ None) }
+        ensures { IfOk result (λ ends. ends.1.stream.begun ≡ None) }
     {
         let (stream, _) = self.listener.accept()?;
         let begun = Instant::now(self.rt)?;

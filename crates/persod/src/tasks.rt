@@ -3,14 +3,13 @@ ghost use Rattle.program_words.specs.Words.{IsBoot};
 
 use command_line::{End, end_of_close, run_feed};
 use event_lines::{EventLog, Level};
-use exchanges::Port;
-use loopback::Loopback;
+use loopback::{Loopback, Port};
 use program_words::FeedStart;
 use reopening::ServerStore;
 use reports::close_report;
 use schema::SqlStore;
 use server_lines::Opened;
-use serving::serve_over_tables;
+use over_tables::serve_over_tables;
 use sqlite::FileStore;
 use sqlite_disk::Disk;
 use std::io::{self, Write};

@@ -1,8 +1,8 @@
 //! Messages to a port, as a feed sends them: where to, for how long, what is taken for a reply, and
 //! how long it waits before the same comes again.
 use crate::fake::{Fake, Floor, Step, local, millis};
-use exchanges::Port;
 use feeding::Exchange;
+use loopback::Port;
 use std::io::ErrorKind;
 use std::test::Fail;
 use std::time::Duration;

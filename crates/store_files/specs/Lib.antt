@@ -1,4 +1,1 @@
-pub mod Causes
-pub mod Faults
-pub mod Opens
-pub mod Refusals
+pub mod Unopened

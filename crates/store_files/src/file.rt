@@ -1,8 +1,7 @@
 //! The store in the file at a path.
-use crate::fault::{FileFault, absent, unopened};
-use crate::opening::{Wanted, begins};
 use crate::place::{has_log, place_of};
-use crate::refusing::store_or_cause;
+use crate::unopened::{absent, unopened};
+use over_tables::{FileFault, Wanted, begins, store_over};
 use schema::SqlStore;
 use sqlite::{Connection, FileStore};
 use sqlite_disk::{Disk, Start};
@@ -47,7 +46,7 @@ pub fn with_store<T: StoreTask + Drop, S: Start>(
         }
     };
     let is_new = begins(&conn, wanted);
-    match store_or_cause(rt.alloc(), conn, wanted) {
+    match store_over(rt.alloc(), conn, wanted) {
         Ok(store) => Ok(task.perform(store, Found { is_new, has_log })),
         Err((_, fault)) => Err(fault),
     }

@@ -1,16 +1,10 @@
-//! The store in a file: opened, used once, and why it is not taken.
+//! The store in a file: what the file system says of its path, opened, and used once.
 #![tactic(auto)]
 
-mod cause;
-mod fault;
 mod file;
-mod opening;
 mod place;
-mod refusing;
+mod unopened;
 
-pub use cause::Cause;
-pub use fault::{FileFault, unopened};
 pub use file::{Found, StoreTask, with_store};
-pub use opening::{Wanted, store_over};
 pub use place::{Place, place_of};
-pub use refusing::store_or_cause;
+pub use unopened::unopened;

@@ -6,7 +6,8 @@ use std::alloc::AllocError;
 use std::io::{self, Write};
 use std::test::Fail;
 use std::{env, fs, process};
-use store_files::{Cause, FileFault, Found, Place, StoreTask, Wanted, place_of, with_store};
+use over_tables::{Cause, FileFault, Wanted};
+use store_files::{Found, Place, StoreTask, place_of, with_store};
 
 // Closes the store, and says how its file was found.
 #[derive(Drop)]

@@ -9,7 +9,7 @@ use sqlite::{Alter, Connection};
 use std::alloc::{AllocError, Global};
 use std::process::Abort;
 use std::test::Fail;
-use store_files::{FileFault, Wanted, store_or_cause};
+use over_tables::{FileFault, Wanted, store_over};
 
 // What is changed, the statements that change it, and why the database is refused then: the refusal,
 // its cause, and the name of what differs.
@@ -242,7 +242,7 @@ fn check_refused<S: Alter + Drop>(
     if !conn.is_autocommit() {
         return Err(Fail::new("a transaction is open"));
     }
-    match store_or_cause(alloc, conn, Wanted::Ours) {
+    match store_over(alloc, conn, Wanted::Ours) {
         Ok(_) => Err(Fail::new(format_args!("{name} is taken"))),
         Err((mut conn, fault)) => {
             assert_eq!(rt;
@@ -275,7 +275,7 @@ fn a_database_without_damage_is_taken(rt: HostRuntime) -> Result<(), Fail> {
 #[test]
 fn an_empty_database_is_not_ours(rt: HostRuntime) -> Result<(), Fail> {
     let conn = Connection::open_in_memory(rt.alloc())?;
-    match store_or_cause(rt.alloc(), conn, Wanted::Ours) {
+    match store_over(rt.alloc(), conn, Wanted::Ours) {
         Ok(_) => Err(Fail::new("it is taken")),
         Err((_, fault)) => {
             assert_eq!(rt;

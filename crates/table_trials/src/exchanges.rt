@@ -5,13 +5,13 @@ ghost use Rattle.asks.specs.Asks.{IsInRange};
 
 use arrivals::Kept;
 use asks::{AskFault, Asked, to_ask};
-use case_files::{JSON, post, reply_bytes};
 use heads::{FixedReply, Pieces, Reading, read_message};
 use job_core::{Arrival, JobStore, StoreFault};
 use reply_store::handle;
 use std::alloc::{AllocError, Global};
 use std::process::Abort;
 use std::test::Fail;
+use worked_files::{JSON, post, reply_bytes};
 
 /// The target of a message, its body, and the status and the body that are told.
 #[derive(Clone, Copy)]

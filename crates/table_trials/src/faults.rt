@@ -4,13 +4,13 @@
 //! these, a story, and the accounts.
 use crate::exchanges::at_last;
 use crate::stories::{CLOSING, LATE, MADE_AGAIN, RELEASE, SET_UP, Story, WITHDRAWAL};
-use case_files::{JSON, get, reply_bytes};
 use faulty_store::{Device, Fault, FaultyStore, Plan};
 use job_core::JobStore;
 use server::{End, MemoryConnections, NextFault, Replied, serve_all};
 use std::alloc::{AllocError, Global};
 use std::process::Abort;
 use std::test::Fail;
+use worked_files::{JSON, get, reply_bytes};
 
 // What is told where the store failed, or memory was refused.
 const UNAVAILABLE: &[u8] =

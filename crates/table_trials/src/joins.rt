@@ -11,7 +11,7 @@ use std::alloc::{AllocError, Global};
 use std::env::VarError;
 use std::process::Abort;
 use std::test::Fail;
-use store_files::{Cause, FileFault, Wanted};
+use over_tables::{Cause, FileFault, Wanted};
 
 // What words that give no subcommand print into two pages, and how much of each is used.
 fn explained(

@@ -1,7 +1,6 @@
 //! Runs of the program, from its words to its exit.
 use crate::ends::check_exit;
 use crate::exchanges::at_last;
-use case_files::{JSON, reply_bytes};
 use command_line::{End, run, run_feed, told_end};
 use event_lines::{EventLog, Level};
 use feeding::Exchange;
@@ -10,6 +9,7 @@ use std::alloc::{AllocError, Global};
 use std::io::{self, BufWriter, Cursor, ErrorKind, Write};
 use std::process::Abort;
 use std::test::Fail;
+use worked_files::{JSON, reply_bytes};
 
 /// Takes all, and fails to flush.
 #[derive(Drop)]

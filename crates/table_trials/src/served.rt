@@ -8,7 +8,7 @@ use reports::{AccountFault, close_report};
 use schema::SqlStore;
 use server::serve_all;
 use server_lines::{Opened, ServeStop};
-use serving::serve_over_tables;
+use over_tables::{FileFault, Wanted, serve_over_tables};
 use sqlite::FileStore;
 use sqlite_disk::{Disk, Unknown};
 use std::alloc::{AllocError, Global};
@@ -18,7 +18,7 @@ use std::process::{self, Abort};
 use std::test::Fail;
 use std::{env, fs};
 use store_data::Name;
-use store_files::{FileFault, Found, StoreTask, Wanted, with_store};
+use store_files::{Found, StoreTask, with_store};
 
 // The first message, a product, byte for byte.
 const PRODUCT: &[u8] =

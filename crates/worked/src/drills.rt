@@ -1,9 +1,9 @@
 //! Scripts of drills, and what is printed.
 use case_exchanges::Scripted;
-use case_files::{Case, CaseFault, Line, check_bytes};
 use drill::{DrillStop, drill_over_lists};
-use drill_tables::drill_engine;
+use over_tables::drill_engine;
 use std::alloc::{AllocError, Global};
+use worked_files::{Case, CaseFault, Line, check_bytes};
 
 /// A script prints what it must, over tables.
 pub fn check_script(alloc: Global, case: &Case) -> Result<(), CaseFault> {

@@ -1,10 +1,10 @@
 //! Feeds: cards, and what is printed of them.
-use case_files::{Case, CaseFault, Line, check_bytes, post};
 use feeding::{Exchange, FeedStop, feed_engine};
 use list_store::ListStore;
 use server::{MemoryReader, serve_one};
 use std::alloc::{AllocError, Global};
 use store_data::Name;
+use worked_files::{Case, CaseFault, Line, check_bytes, post};
 
 /// What comes before a feed for `set-up`.
 const SET_UP: [&str; 3] = [

@@ -6,14 +6,13 @@ mod feeds;
 mod stores;
 
 use case_exchanges::{check_exchanges, check_machine, check_messages};
-use case_files::{Case, CaseFault, Repeats, cases};
-use case_plans::{Table, check_plan, check_table};
 use drills::{check_script, check_scripted};
 use feeds::check_feed;
 use std::alloc::Global;
 use std::process::ExitCode;
 use std::{env, fs, io};
 use stores::{Lists, ListsBehindDevice, Tables};
+use worked_files::{Case, CaseFault, Repeats, Table, cases, check_plan, check_table};
 
 const USAGE: &str =
     "usage: worked FILE.. (.plan, .exchange, .message, .drill, .feed, .grouping, .record, .word)";

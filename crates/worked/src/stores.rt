@@ -1,11 +1,11 @@
 //! The kinds of stores that the cases are gone over.
 use case_exchanges::StoreKind;
-use case_files::CaseFault;
 use faulty_store::FaultyStore;
 use list_store::ListStore;
 use schema::SqlStore;
 use sqlite::{Connection, MemStore};
 use std::alloc::Global;
+use worked_files::CaseFault;
 
 /// Plain lists.
 pub struct Lists;

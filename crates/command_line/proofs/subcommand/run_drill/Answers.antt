@@ -1,6 +1,6 @@
 use Rattle.std.proofs.Common.{rules, ◌≡◌, Err, subst}
 use Rattle.std.specs.Io.Buffered.{writer_buffer, writer_contents}
-use Rattle.drill_tables.specs.Drills.{DrillEnds}
+use Rattle.over_tables.specs.Drills.{DrillEnds}
 use Rattle.drill.specs.declared.stop.DrillStop.TheVariants.{BadLine}
 use Rattle.command_line.proofs.FlushLemmas.{bad_line_flushed, drill_flushed}
 use Rattle.command_line.proofs.subcommand.run_drill.Goals as goal

@@ -1,0 +1,128 @@
+//! A connection's stream, whose reads and writes end in time.
+ghost use Rattle.std.specs.Prelude.{◌≡◌, ◌≢◌, IfErr, IfSome};
+ghost use Rattle.std.specs.Io.{ReadsAtMost, WritesAtMost};
+ghost use Rattle.std.specs.IoError.{error_kind};
+
+use crate::clock::{Side, wait_at};
+use std::io::{self, ErrorKind, Read, Write};
+use std::net::{Net, OpenStream, Shutdown};
+use std::time::{Clock, Duration, Instant};
+
+/// A connection's stream at one side, and when what goes over it was begun: if not yet, then at the
+/// first read or write. A read or a write fails that waits for longer than one may there, or that
+/// would end later than the whole may.
+#[derive(Drop)]
+pub(crate) struct TimedStream<'a, R: Net + Clock> {
+    rt: &'a R,
+    stream: R::Stream,
+    side: Side,
+    begun: Option<Instant>,
+}
+
+impl<'a, R: Net + Clock> TimedStream<'a, R> {
+    pub(crate) fn new(
+        rt: &'a R,
+        stream: R::Stream,
+        side: Side,
+        begun: Option<Instant>,
+    ) -> TimedStream<'a, R>
+        ensures side { result.side ≡ side }
+        ensures begun { result.begun ≡ begun }
+    {
+        TimedStream {
+            rt,
+            stream,
+            side,
+            begun,
+        }
+    }
+
+    /// Shows the peer that nothing more comes.
+    pub(crate) fn end(&self) {
+        let _ = self.stream.shutdown(Shutdown::Write);
+    }
+
+    // How long a read or a write waits that begins now.
+    fn wait(&mut self) -> io::Result<Duration>
+        ensures begun { IfSome self.old.begun (λ begun. self.new.begun ≡ Some begun) }
+        ensures side { self.new.side ≡ self.old.side }
+    {
+        let now = Instant::now(self.rt)?;
+        let begun = match self.begun {
+            Some(begun) => begun,
+            None => now,
+        };
+        self.begun = Some(begun);
+        wait_at(self.side, begun, now)
+    }
+
+    // Reads once.
+    fn read_once(&mut self, buf: &mut [u8]) -> io::Result<usize>
+        ensures count { ReadsAtMost result buf.new }
+        ensures begun { IfSome self.old.begun (λ begun. self.new.begun ≡ Some begun) }
+        ensures side { self.new.side ≡ self.old.side }
+    {
+        let wait = self.wait()?;
+        self.stream.set_read_timeout(Some(wait))?;
+        self.stream.read(buf)
+    }
+
+    /// Reads, and again where a signal interrupts it.
+    pub(crate) fn read_in_time(&mut self, buf: &mut [u8]) -> io::Result<usize>
+        ensures count { ReadsAtMost result buf.new }
+        ensures begun { IfSome self.old.begun (λ begun. self.new.begun ≡ Some begun) }
+        ensures side { self.new.side ≡ self.old.side }
+        ensures retried { IfErr result (λ error. error_kind error ≢ ErrorKind.Interrupted) }
+    {
+        for _ in 0..u64::MAX {
+            match self.read_once(buf) {
+                Err(error) if error.kind() == ErrorKind::Interrupted => {}
+                read => return read,
+            }
+        }
+        Err(ErrorKind::TimedOut.into())
+    }
+
+    // Writes once.
+    fn write_once(&mut self, buf: &[u8]) -> io::Result<usize>
+        ensures count { WritesAtMost result buf.now }
+        ensures begun { IfSome self.old.begun (λ begun. self.new.begun ≡ Some begun) }
+        ensures side { self.new.side ≡ self.old.side }
+    {
+        let wait = self.wait()?;
+        self.stream.set_write_timeout(Some(wait))?;
+        self.stream.write(buf)
+    }
+
+    /// Writes, and again where a signal interrupts it.
+    pub(crate) fn write_in_time(&mut self, buf: &[u8]) -> io::Result<usize>
+        ensures count { WritesAtMost result buf.now }
+        ensures begun { IfSome self.old.begun (λ begun. self.new.begun ≡ Some begun) }
+        ensures side { self.new.side ≡ self.old.side }
+        ensures retried { IfErr result (λ error. error_kind error ≢ ErrorKind.Interrupted) }
+    {
+        for _ in 0..u64::MAX {
+            match self.write_once(buf) {
+                Err(error) if error.kind() == ErrorKind::Interrupted => {}
+                written => return written,
+            }
+        }
+        Err(ErrorKind::TimedOut.into())
+    }
+}
+
+impl<R: Net + Clock> Read for TimedStream<'_, R> {
+    fn read(&mut self, buf: &mut [u8]) -> io::Result<usize> {
+        self.read_in_time(buf)
+    }
+}
+
+impl<R: Net + Clock> Write for TimedStream<'_, R> {
+    fn write(&mut self, buf: &[u8]) -> io::Result<usize> {
+        self.write_in_time(buf)
+    }
+
+    fn flush(&mut self) -> io::Result<()> {
+        self.stream.flush()
+    }
+}

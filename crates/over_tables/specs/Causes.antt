@@ -1,0 +1,24 @@
+-- The words by which people read why a file is not ours (this project's profile).
+use Rattle.std.specs.Prelude.{ℕ, List, codes, Option, None}
+use Rattle.file_causes.specs.Words as tables
+use Rattle.over_tables.specs.declared.cause.Cause.{Cause}
+use Rattle.over_tables.specs.declared.cause.Cause.TheVariants.{NoFile, NoFolder, Folder, Special, NoRight, Journal, InUse, NotSqlite, Invalid, Corrupt, CannotOpen, Tables}
+
+abbrev pub word_of : Cause → List ℕ
+word_of NoFile = codes "no-file"
+word_of NoFolder = codes "no-folder"
+word_of Folder = codes "folder"
+word_of Special = codes "special-file"
+word_of NoRight = codes "no-right"
+word_of Journal = codes "journal"
+word_of InUse = codes "in-use"
+word_of NotSqlite = codes "not-sqlite"
+word_of Invalid = codes "invalid-database"
+word_of Corrupt = codes "corrupt"
+word_of CannotOpen = codes "cannot-open"
+word_of (Tables difference) = tables.word_of difference
+
+-- the name of the table, the index or the view that differs
+abbrev pub name_in : Cause → Option (List ℕ)
+name_in (Tables difference) = tables.name_in difference
+name_in _ = None

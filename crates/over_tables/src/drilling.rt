@@ -1,0 +1,41 @@
+//! A drill over the tables of a database in memory: the engine of `persod drill`.
+ghost use Rattle.std.specs.Prelude.{IfOk};
+ghost use Rattle.sqlite.specs.Steps.{over_memory};
+ghost use Rattle.job_core.specs.Contents.{no_contents};
+ghost use Rattle.job_core.specs.Store.{IsHonest};
+ghost use Rattle.schema.specs.Stores.{stands_for};
+ghost use Rattle.over_tables.specs.Drills.{DrillEnds};
+
+use drill::{DrillStop, drill_over};
+use job_core::StoreFault;
+use schema::{OpenFault, SqlStore};
+use sqlite::{Connection, MemStore};
+use std::alloc::Global;
+use std::io::{Read, Write};
+
+/// Does the lines of a script over tables in memory that begin empty, as `drill_over` does.
+pub fn drill_engine<R: Read, W: Write>(
+    alloc: Global,
+    reader: &mut R,
+    writer: &mut W,
+) -> Result<(), DrillStop>
+    ensures { DrillEnds (R.remaining reader.old) (W.contents writer.old) (W.contents writer.new)
+        result }
+{
+    drill_over(alloc, begun(alloc)?, reader, writer)
+}
+
+// A store without facts.
+fn begun(alloc: Global) -> Result<SqlStore<MemStore>, StoreFault>
+    ensures { IfOk result (λ store. IsHonest (stands_for over_memory store)
+        → (stands_for over_memory store).holds no_contents) }
+{
+    let Ok(conn) = Connection::open_in_memory(alloc) else {
+        return Err(StoreFault::Memory);
+    };
+    match SqlStore::create(alloc, conn) {
+        Ok(store) => Ok(store),
+        Err((_, OpenFault::Store { fault })) => Err(fault),
+        Err((_, OpenFault::NotOurs | OpenFault::Damaged)) => Err(StoreFault::Device),
+    }
+}

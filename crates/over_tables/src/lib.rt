@@ -1,0 +1,16 @@
+//! What runs over the tables of a database: its store is opened, or why it is refused is found; a
+//! server, over those of a file, and a drill, over those in memory.
+#![tactic(auto)]
+
+mod cause;
+mod drilling;
+mod fault;
+mod opening;
+mod refusing;
+mod serving;
+
+pub use cause::Cause;
+pub use drilling::drill_engine;
+pub use fault::FileFault;
+pub use opening::{Wanted, begins, store_over};
+pub use over_tables::serve_over_tables;

@@ -1,0 +1,57 @@
+//! A server over the tables of a file: the headline over SQLite.
+ghost use Rattle.std.specs.Prelude.{◌≡◌, IfErr, List, is_some, length};
+ghost use Rattle.sqlite.specs.Files.{over_files};
+ghost use Rattle.sqlite.specs.declared.FileStore.{FileStore as File};
+ghost use Rattle.schema.specs.declared.store.SqlStore.{SqlStore as Store};
+ghost use Rattle.schema.specs.Closing.{LeavesWholeFile};
+ghost use Rattle.schema.specs.Stores.{connection, stands_for};
+ghost use Rattle.server.specs.Exchanges.{Exchange, Moves, ServesAll};
+ghost use Rattle.server_lines.specs.Runs.{NotesRun};
+ghost use Rattle.server_lines.specs.ServerLines.{WritesLines};
+
+use event_lines::EventLog;
+use schema::SqlStore;
+use server::{Connections, NextFault};
+use server_lines::{Opened, ServeStop, serve_and_tell};
+use sqlite::FileStore;
+use sqlite_disk::Disk;
+use std::alloc::Global;
+use std::io::Write;
+
+/// Writes the port that it listens on, serves so many connections, one after the other, over the
+/// tables of a file, closes the file, and writes how many they were: at that line the file is whole
+/// without its write-ahead log. Beside these two lines it writes event lines. Errors: a line can't
+/// be written, memory is refused, there is no next connection, or the file can't be closed; what
+/// was served stands.
+pub fn serve_over_tables<D: Disk + Drop, C: Connections, W: Write, E: Write + Drop>(
+    alloc: Global,
+    store: SqlStore<FileStore<D>>,
+    connections: &mut C,
+    writer: &mut W,
+    events: &mut EventLog<E>,
+    opened: &Opened<'_>,
+    port: u16,
+    turns: u32,
+) -> Result<(), ServeStop>
+    ensures served { (s : Store (File D D.Disk) over_files) × (es : List Exchange)
+        × Moves (C.queue connections.old) (C.queue connections.new) es
+        × ServesAll (stands_for over_files store) (stands_for over_files s) es
+        × WritesLines (LeavesWholeFile (connection s)) port turns (length es)
+        (W.contents writer.old) (W.contents writer.new) result
+        × NotesRun (LeavesWholeFile (connection s)) (stands_for over_files store)
+        (stands_for over_files s) (is_some (C.queue connections.old)) opened.now es result
+        events.old.level (E.contents events.old.writer) (E.contents events.new.writer) }
+    ensures cause { IfErr result (λ stop. stop ≡ ServeStop.Next
+        → C.refuses connections.new NextFault.Device) }
+{
+    serve_and_tell(
+        alloc,
+        store,
+        connections,
+        writer,
+        events,
+        opened,
+        port,
+        turns,
+    )
+}

@@ -1,0 +1,19 @@
+//! Files of worked examples: their cases, the short forms in their lines, the bytes of messages and
+//! replies; and what no store is needed for: batches and their commands or refusals, and tables.
+#![tactic(auto)]
+
+mod fault;
+mod message;
+mod plans;
+mod reply;
+mod tables;
+mod text;
+mod walks;
+
+pub use fault::{CaseFault, NO_STORE, check_bytes};
+pub use message::{get, post};
+pub use plans::{Printed, check_plan};
+pub use reply::{JSON, TEXT, Wanted, reply_bytes, wanted_of};
+pub use tables::{Table, check_table};
+pub use text::{Case, Line, Repeats, cases, put_bytes};
+pub use walks::{put_command, put_name};
