@@ -13,4 +13,4 @@ pub use cause::Cause;
 pub use drilling::drill_engine;
 pub use fault::FileFault;
 pub use opening::{Wanted, begins, store_over};
-pub use over_tables::serve_over_tables;
+pub use serving::serve_over_tables;
