@@ -6,6 +6,7 @@ ghost use Rattle.command_line.specs.Joins.{Explains, end_of_close, level_by, ref
 ghost use Rattle.command_line.specs.Joins.{refusal_lines, table_pair, wanted_of};
 
 use crate::end::End;
+use connection_lines::note_line;
 use event_lines::{EventLine, EventLog, Level, level_of};
 use job_core::StoreFault;
 use program_words::{Words, WordsFault};
@@ -83,10 +84,11 @@ pub fn note_refusal<E: Write + Drop>(
 {
     match fault {
         FileFault::NotOurs { cause } => {
-            events.note(refusal_line(alloc, 81, cause.word(), cause.name(), path));
+            let line = refusal_line(alloc, 81, cause.word(), cause.name(), path);
+            note_line(events, line);
         }
         FileFault::Damaged { cause } => {
-            events.note(refusal_line(alloc, 82, cause.word(), None, path));
+            note_line(events, refusal_line(alloc, 82, cause.word(), None, path));
         }
         FileFault::Storage | FileFault::Memory => (),
     }

@@ -1,7 +1,7 @@
 -- What the first bytes of a request and of a reply say (this project's profile).
 use Rattle.std.specs.Prelude.{ℕ, ◌==◌, ◌||◌, Bool, not, List, drop, take, length, bytes_eq, codes, if◌then◌else◌, Option, Some, None, option_map}
 use Rattle.std.specs.List.{take_while}
-use Rattle.std.specs.Option.{option_and_then}
+use Rattle.std.specs.Option.{option_and_then, option_map_or}
 use Rattle.std.specs.Char.{is_ascii_digit, is_ascii_lowercase}
 use Rattle.heads.specs.ReplyParts.{status_in}
 
@@ -37,10 +37,18 @@ behind text bytes = if bytes_eq (take (length text) bytes) text then Some (drop 
 abbrev pub RefusalWords : Type 0
 RefusalWords = List ℕ × List ℕ
 
+-- what follows a number
+abbrev pub past_digits : List ℕ → List ℕ
+past_digits text = drop (length (digits_in text)) text
+
+-- what follows the client's mark, which a refused number that was released has before the name
+abbrev pub past_mark : List ℕ → List ℕ
+past_mark text = option_map_or past_digits (behind (codes ",\"mark\":") text) text
+
 -- by what follows `{"code":`
 abbrev pub refusal_after : List ℕ → Option RefusalWords
 refusal_after rest =
-    option_map (λ (name : List ℕ). (digits_in rest, word_in name)) (behind (codes ",\"refused\":\"") (drop (length (digits_in rest)) rest))
+    option_map (λ (name : List ℕ). (digits_in rest, word_in name)) (behind (codes ",\"refused\":\"") (past_mark (past_digits rest)))
 
 -- by the front of a body
 abbrev pub refusal_in : List ℕ → Option RefusalWords

@@ -3,7 +3,8 @@ ghost use Rattle.std.specs.Prelude.{◌≡◌, ◌≤◌, length, not, option_ma
 ghost use Rattle.std.specs.Char.{is_ascii_digit};
 ghost use Rattle.std.specs.List.{prefix_len};
 ghost use Rattle.connection_lines.specs.Words.{behind, digits_in, is_line_end, is_word_byte};
-ghost use Rattle.connection_lines.specs.Words.{refusal_in, request_line, status_digits, word_in};
+ghost use Rattle.connection_lines.specs.Words.{past_mark, refusal_in, request_line, status_digits};
+ghost use Rattle.connection_lines.specs.Words.{word_in};
 
 use heads::reply_parts;
 use std::str::from_utf8;
@@ -43,8 +44,18 @@ pub fn refusal_in(body: &[u8]) -> Option<(&str, &str)>
 {
     let rest = body.strip_prefix(b"{\"code\":")?;
     let code = digits_in(rest);
-    let name = rest[code.len()..].strip_prefix(b",\"refused\":\"")?;
+    let name = past_mark(&rest[code.len()..]).strip_prefix(b",\"refused\":\"")?;
     Some((code, word_in(name)))
+}
+
+// What follows the client's mark, which a refused number that was released has before the name.
+fn past_mark(text: &[u8]) -> &[u8]
+    ensures { result.now ≡ past_mark text.now }
+{
+    match text.strip_prefix(b",\"mark\":") {
+        Some(mark) => &mark[digits_len(mark)..],
+        None => text,
+    }
 }
 
 // The digits at the front.

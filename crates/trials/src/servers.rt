@@ -1,6 +1,7 @@
 //! A server over lists: the lines of standard output, and its event lines.
 use crate::exchanges::{inputs, stocked};
 use crate::failing_writers::Limited;
+use connection_lines::refusal_in;
 use event_lines::{EventLog, Level};
 use faulty_store::{Fault, FaultyStore, Plan};
 use job_core::StoreFault;
@@ -10,6 +11,7 @@ use server::{Connections, MemoryConnections, NextFault, Served};
 use server_lines::{Opened, ServeStop, serve_and_tell};
 use std::alloc::{AllocError, Global};
 use std::io::Write;
+use std::process::Abort;
 use std::test::Fail;
 use wire::Pieces;
 
@@ -137,6 +139,34 @@ closed connections=6
 ";
     let lines = b"listening 127.0.0.1:8807\nserved 6\n";
     assert_ends!(rt; all_kinds(rt.alloc(), Level::All), Ok(()), lines, events);
+    Ok(())
+}
+
+// The bodies of refusals have four forms.
+#[test]
+fn each_refusal_has_its_code_and_its_name(rt: HostRuntime) -> Result<(), Fail> {
+    let bodies: [(&[u8], Option<(&str, &str)>); 5] = [
+        (
+            b"{\"code\":56,\"refused\":\"batch-unknown\"}",
+            Some(("56", "batch-unknown")),
+        ),
+        (
+            b"{\"code\":36,\"refused\":\"grouping\",\"row\":2}",
+            Some(("36", "grouping")),
+        ),
+        (
+            b"{\"code\":61,\"refused\":\"machine-busy\",\"session\":1}",
+            Some(("61", "machine-busy")),
+        ),
+        (
+            b"{\"code\":73,\"mark\":69999999,\"refused\":\"number-released\"}",
+            Some(("73", "number-released")),
+        ),
+        (b"{\"product\":\"P1\",\"result\":\"created\"}", None),
+    ];
+    for (body, words) in bodies {
+        assert_eq!(rt; refusal_in(body), words);
+    }
     Ok(())
 }
 
@@ -268,6 +298,7 @@ closed connections=1
 #[derive(Drop)]
 struct Cut<'a> {
     texts: &'a [&'a [u8]],
+    taken: usize,
     room: usize,
 }
 
@@ -285,11 +316,11 @@ impl<'a> Connections for Cut<'a> {
     ghost refuses = { λ _ _. ⊤ };
 
     fn next(&mut self) -> Result<(Pieces<'a>, Limited), NextFault> {
-        let Some((first, others)) = self.texts.split_first() else {
+        let Some(text) = self.texts.get(self.taken) else {
             return Err(NextFault::Device);
         };
-        self.texts = others;
-        Ok((Pieces::new(first, 7), Limited::new(self.room, 5)))
+        self.taken = self.taken.saturating_add(1);
+        Ok((Pieces::new(text, 7), Limited::new(self.room, 5)))
     }
 
     fn back(&mut self, _incoming: Pieces<'a>, _writer: Limited, _served: Served) {}
@@ -297,7 +328,11 @@ impl<'a> Connections for Cut<'a> {
 
 // Serves these, whose replies are taken up to so many bytes, over lists.
 fn cut_at(alloc: Global, texts: &[&[u8]], room: usize) -> Result<Ended, AllocError> {
-    let mut connections = Cut { texts, room };
+    let mut connections = Cut {
+        texts,
+        taken: 0,
+        room,
+    };
     let mut lines = Vec::new(alloc);
     let mut events = EventLog::new(Level::Usual, Vec::new(alloc));
     let turns = texts.len().min(6) as u32;
@@ -319,18 +354,23 @@ fn cut_at(alloc: Global, texts: &[&[u8]], room: usize) -> Result<Ended, AllocErr
     })
 }
 
-// A reply that could not be written has its status, whatever was taken of it.
-#[test]
-fn a_reply_that_is_not_taken_is_unsent(rt: HostRuntime) -> Result<(), Fail> {
+fn check_unsent(rt: &impl Abort, alloc: Global, room: usize) -> Result<(), Fail> {
     let events = b"made db=\"shop.db\"
 unsent status=200 request=\"POST /c/office/1 HTTP/1.1\"
 unsent status=409 request=\"GET /batch/B9 HTTP/1.1\"
 closed connections=2
 ";
     let lines = b"listening 127.0.0.1:8807\nserved 2\n";
+    let run = || cut_at(alloc, &[PRODUCT, NO_BATCH], room);
+    assert_ends!(rt; run(), Ok(()), lines, events);
+    Ok(())
+}
+
+// A reply that could not be written has its status, whatever was taken of it.
+#[test]
+fn a_reply_that_is_not_taken_is_unsent(rt: HostRuntime) -> Result<(), Fail> {
     for room in [0, 1, 11, 12, 100] {
-        let run = || cut_at(rt.alloc(), &[PRODUCT, NO_BATCH], room);
-        assert_ends!(rt; run(), Ok(()), lines, events);
+        check_unsent(&rt, rt.alloc(), room)?;
     }
     Ok(())
 }
@@ -339,6 +379,7 @@ closed connections=2
 fn cut_lines(alloc: Global, room: usize, event_room: usize) -> Result<Ended, AllocError> {
     let mut connections = Cut {
         texts: &[PRODUCT],
+        taken: 0,
         room: 512,
     };
     let mut writer = Limited::new(room, 3);
@@ -366,13 +407,18 @@ answered status=200 request=\"POST /c/office/1 HTTP/1.1\"
 closed connections=1
 ";
 
+fn check_event_room(rt: &impl Abort, alloc: Global, room: usize) -> Result<(), Fail> {
+    let events = A_PRODUCT.get(..room).unwrap_or(A_PRODUCT);
+    let lines = b"listening 127.0.0.1:8807\nserved 1\n";
+    assert_ends!(rt; cut_lines(alloc, 512, room), Ok(()), lines, events);
+    Ok(())
+}
+
 // What can't be written of event lines stops nothing.
 #[test]
 fn event_lines_that_fail_stop_nothing(rt: HostRuntime) -> Result<(), Fail> {
     for room in [0, 10, 60, 512] {
-        let events = A_PRODUCT.get(..room).unwrap_or(A_PRODUCT);
-        let lines = b"listening 127.0.0.1:8807\nserved 1\n";
-        assert_ends!(rt; cut_lines(rt.alloc(), 512, room), Ok(()), lines, events);
+        check_event_room(&rt, rt.alloc(), room)?;
     }
     Ok(())
 }

@@ -247,9 +247,9 @@ fn the_version_is_printed(rt: HostRuntime) {
 #[test]
 fn a_feed_starts_with_its_machine_its_boot_and_its_batch(rt: HostRuntime) {
     let line = "persod feed --port 65535 --machine m-1 --boot 9999999999 --batch B_1";
-    match read_at_last(rt.alloc(), line) {
+    match &read_at_last(rt.alloc(), line) {
         Ok(Words::Feed { port, start }) => {
-            assert_eq!(rt; port, 65_535);
+            assert_eq!(rt; *port, 65_535);
             assert_eq!(rt; start.machine.bytes(), b"m-1".as_slice());
             assert_eq!(rt; start.boot, 9_999_999_999);
             assert_eq!(rt; start.batch.bytes(), b"B_1".as_slice());

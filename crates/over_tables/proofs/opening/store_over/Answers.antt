@@ -1,26 +1,32 @@
-use Rattle.std.proofs.Common.{◌≡◌, sym, ◌∙◌}
-use Rattle.std.specs.Prelude.{IfOk, Ok, Err, Result}
+use Rattle.std.proofs.Common.{◌≡◌, sym, subst, ◌∙◌}
+use Rattle.std.specs.Prelude.{IfErr, IfOk, Ok, Err, Result}
 use Rattle.std.proofs.lemmas.Bool.{false≢true}
 use Rattle.over_tables.proofs.opening.store_over.Goals as goal
+use Rattle.over_tables.proofs.opening.store_over.Goals.{then-begins, else-begins}
 
--- what holds of each value holds of the one that is there
-each : {A E : Type 0} (P : A → Type 0) (o : Result A E) → ((x : A) → P x) → IfOk o P
-each P (Ok x) all = all x
-each P (Err e) all = tt
+-- what holds of a value that is there
+at_ok : {A E : Type 0} (P : A → Type 0) (o : Result A E) (x : A) → o ≡ Ok x → IfOk o P → P x
+at_ok P o x is holds = subst (λ o. IfOk o P) is holds
 
--- what follows of each value holds of the one that is there
-later : {A E : Type 0} (P Q : A → Type 0) (o : Result A E) → ((x : A) → P x → Q x) → IfOk o P → IfOk o Q
-later P Q (Ok x) follows p = follows x p
-later P Q (Err e) follows p = tt
+at_err : {A E : Type 0} (P : E → Type 0) (o : Result A E) (e : E) → o ≡ Err e → IfErr o P → P e
+at_err P o e is holds = subst (λ o. IfErr o P) is holds
 
-pub returns-then-begins-clause-holds : goal.returns-then-begins-clause-holds
-returns-then-begins-clause-holds g c = each _ c.create.result (λ store clean no_new. absurd (no_new (c.begins.ensures.0 c.if-begins.true)))
+pub returns-in-Ok-clause-begun : goal.returns-in-Ok-clause-begun
+returns-in-Ok-clause-begun g c clean new = elim c.if-begins.branch [
+    then-begins w ↦ at_ok _ w.create-opened.result c.in-Ok.store (sym w.opened-is ∙ c.in-Ok.is) w.create-opened.ensures.holds clean
+  | else-begins w ↦ absurd (false≢true (sym w.if-begins.false ∙ c.begins.ensures.1 new)) ]
 
-pub returns-else-begins-clause-begun : goal.returns-else-begins-clause-begun
-returns-else-begins-clause-begun g c = each _ c.adopt.result (λ store clean new. absurd (false≢true (sym c.if-begins.false ∙ c.begins.ensures.1 new)))
+pub returns-in-Ok-clause-taken : goal.returns-in-Ok-clause-taken
+returns-in-Ok-clause-taken g c clean no_new = elim c.if-begins.branch [
+    then-begins w ↦ absurd (no_new (c.begins.ensures.0 w.if-begins.true))
+  | else-begins w ↦ at_ok _ w.adopt-opened.result c.in-Ok.store (sym w.opened-is ∙ c.in-Ok.is) w.adopt-opened.ensures.taken clean ]
 
-pub returns-else-begins-clause-taken : goal.returns-else-begins-clause-taken
-returns-else-begins-clause-taken g c = later _ _ c.adopt.result (λ store taken clean no_new. taken clean) c.adopt.ensures.taken
+pub returns-in-Ok-clause-holds : goal.returns-in-Ok-clause-holds
+returns-in-Ok-clause-holds g c clean no_new = elim c.if-begins.branch [
+    then-begins w ↦ absurd (no_new (c.begins.ensures.0 w.if-begins.true))
+  | else-begins w ↦ at_ok _ w.adopt-opened.result c.in-Ok.store (sym w.opened-is ∙ c.in-Ok.is) w.adopt-opened.ensures.holds clean ]
 
-pub returns-else-begins-clause-holds : goal.returns-else-begins-clause-holds
-returns-else-begins-clause-holds g c = later _ _ c.adopt.result (λ store holds clean no_new. holds clean) c.adopt.ensures.holds
+pub returns-in-Err-clause-damaged : goal.returns-in-Err-clause-damaged
+returns-in-Err-clause-damaged g c clean is = elim c.if-begins.branch [
+    then-begins w ↦ absurd (at_err _ w.create-opened.result _ (sym w.opened-is ∙ c.in-Err.is) w.create-opened.ensures.unread (c.with_cause.ensures.damaged is))
+  | else-begins w ↦ at_err _ w.adopt-opened.result _ (sym w.opened-is ∙ c.in-Err.is) w.adopt-opened.ensures.damaged (c.with_cause.ensures.clean clean) (c.with_cause.ensures.damaged is) ]
