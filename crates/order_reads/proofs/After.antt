@@ -1,13 +1,12 @@
 -- One read after another.
-use Rattle.std.proofs.Common.{IsTrue, Bool, Result, Ok, Err, IfOk, List, [], ◌∷◌, ◌++◌, ℕ, ◌≡◌, subst, sym}
+use Rattle.std.proofs.Common.{IsTrue, List, [], ◌∷◌, ◌++◌, ℕ, ◌≡◌, ◌∙◌, subst, sym}
 use Rattle.sqlite.specs.Effect.{Database}
 use Rattle.sqlite.specs.State.{State}
 use Rattle.sqlite.specs.Term.{col}
-use Rattle.sqlite.specs.declared.error.Error.{Error}
 use Rattle.sql_base.specs.Ends.{IsKept}
 use Rattle.sql_tables.specs.Tables.{our_schema}
 use Rattle.order_reads.specs.Rowids.{AreApartIn, HasApart}
-use Rattle.order_reads.specs.Texts.{batch_rowids, blank_rowids, card_rowids, grouping_rowids, lot_rowids, mark_rowids, name_rowids, other_rowids, product_rowids, record_rowids, remake_rowids, reply_rowids, session_rowids, version_rowids, word_rowids}
+use Rattle.order_reads.specs.Texts.{batch_rowids, blank_rowids, grouping_rowids, lot_rowids, mark_rowids, product_rowids, record_rowids, remake_rowids, reply_rowids, rowid_texts, session_rowids, version_rowids, word_rowids}
 use Rattle.order_reads.specs.Whole.{Asks}
 use Rattle.order_reads.proofs.Numbers.{batch_asked, blank_asked, grouping_asked, lot_asked, mark_asked, product_asked, record_asked, remake_asked, reply_asked, session_asked, version_asked, word_asked}
 
@@ -15,12 +14,19 @@ both : (some more : List (List ℕ)) (db : Database) → AreApartIn some db → 
 both [] more db first second = second
 both (sql ∷ some) more db first second = (first.0, both some more db first.1 second)
 
-pub told_then : (old mid : State) (some more : List (List ℕ)) → IsKept old mid → IsTrue old.is_open → AreApartIn some old.now → (r : Result Bool Error)
-    → IfOk r (λ rising. IsTrue mid.is_open × (IsTrue rising → AreApartIn more mid.now)) → IfOk r (λ rising. IsTrue old.is_open × (IsTrue rising → AreApartIn (some ++ more) old.now))
-told_then old mid some more kept live first (Ok rising) h = (live, λ is. both some more old.now first (subst (AreApartIn more) (kept.now_is h.0) (h.1 is)))
-told_then old mid some more kept live first (Err e) h = tt
+-- two looks, the one after the other
+pub kept_then : (a b c : State) → IsKept a b → IsKept b c → IsKept a c
+kept_then a b c one two = record {
+  was_open = λ live. one.was_open (two.was_open live);
+  now_is = λ live. two.now_is live ∙ one.now_is (two.was_open live);
+  committed_is = λ live. two.committed_is live ∙ one.committed_is (two.was_open live);
+}
 
-pub at_ours : (db : Database) → AreApartIn (name_rowids ++ (card_rowids ++ other_rowids)) db → db.schema ≡ our_schema → HasApart db
+-- one more was read
+pub further : (old mid : State) (some : List (List ℕ)) (sql : List ℕ) → IsKept old mid → IsTrue mid.is_open → AreApartIn some old.now → AreApartIn (sql ∷ []) mid.now → AreApartIn (some ++ sql ∷ []) old.now
+further old mid some sql kept live before next = both some (sql ∷ []) old.now before (subst (AreApartIn (sql ∷ [])) (kept.now_is live) next)
+
+pub at_ours : (db : Database) → AreApartIn rowid_texts db → db.schema ≡ our_schema → HasApart db
 at_ours db all ours = (
   all.0 0 (subst (λ s. Asks s version_rowids 0 (col 1 0 ∷ [])) (sym ours) version_asked),
   (
@@ -58,9 +64,3 @@ at_ours db all ours = (
     ),
   ),
 )
-
-pub told_ours : (old mid : State) → IsKept old mid → IsTrue old.is_open → AreApartIn name_rowids old.now → (r : Result Bool Error)
-    → IfOk r (λ rising. IsTrue mid.is_open × (IsTrue rising → AreApartIn (card_rowids ++ other_rowids) mid.now)) → IfOk r (λ rising. IsTrue old.is_open × (IsTrue rising → old.now.schema ≡ our_schema → HasApart old.now))
-told_ours old mid kept live first (Ok rising) h =
-    (live, λ is. at_ours old.now (both name_rowids (card_rowids ++ other_rowids) old.now first (subst (AreApartIn (card_rowids ++ other_rowids)) (kept.now_is h.0) (h.1 is))))
-told_ours old mid kept live first (Err e) h = tt

@@ -76,11 +76,6 @@ reply_rowids = codes "SELECT rowid FROM reply"
 abbrev pub mark_rowids : List ℕ
 mark_rowids = codes "SELECT rowid FROM mark"
 
-abbrev pub name_rowids : List (List ℕ)
-name_rowids = version_rowids ∷ product_rowids ∷ lot_rowids ∷ batch_rowids ∷ []
-
-abbrev pub card_rowids : List (List ℕ)
-card_rowids = record_rowids ∷ grouping_rowids ∷ session_rowids ∷ word_rowids ∷ []
-
-abbrev pub other_rowids : List (List ℕ)
-other_rowids = blank_rowids ∷ remake_rowids ∷ reply_rowids ∷ mark_rowids ∷ []
+-- in the order of our schema
+abbrev pub rowid_texts : List (List ℕ)
+rowid_texts = version_rowids ∷ product_rowids ∷ lot_rowids ∷ batch_rowids ∷ record_rowids ∷ grouping_rowids ∷ session_rowids ∷ word_rowids ∷ blank_rowids ∷ remake_rowids ∷ reply_rowids ∷ mark_rowids ∷ []

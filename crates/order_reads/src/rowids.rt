@@ -1,5 +1,5 @@
 //! Rowids are read.
-ghost use Rattle.std.specs.Prelude.{◌≡◌, ◌++◌, [], ◌∷◌, false, IfOk, IsPermutation, IsTrue};
+ghost use Rattle.std.specs.Prelude.{◌≡◌, [], ◌∷◌, false, map, IfOk, IsPermutation, IsTrue};
 ghost use Rattle.std.specs.Prelude.{MatchOption};
 ghost use Rattle.sqlite.specs.Held.{state};
 ghost use Rattle.sqlite.specs.State.{HasCleanDisk, Survives};
@@ -10,7 +10,7 @@ ghost use Rattle.sql_base.specs.Ends.{IsKept};
 ghost use Rattle.sql_tables.specs.Tables.{our_schema};
 ghost use Rattle.order_reads.specs.Rowids.{AreApartIn, AreRising, HasApart, IsRisingFrom};
 ghost use Rattle.order_reads.specs.Rowids.{int_in};
-ghost use Rattle.order_reads.specs.Texts.{card_rowids, name_rowids, other_rowids};
+ghost use Rattle.order_reads.specs.Texts.{rowid_texts};
 
 use crate::values::value_at;
 use sql_base::rows_of;
@@ -96,99 +96,24 @@ fn has_rising<S: Alter>(conn: &mut Connection<S>, sql: &str) -> Result<bool, Err
     Ok(are_rising(rows.as_slice()))
 }
 
-fn two_rise<S: Alter>(conn: &mut Connection<S>, first: &str, second: &str) -> Result<bool, Error>
-    requires { conn.old.in_transaction ≡ false }
-    ensures told { HasCleanDisk (state S.Store conn.new) → IfOk result
-        (λ rising. IsTrue (state S.Store conn.old).is_open
-        × (IsTrue rising → AreApartIn
-        (first.now ∷ second.now ∷ []) (state S.Store conn.old).now)) }
-    ensures kept { HasCleanDisk (state S.Store conn.new)
-        → IsKept (state S.Store conn.old) (state S.Store conn.new) }
-    ensures idle { conn.new.in_transaction ≡ false }
-    ensures survives { Survives (state S.Store conn.old) (state S.Store conn.new) (λ _. ⊥) }
+// The texts that ask for the rowids of our tables.
+fn rowid_texts() -> &'static [&'static str]
+    ensures { map (λ text. text.now) result.now ≡ rowid_texts }
 {
-    if has_rising(conn, first)? {
-        has_rising(conn, second)
-    } else {
-        Ok(false)
-    }
-}
-
-fn names_rise<S: Alter>(conn: &mut Connection<S>) -> Result<bool, Error>
-    requires { conn.old.in_transaction ≡ false }
-    ensures told { HasCleanDisk (state S.Store conn.new) → IfOk result
-        (λ rising. IsTrue (state S.Store conn.old).is_open
-        × (IsTrue rising → AreApartIn name_rowids (state S.Store conn.old).now)) }
-    ensures kept { HasCleanDisk (state S.Store conn.new)
-        → IsKept (state S.Store conn.old) (state S.Store conn.new) }
-    ensures idle { conn.new.in_transaction ≡ false }
-    ensures survives { Survives (state S.Store conn.old) (state S.Store conn.new) (λ _. ⊥) }
-{
-    if two_rise(
-        conn,
+    &[
         "SELECT rowid FROM version",
         "SELECT rowid FROM product",
-    )? {
-        two_rise(conn, "SELECT rowid FROM lot", "SELECT rowid FROM batch")
-    } else {
-        Ok(false)
-    }
-}
-
-fn cards_rise<S: Alter>(conn: &mut Connection<S>) -> Result<bool, Error>
-    requires { conn.old.in_transaction ≡ false }
-    ensures told { HasCleanDisk (state S.Store conn.new) → IfOk result
-        (λ rising. IsTrue (state S.Store conn.old).is_open
-        × (IsTrue rising → AreApartIn card_rowids (state S.Store conn.old).now)) }
-    ensures kept { HasCleanDisk (state S.Store conn.new)
-        → IsKept (state S.Store conn.old) (state S.Store conn.new) }
-    ensures idle { conn.new.in_transaction ≡ false }
-    ensures survives { Survives (state S.Store conn.old) (state S.Store conn.new) (λ _. ⊥) }
-{
-    if two_rise(
-        conn,
+        "SELECT rowid FROM lot",
+        "SELECT rowid FROM batch",
         "SELECT rowid FROM record",
         "SELECT rowid FROM grouping2",
-    )? {
-        two_rise(conn, "SELECT rowid FROM session", "SELECT rowid FROM word")
-    } else {
-        Ok(false)
-    }
-}
-
-fn others_rise<S: Alter>(conn: &mut Connection<S>) -> Result<bool, Error>
-    requires { conn.old.in_transaction ≡ false }
-    ensures told { HasCleanDisk (state S.Store conn.new) → IfOk result
-        (λ rising. IsTrue (state S.Store conn.old).is_open
-        × (IsTrue rising → AreApartIn other_rowids (state S.Store conn.old).now)) }
-    ensures kept { HasCleanDisk (state S.Store conn.new)
-        → IsKept (state S.Store conn.old) (state S.Store conn.new) }
-    ensures idle { conn.new.in_transaction ≡ false }
-    ensures survives { Survives (state S.Store conn.old) (state S.Store conn.new) (λ _. ⊥) }
-{
-    if two_rise(conn, "SELECT rowid FROM blank", "SELECT rowid FROM remake")? {
-        two_rise(conn, "SELECT rowid FROM reply", "SELECT rowid FROM mark")
-    } else {
-        Ok(false)
-    }
-}
-
-fn more_rise<S: Alter>(conn: &mut Connection<S>) -> Result<bool, Error>
-    requires { conn.old.in_transaction ≡ false }
-    ensures told { HasCleanDisk (state S.Store conn.new) → IfOk result
-        (λ rising. IsTrue (state S.Store conn.old).is_open
-        × (IsTrue rising → AreApartIn (card_rowids ++ other_rowids)
-        (state S.Store conn.old).now)) }
-    ensures kept { HasCleanDisk (state S.Store conn.new)
-        → IsKept (state S.Store conn.old) (state S.Store conn.new) }
-    ensures idle { conn.new.in_transaction ≡ false }
-    ensures survives { Survives (state S.Store conn.old) (state S.Store conn.new) (λ _. ⊥) }
-{
-    if cards_rise(conn)? {
-        others_rise(conn)
-    } else {
-        Ok(false)
-    }
+        "SELECT rowid FROM session",
+        "SELECT rowid FROM word",
+        "SELECT rowid FROM blank",
+        "SELECT rowid FROM remake",
+        "SELECT rowid FROM reply",
+        "SELECT rowid FROM mark",
+    ]
 }
 
 /// Whether the rowids of our own tables rise once they are sorted, so that no two rows of a table
@@ -204,9 +129,10 @@ pub fn has_apart_rowids<S: Alter>(conn: &mut Connection<S>) -> Result<bool, Erro
     ensures idle { conn.new.in_transaction ≡ false }
     ensures survives { Survives (state S.Store conn.old) (state S.Store conn.new) (λ _. ⊥) }
 {
-    if names_rise(conn)? {
-        more_rise(conn)
-    } else {
-        Ok(false)
+    for text in rowid_texts() {
+        if !has_rising(conn, text)? {
+            return Ok(false);
+        }
     }
+    Ok(true)
 }
