@@ -6,7 +6,7 @@ use Rattle.sqlite.specs.Order.{Row, column}
 use Rattle.sql_rows.specs.Encoding.{number}
 use Rattle.order_reads.specs.Version.{IsVersionAlone, IsVersionRow, numbered_row}
 use Rattle.order_reads.specs.Whole.{as_stored}
-use Rattle.order_reads.proofs.Encoded.{taken, without_null}
+use Rattle.order_reads.specs.Encoded.{taken, without_null}
 use Rattle.order_reads.proofs.Shapes.{rebuilt}
 
 stored : (version : ℕ) (row : Row) → IsVersionRow version row → as_stored true row ≡ numbered_row version

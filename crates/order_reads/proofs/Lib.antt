@@ -1,7 +1,6 @@
 pub mod Selecting
 pub mod Shapes
 pub mod Telling
-pub mod Encoded
 pub mod Meanings
 pub mod Found
 pub mod Alone

@@ -6,13 +6,12 @@ mod laws;
 mod names;
 mod reads;
 mod rowids;
+mod stored;
 mod values;
 mod version;
 
 pub use laws::our_tables_are_found;
-pub use reads::{
-    batches, blanks, groupings, lots, marks, products, records, remakes, replies, sessions,
-    unmixed_groupings, words,
-};
+pub use reads::whole;
 pub use rowids::has_apart_rowids;
+pub use stored::Stored;
 pub use version::says_version;
