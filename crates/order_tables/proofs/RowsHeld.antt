@@ -1,9 +1,8 @@
 -- What was read of all tables is the rows of the version.
-use Rattle.std.proofs.Common.{◌≡◌, ℕ, Bool, true, false, List, Option, Some, None, Vec, Global, MatchOption, sym, subst}
+use Rattle.std.proofs.Common.{ℕ, Bool, true, false, List, map, Option, MatchOption, Vec, Global}
 use Rattle.std.specs.Prelude.{option_map}
 use Rattle.sqlite.specs.Effect.{Database}
 use Rattle.sqlite.specs.Order.{Row}
-use Rattle.sqlite.specs.State.{State}
 use Rattle.sqlite.specs.Table.{Table}
 use Rattle.store_data.specs.declared.row.Product.{Product}
 use Rattle.job_core.specs.Contents.{Entry, Mark}
@@ -14,73 +13,110 @@ use Rattle.sql_order.specs.declared.versions.Version.{Version}
 use Rattle.sql_order.specs.declared.versions.Version.TheVariants.{One, Two, Three}
 use Rattle.table_rows.specs.Tables.{StoredBatch, StoredBlank, StoredGrouping, StoredLot, StoredRecord, StoredRemake, StoredSession, StoredWord, Tables}
 use Rattle.order_tables.specs.Holding.{Holds}
-use Rattle.order_tables.specs.Reading.{Has, HasCards, HasGroupings, HasNames, HasReplies, HasRows, HoldsNoneOf, Reads, tables_of}
-use Rattle.order_tables.proofs.Together.{Both}
-use Rattle.order_tables.proofs.TableReads.{CardsRead, GroupingsRead, NamesRead, RepliesRead}
+use Rattle.sql_rows.specs.Encoding.{batch_row, blank_row, lot_row, product_row, record_row, remake_row, reply_row, session_row, word_row}
+use Rattle.order_tables.specs.Reading.{Has, HasGroupings, HasMarks, HasRows, HoldsNoneOf, items, tables_of}
+use Rattle.order_tables.proofs.Together.{last_found, then_found}
+use Rattle.order_tables.proofs.TableReads.{IsRead}
 
 at : (table : ℕ → Table) (by_rowid : Bool) (rows : List Row) (db : Database) (n : ℕ) → Finds db.schema (table n) → Has table by_rowid rows db → Holds table by_rowid rows db
 at table by_rowid rows db n finds has = record { number = n; finds = finds; rows_are = has n finds }
 
-pub rows_held : (v : Version) (db : Database) (t : Tables) → HasNames t.products t.lots t.batches t.records db → HasCards t.sessions t.words t.blanks t.remakes db
-    → HasGroupings v t.groupings db → HasReplies v t.replies t.marks db → HasRows v db t
-rows_held One db t names cards groupings replies just there says = record {
+-- the rows of each table, wherever it stands
+pub record HasAll (v : Version) (t : Tables) (db : Database) : Type 0 where
+  pub products : Has product_at false (map product_row t.products) db
+  pub lots : Has lot_at false (map lot_row t.lots) db
+  pub batches : Has batch_at true (map batch_row t.batches) db
+  pub records : Has record_at false (map record_row t.records) db
+  pub groupings : HasGroupings v t.groupings db
+  pub sessions : Has session_at true (map session_row t.sessions) db
+  pub words : Has word_at false (map word_row t.words) db
+  pub blanks : Has blank_at true (map blank_row t.blanks) db
+  pub remakes : Has remake_at false (map remake_row t.remakes) db
+  pub replies : Has reply_at false (map reply_row t.replies) db
+  pub marks : HasMarks v t.marks db
+
+pub rows_held : (v : Version) (db : Database) (t : Tables) → HasAll v t db → HasRows v db t
+rows_held One db t all just there says = record {
   just = just;
   version = says;
-  products = at product_at false _ db there.0.number there.0.finds names.0.0;
-  lots = at lot_at false _ db there.1.0.number there.1.0.finds names.0.1;
-  batches = at batch_at true _ db there.1.1.0.number there.1.1.0.finds names.1.0;
-  records = at record_at false _ db there.1.1.1.0.number there.1.1.1.0.finds names.1.1;
-  groupings = at unmixed_grouping_at false _ db there.1.1.1.1.1.1.1.1.1.0.number there.1.1.1.1.1.1.1.1.1.0.finds groupings;
-  sessions = at session_at true _ db there.1.1.1.1.0.number there.1.1.1.1.0.finds cards.0.0;
-  words = at word_at false _ db there.1.1.1.1.1.0.number there.1.1.1.1.1.0.finds cards.0.1;
-  blanks = at blank_at true _ db there.1.1.1.1.1.1.0.number there.1.1.1.1.1.1.0.finds cards.1.0;
-  remakes = at remake_at false _ db there.1.1.1.1.1.1.1.0.number there.1.1.1.1.1.1.1.0.finds cards.1.1;
-  replies = at reply_at false _ db there.1.1.1.1.1.1.1.1.0.number there.1.1.1.1.1.1.1.1.0.finds replies.0;
-  marks = replies.1;
+  products = at product_at false _ db there.0.number there.0.finds all.products;
+  lots = at lot_at false _ db there.1.0.number there.1.0.finds all.lots;
+  batches = at batch_at true _ db there.1.1.0.number there.1.1.0.finds all.batches;
+  records = at record_at false _ db there.1.1.1.0.number there.1.1.1.0.finds all.records;
+  groupings = at unmixed_grouping_at false _ db there.1.1.1.1.1.1.1.1.1.0.number there.1.1.1.1.1.1.1.1.1.0.finds all.groupings;
+  sessions = at session_at true _ db there.1.1.1.1.0.number there.1.1.1.1.0.finds all.sessions;
+  words = at word_at false _ db there.1.1.1.1.1.0.number there.1.1.1.1.1.0.finds all.words;
+  blanks = at blank_at true _ db there.1.1.1.1.1.1.0.number there.1.1.1.1.1.1.0.finds all.blanks;
+  remakes = at remake_at false _ db there.1.1.1.1.1.1.1.0.number there.1.1.1.1.1.1.1.0.finds all.remakes;
+  replies = at reply_at false _ db there.1.1.1.1.1.1.1.1.0.number there.1.1.1.1.1.1.1.1.0.finds all.replies;
+  marks = all.marks;
 }
-rows_held Two db t names cards groupings replies just there says = record {
+rows_held Two db t all just there says = record {
   just = just;
   version = says;
-  products = at product_at false _ db there.0.number there.0.finds names.0.0;
-  lots = at lot_at false _ db there.1.0.number there.1.0.finds names.0.1;
-  batches = at batch_at true _ db there.1.1.0.number there.1.1.0.finds names.1.0;
-  records = at record_at false _ db there.1.1.1.0.number there.1.1.1.0.finds names.1.1;
-  groupings = at unmixed_grouping_at false _ db there.1.1.1.1.1.1.1.1.1.0.number there.1.1.1.1.1.1.1.1.1.0.finds groupings;
-  sessions = at session_at true _ db there.1.1.1.1.0.number there.1.1.1.1.0.finds cards.0.0;
-  words = at word_at false _ db there.1.1.1.1.1.0.number there.1.1.1.1.1.0.finds cards.0.1;
-  blanks = at blank_at true _ db there.1.1.1.1.1.1.0.number there.1.1.1.1.1.1.0.finds cards.1.0;
-  remakes = at remake_at false _ db there.1.1.1.1.1.1.1.0.number there.1.1.1.1.1.1.1.0.finds cards.1.1;
-  replies = at reply_at false _ db there.1.1.1.1.1.1.1.1.0.number there.1.1.1.1.1.1.1.1.0.finds replies.0;
-  marks = at mark_at false _ db there.1.1.1.1.1.1.1.1.1.1.0.number there.1.1.1.1.1.1.1.1.1.1.0.finds replies.1;
+  products = at product_at false _ db there.0.number there.0.finds all.products;
+  lots = at lot_at false _ db there.1.0.number there.1.0.finds all.lots;
+  batches = at batch_at true _ db there.1.1.0.number there.1.1.0.finds all.batches;
+  records = at record_at false _ db there.1.1.1.0.number there.1.1.1.0.finds all.records;
+  groupings = at unmixed_grouping_at false _ db there.1.1.1.1.1.1.1.1.1.0.number there.1.1.1.1.1.1.1.1.1.0.finds all.groupings;
+  sessions = at session_at true _ db there.1.1.1.1.0.number there.1.1.1.1.0.finds all.sessions;
+  words = at word_at false _ db there.1.1.1.1.1.0.number there.1.1.1.1.1.0.finds all.words;
+  blanks = at blank_at true _ db there.1.1.1.1.1.1.0.number there.1.1.1.1.1.1.0.finds all.blanks;
+  remakes = at remake_at false _ db there.1.1.1.1.1.1.1.0.number there.1.1.1.1.1.1.1.0.finds all.remakes;
+  replies = at reply_at false _ db there.1.1.1.1.1.1.1.1.0.number there.1.1.1.1.1.1.1.1.0.finds all.replies;
+  marks = at mark_at false _ db there.1.1.1.1.1.1.1.1.1.1.0.number there.1.1.1.1.1.1.1.1.1.1.0.finds all.marks;
 }
-rows_held Three db t names cards groupings replies just there says = record {
+rows_held Three db t all just there says = record {
   just = just;
   version = says;
-  products = at product_at false _ db there.1.0.number there.1.0.finds names.0.0;
-  lots = at lot_at false _ db there.1.1.0.number there.1.1.0.finds names.0.1;
-  batches = at batch_at true _ db there.1.1.1.0.number there.1.1.1.0.finds names.1.0;
-  records = at record_at false _ db there.1.1.1.1.0.number there.1.1.1.1.0.finds names.1.1;
-  groupings = at grouping_at false _ db there.1.1.1.1.1.0.number there.1.1.1.1.1.0.finds groupings;
-  sessions = at session_at true _ db there.1.1.1.1.1.1.0.number there.1.1.1.1.1.1.0.finds cards.0.0;
-  words = at word_at false _ db there.1.1.1.1.1.1.1.0.number there.1.1.1.1.1.1.1.0.finds cards.0.1;
-  blanks = at blank_at true _ db there.1.1.1.1.1.1.1.1.0.number there.1.1.1.1.1.1.1.1.0.finds cards.1.0;
-  remakes = at remake_at false _ db there.1.1.1.1.1.1.1.1.1.0.number there.1.1.1.1.1.1.1.1.1.0.finds cards.1.1;
-  replies = at reply_at false _ db there.1.1.1.1.1.1.1.1.1.1.0.number there.1.1.1.1.1.1.1.1.1.1.0.finds replies.0;
-  marks = at mark_at false _ db there.1.1.1.1.1.1.1.1.1.1.1.0.number there.1.1.1.1.1.1.1.1.1.1.1.0.finds replies.1;
+  products = at product_at false _ db there.1.0.number there.1.0.finds all.products;
+  lots = at lot_at false _ db there.1.1.0.number there.1.1.0.finds all.lots;
+  batches = at batch_at true _ db there.1.1.1.0.number there.1.1.1.0.finds all.batches;
+  records = at record_at false _ db there.1.1.1.1.0.number there.1.1.1.1.0.finds all.records;
+  groupings = at grouping_at false _ db there.1.1.1.1.1.0.number there.1.1.1.1.1.0.finds all.groupings;
+  sessions = at session_at true _ db there.1.1.1.1.1.1.0.number there.1.1.1.1.1.1.0.finds all.sessions;
+  words = at word_at false _ db there.1.1.1.1.1.1.1.0.number there.1.1.1.1.1.1.1.0.finds all.words;
+  blanks = at blank_at true _ db there.1.1.1.1.1.1.1.1.0.number there.1.1.1.1.1.1.1.1.0.finds all.blanks;
+  remakes = at remake_at false _ db there.1.1.1.1.1.1.1.1.1.0.number there.1.1.1.1.1.1.1.1.1.0.finds all.remakes;
+  replies = at reply_at false _ db there.1.1.1.1.1.1.1.1.1.1.0.number there.1.1.1.1.1.1.1.1.1.1.0.finds all.replies;
+  marks = at mark_at false _ db there.1.1.1.1.1.1.1.1.1.1.1.0.number there.1.1.1.1.1.1.1.1.1.1.1.0.finds all.marks;
 }
 
--- what was read of all tables, put together
-abbrev pub AllRead : Version → Database → ((((Vec Product Global × Vec StoredLot Global) × (Vec StoredBatch Global × Vec StoredRecord Global))
-    × ((Vec StoredSession Global × Vec StoredWord Global) × (Vec StoredBlank Global × Vec StoredRemake Global)))
-    × (Vec StoredGrouping Global × (Vec Entry Global × Vec Mark Global))) → Type 0
-AllRead v = Both (Both NamesRead CardsRead) (Both (GroupingsRead v) (RepliesRead v))
-
-abbrev pub all_rows : ((((Vec Product Global × Vec StoredLot Global) × (Vec StoredBatch Global × Vec StoredRecord Global))
-    × ((Vec StoredSession Global × Vec StoredWord Global) × (Vec StoredBlank Global × Vec StoredRemake Global)))
-    × (Vec StoredGrouping Global × (Vec Entry Global × Vec Mark Global))) → Tables
-all_rows it = tables_of it.0.0.0.0.items it.0.0.0.1.items it.0.0.1.0.items it.0.0.1.1.items it.0.1.0.0.items it.0.1.0.1.items it.0.1.1.0.items it.0.1.1.1.items it.1.0.items it.1.1.0.items it.1.1.1.items
-
-pub all_read : (v : Version) (old : State) (read : Option _) (result : Option Tables) → Reads (HoldsNoneOf v) (AllRead v) old read → result ≡ option_map all_rows read → Reads (HoldsNoneOf v) (HasRows v) old result
-all_read v old (Some it) result told_is is =
-    (told_is.0, subst (λ x. MatchOption x (HoldsNoneOf v old.now) (HasRows v old.now)) (sym is) (rows_held v old.now (all_rows it) told_is.1.0.0 told_is.1.0.1 told_is.1.1.0 told_is.1.1.1))
-all_read v old None result told_is is = (told_is.0, subst (λ x. MatchOption x (HoldsNoneOf v old.now) (HasRows v old.now)) (sym is) told_is.1)
+-- all of them, where each was read
+pub all_read : (v : Version) (db : Database) (products : Option (Vec Product Global)) (lots : Option (Vec StoredLot Global)) (batches : Option (Vec StoredBatch Global)) (records : Option (Vec StoredRecord Global)) (groupings : Option (Vec StoredGrouping Global)) (sessions : Option (Vec StoredSession Global)) (words : Option (Vec StoredWord Global)) (blanks : Option (Vec StoredBlank Global)) (remakes : Option (Vec StoredRemake Global)) (replies : Option (Vec Entry Global)) (marks : Option (Vec Mark Global))
+    → IsRead v product_row product_at false db (option_map items products)
+    → IsRead v lot_row lot_at false db (option_map items lots)
+    → IsRead v batch_row batch_at true db (option_map items batches)
+    → IsRead v record_row record_at false db (option_map items records)
+    → MatchOption (option_map items groupings) (HoldsNoneOf v db) (λ all. HasGroupings v all db)
+    → IsRead v session_row session_at true db (option_map items sessions)
+    → IsRead v word_row word_at false db (option_map items words)
+    → IsRead v blank_row blank_at true db (option_map items blanks)
+    → IsRead v remake_row remake_at false db (option_map items remakes)
+    → IsRead v reply_row reply_at false db (option_map items replies)
+    → MatchOption (option_map items marks) (HoldsNoneOf v db) (λ all. HasMarks v all db)
+    → MatchOption (tables_of (option_map items products) (option_map items lots) (option_map items batches) (option_map items records) (option_map items groupings) (option_map items sessions) (option_map items words) (option_map items blanks) (option_map items remakes) (option_map items replies) (option_map items marks)) (HoldsNoneOf v db) (HasRows v db)
+all_read v db products lots batches records groupings sessions words blanks remakes replies marks p l b r g s w k m e n =
+    then_found _ _ _ _ (option_map items products) p (λ all_products has_products.
+    then_found _ _ _ _ (option_map items lots) l (λ all_lots has_lots.
+    then_found _ _ _ _ (option_map items batches) b (λ all_batches has_batches.
+    then_found _ _ _ _ (option_map items records) r (λ all_records has_records.
+    then_found _ _ _ _ (option_map items groupings) g (λ all_groupings has_groupings.
+    then_found _ _ _ _ (option_map items sessions) s (λ all_sessions has_sessions.
+    then_found _ _ _ _ (option_map items words) w (λ all_words has_words.
+    then_found _ _ _ _ (option_map items blanks) k (λ all_blanks has_blanks.
+    then_found _ _ _ _ (option_map items remakes) m (λ all_remakes has_remakes.
+    then_found _ _ _ _ (option_map items replies) e (λ all_replies has_replies.
+    last_found _ _ _ _ (option_map items marks) n (λ all_marks has_marks. rows_held v db _ (record {
+      products = has_products;
+      lots = has_lots;
+      batches = has_batches;
+      records = has_records;
+      groupings = has_groupings;
+      sessions = has_sessions;
+      words = has_words;
+      blanks = has_blanks;
+      remakes = has_remakes;
+      replies = has_replies;
+      marks = has_marks;
+    }))))))))))))

@@ -1,17 +1,32 @@
 -- One read after another, and what they tell of all tables.
-use Rattle.std.proofs.Common.{◌≡◌, ℕ, Bool, List, map, Option, Some, None, Vec, Global, MatchOption, All, sym, subst}
-use Rattle.std.specs.Option.{option_zip}
+use Rattle.std.proofs.Common.{ℕ, Bool, List, map, Option, Some, None, Vec, Global, MatchOption, All, subst, arith}
+use Rattle.std.specs.Prelude.{option_map, option_and_then}
 use Rattle.std.specs.List.Sorted.{IsPermutation}
 use Rattle.sqlite.specs.Effect.{Database}
 use Rattle.sqlite.specs.Order.{Row}
-use Rattle.sqlite.specs.State.{State}
+use Rattle.sqlite.specs.State.{HasCleanDisk, State, Survives}
 use Rattle.sqlite.specs.Table.{Table}
+use Rattle.sqlite.proofs.StateLemmas.{survives_then}
 use Rattle.sql_base.specs.Ends.{IsKept}
 use Rattle.sql_rows.specs.Image.{told}
 use Rattle.sql_order.specs.Finds.{Finds}
 use Rattle.order_reads.specs.Whole.{NoneStandSo}
 use Rattle.order_tables.specs.Holding.{Holds}
-use Rattle.order_tables.specs.Reading.{Has, Reads}
+use Rattle.order_tables.specs.Reading.{Has, Reads, items}
+
+-- ---- states
+
+pub early : (old new : State) → Survives old new (λ _. ⊥) → HasCleanDisk new → HasCleanDisk old
+early old new survives clean = omega (arith, survives.clean)
+
+-- one read after another commits nothing
+pub outlives : {a b c : State} → Survives a b (λ _. ⊥) → Survives b c (λ _. ⊥) → Survives a c (λ _. ⊥)
+outlives {a} {b} {c} one two = survives_then a b c _ _ _ (λ _ db none. none) (λ _ db none. none) one two
+
+pub outlives_four : {a b c d e : State} → Survives a b (λ _. ⊥) → Survives b c (λ _. ⊥) → Survives c d (λ _. ⊥) → Survives d e (λ _. ⊥) → Survives a e (λ _. ⊥)
+outlives_four one two three four = outlives (outlives one two) (outlives three four)
+
+-- ---- what was found
 
 -- what was read of one table
 pub found_as : {X : Type 0} (encode : X → Row) (fits : X → Type 0) (table : ℕ → Table) (by_rowid : Bool) (db : Database) (Refused : Type 0)
@@ -21,29 +36,21 @@ pub found_as : {X : Type 0} (encode : X → Row) (fits : X → Type 0) (table : 
 found_as encode fits table by_rowid db Refused refuses (Some all) h = h
 found_as encode fits table by_rowid db Refused refuses None h = refuses (λ xs fit held. h held.number held.finds xs fit held.rows_are)
 
-both_found : {A B : Type 0} (Refused : Type 0) (P : A → Type 0) (Q : B → Type 0) (a : Option A) (b : Option B) → MatchOption a Refused P → MatchOption b Refused Q
-    → MatchOption (option_zip a b) Refused (λ it. P it.0 × Q it.1)
-both_found Refused P Q (Some a) (Some b) p q = (p, q)
-both_found Refused P Q (Some a) None p q = q
-both_found Refused P Q None b p q = p
+-- the same of the database that was shown at first
+pub carried : {X : Type 0} (R : Database → Type 0) (P : Database → List X → Type 0) (old mid : State) → IsKept old mid → (found : Option (Vec X Global)) → Reads R (λ db all. P db all.items) mid found
+    → MatchOption (option_map items found) (R old.now) (P old.now)
+carried R P old mid kept (Some all) read = subst (λ db. P db all.items) (kept.now_is read.0) read.1
+carried R P old mid kept None read = subst R (kept.now_is read.0) read.1
 
--- both were read
-abbrev pub Both : {A B : Type 0} → (Database → A → Type 0) → (Database → B → Type 0) → Database → A × B → Type 0
-Both P Q db it = P db it.0 × Q db it.1
+pub listed : {X : Type 0} (R : Type 0) (P : List X → Type 0) (found : Option (Vec X Global)) → MatchOption found R (λ all. P all.items) → MatchOption (option_map items found) R P
+listed R P (Some all) h = h
+listed R P None h = h
 
--- two reads, the one after the other
-pub both_read : {A B : Type 0} (Refused : Database → Type 0) (P : Database → A → Type 0) (Q : Database → B → Type 0) (old mid : State) → IsKept old mid
-    → (a : Option A) → Reads Refused P old a → (b : Option B) → Reads Refused Q mid b → (r : Option (A × B)) → r ≡ option_zip a b → Reads Refused (Both P Q) old r
-both_read Refused P Q old mid kept a first b second r is =
-    let there : MatchOption b (Refused old.now) (Q old.now) = subst (λ db. MatchOption b (Refused db) (Q db)) (kept.now_is second.0) second.1 in
-    (first.0, subst (λ x. MatchOption x (Refused old.now) (Both P Q old.now)) (sym is) (both_found (Refused old.now) (P old.now) (Q old.now) a b first.1 there))
+-- the next, where this one was found
+pub then_found : {A B : Type 0} (R : Type 0) (P : A → Type 0) (Q : B → Type 0) (f : A → Option B) (o : Option A) → MatchOption o R P → ((x : A) → P x → MatchOption (f x) R Q) → MatchOption (option_and_then f o) R Q
+then_found R P Q f (Some x) found next = next x found
+then_found R P Q f None lacks next = lacks
 
--- a refusal that says more
-pub refused_for : {A : Type 0} (Refused Further : Type 0) (P : A → Type 0) → (Refused → Further) → (a : Option A) → MatchOption a Refused P → MatchOption a Further P
-refused_for Refused Further P further (Some a) h = h
-refused_for Refused Further P further None h = further h
-
--- a read that is refused for more
-pub refused_more : {A : Type 0} (Refused Further : Database → Type 0) (P : Database → A → Type 0) → ((db : Database) → Refused db → Further db) → (s : State) (a : Option A)
-    → Reads Refused P s a → Reads Further P s a
-refused_more Refused Further P further s a read = (read.0, refused_for (Refused s.now) (Further s.now) (P s.now) (further s.now) a read.1)
+pub last_found : {A B : Type 0} (R : Type 0) (P : A → Type 0) (Q : B → Type 0) (f : A → B) (o : Option A) → MatchOption o R P → ((x : A) → P x → Q (f x)) → MatchOption (option_map f o) R Q
+last_found R P Q f (Some x) found next = next x found
+last_found R P Q f None lacks next = lacks

@@ -1,5 +1,6 @@
 -- What reading tables whole tells of a database.
-use Rattle.std.specs.Prelude.{◌≡◌, ℕ, Bool, true, false, List, [], map, All, Option, MatchOption, IsPermutation, IsTrue}
+use Rattle.std.specs.Prelude.{◌≡◌, ℕ, Bool, false, List, [], map, All, Option, MatchOption, IsPermutation, IsTrue, Vec, option_map, option_and_then}
+use Rattle.std.specs.Global.{Global}
 use Rattle.sqlite.specs.Effect.{Database}
 use Rattle.sqlite.specs.Order.{Row}
 use Rattle.sqlite.specs.State.{State}
@@ -7,8 +8,8 @@ use Rattle.sqlite.specs.Table.{Table}
 use Rattle.store_data.specs.declared.row.Product.{Product}
 use Rattle.job_core.specs.Contents.{Entry, Mark}
 use Rattle.table_rows.specs.Tables.{StoredBatch, StoredBlank, StoredGrouping, StoredLot, StoredRecord, StoredRemake, StoredSession, StoredWord, Tables}
-use Rattle.sql_tables.specs.Tables.{batch_at, blank_at, lot_at, mark_at, product_at, record_at, remake_at, reply_at, session_at, word_at}
-use Rattle.sql_rows.specs.Encoding.{batch_row, blank_row, grouping_row, lot_row, mark_row, product_row, record_row, remake_row, reply_row, session_row, word_row}
+use Rattle.sql_tables.specs.Tables.{mark_at}
+use Rattle.sql_rows.specs.Encoding.{grouping_row, mark_row}
 use Rattle.sql_rows.specs.Image.{told}
 use Rattle.sql_order.specs.Alike.{HasJust}
 use Rattle.sql_order.specs.Finds.{Finds}
@@ -30,14 +31,6 @@ pub record Fit (t : Tables) : Type 0 where
 abbrev pub HoldsNoneOf : Version → Database → Type 0
 HoldsNoneOf v db = (t : Tables) → Fit t → HoldsRows v t db → ⊥
 
--- in those of no version
-abbrev pub HoldsNone : Database → Type 0
-HoldsNone db = (v : Version) → HoldsNoneOf v db
-
--- nor in those of the versions that have marks
-abbrev pub HoldsNoneMarked : Database → Type 0
-HoldsNoneMarked db = HoldsNoneOf Two db × HoldsNoneOf Three db
-
 -- the connection was open, and this was found in what it showed, or the database was refused
 abbrev pub Reads : {X : Type 0} → (Database → Type 0) → (Database → X → Type 0) → State → Option X → Type 0
 Reads Refused Found old found = IsTrue old.is_open × MatchOption found (Refused old.now) (Found old.now)
@@ -48,59 +41,47 @@ Reads Refused Found old found = IsTrue old.is_open × MatchOption found (Refused
 abbrev pub Has : (ℕ → Table) → Bool → List Row → Database → Type 0
 Has table by_rowid rows db = (tree : ℕ) → Finds db.schema (table tree) → IsPermutation rows (told by_rowid (db.trees tree))
 
-abbrev pub HasGoods : List Product → List StoredLot → Database → Type 0
-HasGoods products lots db = Has product_at false (map product_row products) db × Has lot_at false (map lot_row lots) db
-
-abbrev pub HasWork : List StoredBatch → List StoredRecord → Database → Type 0
-HasWork batches records db = Has batch_at true (map batch_row batches) db × Has record_at false (map record_row records) db
-
-abbrev pub HasRuns : List StoredSession → List StoredWord → Database → Type 0
-HasRuns sessions words db = Has session_at true (map session_row sessions) db × Has word_at false (map word_row words) db
-
-abbrev pub HasCharges : List StoredBlank → List StoredRemake → Database → Type 0
-HasCharges blanks remakes db = Has blank_at true (map blank_row blanks) db × Has remake_at false (map remake_row remakes) db
-
-abbrev pub HasNames : List Product → List StoredLot → List StoredBatch → List StoredRecord → Database → Type 0
-HasNames products lots batches records db = HasGoods products lots db × HasWork batches records db
-
-abbrev pub HasCards : List StoredSession → List StoredWord → List StoredBlank → List StoredRemake → Database → Type 0
-HasCards sessions words blanks remakes db = HasRuns sessions words db × HasCharges blanks remakes db
-
 abbrev pub HasGroupings : Version → List StoredGrouping → Database → Type 0
 HasGroupings v groupings db = Has (groupings_at v) false (map grouping_row groupings) db
 
-abbrev pub HasKept : List Entry → List Mark → Database → Type 0
-HasKept replies marks db = Has reply_at false (map reply_row replies) db × Has mark_at false (map mark_row marks) db
-
 -- version 1 has no marks
-abbrev pub HasReplies : Version → List Entry → List Mark → Database → Type 0
-HasReplies One replies marks db = Has reply_at false (map reply_row replies) db × (marks ≡ [])
-HasReplies Two replies marks db = HasKept replies marks db
-HasReplies Three replies marks db = HasKept replies marks db
-
-abbrev pub HasChanged : Version → List StoredGrouping → List Entry → List Mark → Database → Type 0
-HasChanged v groupings replies marks db = HasGroupings v groupings db × HasReplies v replies marks db
+abbrev pub HasMarks : Version → List Mark → Database → Type 0
+HasMarks One marks db = marks ≡ []
+HasMarks Two marks db = Has mark_at false (map mark_row marks) db
+HasMarks Three marks db = Has mark_at false (map mark_row marks) db
 
 -- ---- all of them
 
-abbrev pub HasUnchanged : List Product → List StoredLot → List StoredBatch → List StoredRecord → List StoredSession → List StoredWord → List StoredBlank → List StoredRemake → Database → Type 0
-HasUnchanged products lots batches records sessions words blanks remakes db = HasNames products lots batches records db × HasCards sessions words blanks remakes db
+abbrev pub items : {X : Type 0} → Vec X Global → List X
+items all = all.items
 
-abbrev pub tables_of : List Product → List StoredLot → List StoredBatch → List StoredRecord → List StoredSession → List StoredWord → List StoredBlank → List StoredRemake
-    → List StoredGrouping → List Entry → List Mark → Tables
-tables_of products lots batches records sessions words blanks remakes groupings replies marks = record {
-  products = products;
-  lots = lots;
-  batches = batches;
-  records = records;
-  groupings = groupings;
-  sessions = sessions;
-  words = words;
-  blanks = blanks;
-  remakes = remakes;
-  replies = replies;
-  marks = marks;
-}
+-- all rows, where those of each table were read
+abbrev pub tables_of : Option (List Product) → Option (List StoredLot) → Option (List StoredBatch) → Option (List StoredRecord) → Option (List StoredGrouping) → Option (List StoredSession)
+    → Option (List StoredWord) → Option (List StoredBlank) → Option (List StoredRemake) → Option (List Entry) → Option (List Mark) → Option Tables
+tables_of of_products of_lots of_batches of_records of_groupings of_sessions of_words of_blanks of_remakes of_replies of_marks =
+    option_and_then (λ products.
+    option_and_then (λ lots.
+    option_and_then (λ batches.
+    option_and_then (λ records.
+    option_and_then (λ groupings.
+    option_and_then (λ sessions.
+    option_and_then (λ words.
+    option_and_then (λ blanks.
+    option_and_then (λ remakes.
+    option_and_then (λ replies.
+    option_map (λ marks. record {
+      products = products;
+      lots = lots;
+      batches = batches;
+      records = records;
+      groupings = groupings;
+      sessions = sessions;
+      words = words;
+      blanks = blanks;
+      remakes = remakes;
+      replies = replies;
+      marks = marks;
+    }) of_marks) of_replies) of_remakes) of_blanks) of_words) of_sessions) of_groupings) of_records) of_batches) of_lots) of_products
 
 -- where the tables are those of the version and it is told, these are the rows
 abbrev pub HasRows : Version → Database → Tables → Type 0
