@@ -1,9 +1,0 @@
-pub mod Selecting
-pub mod Shapes
-pub mod Telling
-pub mod Meanings
-pub mod Found
-pub mod Alone
-pub mod Rising
-pub mod After
-pub mod Numbers
