@@ -11,8 +11,8 @@ use Rattle.sql_base.specs.Ends.{Ends, IsKept, IsLeft}
 use Rattle.sql_order.specs.declared.versions.Version.{Version}
 use Rattle.sql_order.specs.declared.versions.Version.TheVariants.{Three}
 use Rattle.sql_tables.specs.Tables.{our_schema}
-use Rattle.order_reads.specs.Rowids.{HasApart}
-use Rattle.order_tables.specs.Holding.{HoldsRows}
+use Rattle.table_reads.specs.Rowids.{HasApart}
+use Rattle.table_reads.specs.Holding.{HoldsRows}
 use Rattle.sql_rows.specs.Image.{IsImage}
 use Rattle.table_remakes.specs.Remakes.{Remakes}
 use Rattle.adoption.specs.Adopts.{Settles}

@@ -9,7 +9,7 @@ use Rattle.rows_of_facts.specs.Image.{image}
 use Rattle.sql_base.specs.Ends.{IsKept, IsLeft}
 use Rattle.sql_order.specs.declared.versions.Version.{Version}
 use Rattle.sql_rows.proofs.SameRows.{same_rows}
-use Rattle.order_tables.specs.Holding.{HoldsRows}
+use Rattle.table_reads.specs.Holding.{HoldsRows}
 use Rattle.table_audit.specs.Telling.{AreOfSoundContents}
 use Rattle.adoption.specs.Adopts.{Adopts, Settles}
 use Rattle.adoption.specs.Comes.{Comes}

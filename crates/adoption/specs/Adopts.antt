@@ -6,7 +6,7 @@ use Rattle.table_rows.specs.Tables.{Tables}
 use Rattle.rows_of_facts.specs.Image.{image}
 use Rattle.sql_order.specs.declared.versions.Version.{Version}
 use Rattle.sql_rows.specs.Image.{IsImage}
-use Rattle.order_tables.specs.Holding.{HoldsRows}
+use Rattle.table_reads.specs.Holding.{HoldsRows}
 use Rattle.adoption.specs.declared.faults.AdoptFault.{AdoptFault}
 use Rattle.adoption.specs.declared.faults.AdoptFault.TheVariants as fault
 

@@ -4,16 +4,16 @@ ghost use Rattle.sqlite.specs.Held.{state};
 ghost use Rattle.sqlite.specs.State.{HasCleanDisk, Survives};
 ghost use Rattle.sql_base.specs.Ends.{IsKept, IsLeft};
 ghost use Rattle.sql_order.specs.declared.versions.Version.{Version};
-ghost use Rattle.order_tables.specs.Holding.{HoldsSoundRows, IsOfVersion};
+ghost use Rattle.table_reads.specs.Holding.{HoldsSoundRows, IsOfVersion};
 ghost use Rattle.adoption.specs.Adopts.{Adopts};
 ghost use Rattle.adoption.specs.Comes.{Comes};
 
 use crate::faults::AdoptFault;
 use crate::settling::settle;
-use order_tables::rows_are_held_in_any_order;
 use sqlite::{Alter, Connection};
 use std::alloc::Global;
 use table_audit::{Found, audit};
+use table_reads::rows_are_held_in_any_order;
 
 /// Takes a database whose tables, of any version, hold the rows of sound contents: they then stand
 /// in our own tables. Any other is refused, and stays as it is. A crash leaves what it could leave

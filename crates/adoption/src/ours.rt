@@ -5,15 +5,15 @@ ghost use Rattle.sqlite.specs.State.{HasCleanDisk, Survives};
 ghost use Rattle.sql_base.specs.Ends.{IsKept};
 ghost use Rattle.sql_order.specs.declared.versions.Version.TheVariants.{Three};
 ghost use Rattle.sql_tables.specs.Tables.{our_schema};
-ghost use Rattle.order_reads.specs.Rowids.{HasApart};
+ghost use Rattle.table_reads.specs.Rowids.{HasApart};
 ghost use Rattle.adoption.specs.Adopts.{IsOther};
 
 use crate::faults::AdoptFault;
-use order_reads::has_apart_rowids;
 use sql_order::Version;
 use sql_tables::{has_our_tables, our_tables};
 use sqlite::{Alter, Connection};
 use std::alloc::Global;
+use table_reads::has_apart_rowids;
 
 // Whether our tables stand as they are made, with rowids that rise.
 fn stands_as_made<S: Alter>(alloc: Global, conn: &mut Connection<S>) -> Result<bool, AdoptFault>

@@ -8,11 +8,11 @@ ghost use Rattle.adoption.specs.Comes.{Comes};
 
 use crate::faults::AdoptFault;
 use crate::ours::can_stay;
-use order_tables::our_rows_are_an_image;
 use sql_order::Version;
 use sqlite::{Alter, Connection};
 use std::alloc::Global;
 use stored_rows::Tables;
+use table_reads::our_rows_are_an_image;
 use table_remakes::remake;
 
 /// Tables that stand as our own are made stay as they are. Others are made anew, and their rows put

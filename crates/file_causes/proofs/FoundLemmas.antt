@@ -13,9 +13,9 @@ use Rattle.audit_rows.specs.declared.rule.Rule.{Rule}
 use Rattle.audit_rows.proofs.SoundLemmas.{same_back}
 use Rattle.sql_base.specs.Ends.{IsKept}
 use Rattle.sql_order.specs.declared.versions.Version.{Version}
-use Rattle.order_tables.specs.Holding.{HoldsRows}
-use Rattle.order_tables.specs.Reading.{HasRows, HoldsNoneOf, Reads}
-use Rattle.order_tables.proofs.AnyOrder.{any_order}
+use Rattle.table_reads.specs.Holding.{HoldsRows}
+use Rattle.table_reads.specs.Reading.{HasRows, HoldsNoneOf, Reads}
+use Rattle.table_reads.proofs.AnyOrder.{any_order}
 use Rattle.file_causes.specs.Causes.{IsUndamaged, SaysWhat}
 use Rattle.file_causes.specs.Standings.{Judges, Stands}
 use Rattle.file_causes.specs.declared.damage.Damage.{Damage}

@@ -7,8 +7,8 @@ use Rattle.audit_rows.specs.Rules.{FailsFirst, rules}
 use Rattle.sql_order.specs.Alike.{HasJust}
 use Rattle.sql_order.specs.Versions.{schema_of}
 use Rattle.sql_order.specs.declared.versions.Version.{Version}
-use Rattle.order_tables.specs.Holding.{HoldsRows, HoldsSoundRows, IsOfVersion, SaysVersion}
-use Rattle.order_tables.specs.Reading.{HoldsNoneOf}
+use Rattle.table_reads.specs.Holding.{HoldsRows, HoldsSoundRows, IsOfVersion, SaysVersion}
+use Rattle.table_reads.specs.Reading.{HoldsNoneOf}
 use Rattle.file_causes.specs.Differences.{Differs, nearest}
 use Rattle.file_causes.specs.declared.damage.Damage.{Damage}
 use Rattle.file_causes.specs.declared.damage.Damage.TheVariants.{Broken, UnreadableRow}

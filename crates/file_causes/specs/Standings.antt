@@ -8,7 +8,7 @@ use Rattle.ordered_rows.specs.Order.{AreSorted}
 use Rattle.audit_rows.specs.Rules.{FailsFirst, rules}
 use Rattle.sql_order.specs.Ours.{AreThere}
 use Rattle.sql_order.specs.Versions.{schema_of}
-use Rattle.order_tables.specs.Holding.{IsOfVersion}
+use Rattle.table_reads.specs.Holding.{IsOfVersion}
 use Rattle.file_causes.specs.Causes.{IsNotOurs, SaysHow}
 use Rattle.file_causes.specs.declared.damage.Damage.{Damage}
 use Rattle.file_causes.specs.declared.damage.Damage.TheVariants.{Broken, UnreadableRow}

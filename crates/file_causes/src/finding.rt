@@ -8,7 +8,7 @@ ghost use Rattle.sql_order.specs.Alike.{HasJust};
 ghost use Rattle.sql_order.specs.Ours.{AreThere};
 ghost use Rattle.sql_order.specs.Versions.{schema_of};
 ghost use Rattle.sql_order.specs.declared.versions.Version.{Version as OfVersion};
-ghost use Rattle.order_tables.specs.Holding.{IsOfVersion};
+ghost use Rattle.table_reads.specs.Holding.{IsOfVersion};
 ghost use Rattle.file_causes.specs.Causes.{IsNotOurs, IsUndamaged, SaysHow, SaysWhat};
 ghost use Rattle.file_causes.specs.Differences.{Differs, nearest};
 ghost use Rattle.file_causes.specs.Standings.{Judges, Stands};
@@ -17,13 +17,13 @@ use crate::damage::Damage;
 use crate::difference::Difference;
 use crate::schemas::{nearest, schema_difference};
 use audit_rows::{Rule, first_failing};
-use order_tables::{read_all, says};
 use sql_order::{Version, tables_of, version_in};
 use sql_tables::CreateFault;
 use sqlite::{Alter, Connection, Error};
 use sqlite_schema::schema::Schema;
 use std::alloc::Global;
 use stored_rows::Tables;
+use table_reads::{read_all, says};
 
 // What is made in memory to compare a schema with is empty before, so the first fault doesn't come.
 fn error_of(fault: CreateFault) -> Error {

@@ -12,7 +12,7 @@ use Rattle.sql_order.specs.declared.versions.Version.{Version}
 use Rattle.sql_rows.specs.Image.{IsImage}
 use Rattle.sql_rows.proofs.OneImage.{one_image}
 use Rattle.sql_rows.proofs.SameRows.{same_rows}
-use Rattle.order_tables.specs.Holding.{HoldsRows, HoldsSoundRows}
+use Rattle.table_reads.specs.Holding.{HoldsRows, HoldsSoundRows}
 use Rattle.adoption.specs.Adopts.{Adopts}
 use Rattle.adoption.specs.Comes.{Comes}
 use Rattle.schema.specs.Begun.{WasHeld}

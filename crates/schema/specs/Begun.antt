@@ -8,7 +8,7 @@ use Rattle.rows_of_facts.specs.Image.{image}
 use Rattle.sql_base.specs.Columns.{no_schema}
 use Rattle.sql_base.specs.Ends.{IsLeft}
 use Rattle.sql_order.specs.declared.versions.Version.{Version}
-use Rattle.order_tables.specs.Holding.{HoldsRows}
+use Rattle.table_reads.specs.Holding.{HoldsRows}
 use Rattle.store_commits.specs.Founds.{Founds}
 
 -- the trees that it could leave before, or, where the database was empty, those of our tables without a row

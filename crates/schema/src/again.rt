@@ -2,10 +2,10 @@
 use crate::opening::OpenFault;
 use crate::store::SqlStore;
 use job_core::StoreFault;
-use order_tables::our_rows_are_an_image;
 use reopening::Reopen;
 use sqlite::Alter;
 use std::alloc::Global;
+use table_reads::our_rows_are_an_image;
 
 impl<S: Alter + Drop> Reopen for SqlStore<S> {
     ghost use Rattle.std.specs.Prelude.{IsTrue};

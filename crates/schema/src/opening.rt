@@ -8,7 +8,7 @@ ghost use Rattle.rows_of_facts.specs.Image.{image};
 ghost use Rattle.sql_base.specs.Columns.{no_schema};
 ghost use Rattle.sql_base.specs.Ends.{IsKept, IsLeft};
 ghost use Rattle.sql_order.specs.declared.versions.Version.{Version};
-ghost use Rattle.order_tables.specs.Holding.{HoldsRows, HoldsSoundRows, IsOfVersion};
+ghost use Rattle.table_reads.specs.Holding.{HoldsRows, HoldsSoundRows, IsOfVersion};
 ghost use Rattle.adoption.specs.Adopts.{Adopts};
 ghost use Rattle.schema.specs.Begun.{LeavesNoOther, WasHeld};
 ghost use Rattle.schema.specs.Link.{fault_for, link};
@@ -19,10 +19,10 @@ use crate::store::SqlStore;
 use adoption::{AdoptFault, adopt};
 use facts_of_rows::same_rows_same_contents;
 use job_core::StoreFault;
-use order_tables::{held_rows_are_one, rows_are_held_in_any_order};
 use sqlite::{Alter, Connection};
 use std::alloc::Global;
 use store_commits::{CreateFault, create};
+use table_reads::{held_rows_are_one, rows_are_held_in_any_order};
 
 /// Why no store was made over a database.
 #[derive(Clone, Copy, Debug, PartialEq, Eq)]

@@ -9,12 +9,12 @@ use Rattle.sql_order.specs.Versions.{schema_of}
 use Rattle.sql_order.specs.declared.versions.Version.{Version}
 use Rattle.table_rows.specs.Tables.{Tables}
 use Rattle.rows_of_facts.specs.Image.{image}
-use Rattle.order_tables.specs.Holding.{HoldsRows, IsOfVersion}
-use Rattle.order_tables.specs.Reading.{HasRows, HoldsNoneOf, Reads}
-use Rattle.order_tables.proofs.AnyOrder.{any_order}
-use Rattle.order_tables.proofs.OneHeld.{one_held}
-use Rattle.order_tables.proofs.OneVersion.{one_version}
-use Rattle.order_tables.proofs.SoundRanges.{sound_fit}
+use Rattle.table_reads.specs.Holding.{HoldsRows, IsOfVersion}
+use Rattle.table_reads.specs.Reading.{HasRows, HoldsNoneOf, Reads}
+use Rattle.table_reads.proofs.AnyOrder.{any_order}
+use Rattle.table_reads.proofs.OneHeld.{one_held}
+use Rattle.table_reads.proofs.OneVersion.{one_version}
+use Rattle.table_reads.proofs.SoundRanges.{sound_fit}
 use Rattle.table_audit.specs.Telling.{Judges, Tells}
 use Rattle.table_audit.specs.declared.auditing.Found.{Found}
 use Rattle.table_audit.specs.declared.auditing.Found.TheVariants.{NotOurs, Sound, Unsound}

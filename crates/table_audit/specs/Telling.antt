@@ -5,7 +5,7 @@ use Rattle.sql_order.specs.declared.versions.Version.{Version}
 use Rattle.job_core.specs.Contents.{AreSound, Contents}
 use Rattle.table_rows.specs.Tables.{HaveSameRows, Tables}
 use Rattle.rows_of_facts.specs.Image.{image}
-use Rattle.order_tables.specs.Holding.{HoldsRows, HoldsSoundRows, IsOfVersion}
+use Rattle.table_reads.specs.Holding.{HoldsRows, HoldsSoundRows, IsOfVersion}
 use Rattle.table_audit.specs.declared.auditing.Found.{Found}
 use Rattle.table_audit.specs.declared.auditing.Found.TheVariants.{NotOurs, Sound, Unsound}
 

@@ -6,16 +6,16 @@ ghost use Rattle.sql_base.specs.Ends.{IsKept};
 ghost use Rattle.sql_order.specs.Alike.{HasJust};
 ghost use Rattle.sql_order.specs.Ours.{AreThere};
 ghost use Rattle.sql_order.specs.Versions.{schema_of};
-ghost use Rattle.order_tables.specs.Holding.{IsOfVersion};
+ghost use Rattle.table_reads.specs.Holding.{IsOfVersion};
 ghost use Rattle.table_audit.specs.Telling.{Judges, Tells};
 
 use audit_rows::is_sound;
-use order_tables::{read_all, says};
 use sql_order::{Version, version_in};
 use sql_tables::CreateFault;
 use sqlite::{Alter, Connection, Error};
 use std::alloc::Global;
 use stored_rows::Tables;
+use table_reads::{read_all, says};
 
 /// What an audit found.
 #[derive(Drop)]

@@ -1,5 +1,0 @@
-use Rattle.order_reads.proofs.Found.{all_found}
-use Rattle.order_reads.proofs.laws.our_tables_are_found.Goals as goal
-
-pub returns : goal.returns
-returns c = all_found

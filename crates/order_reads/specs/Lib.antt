@@ -1,6 +1,0 @@
-pub mod Layers
-pub mod Whole
-pub mod Shown
-pub mod Texts
-pub mod Version
-pub mod Rowids

@@ -1,9 +1,0 @@
-pub mod OneVersion
-pub mod OneHeld
-pub mod Together
-pub mod TableReads
-pub mod SoundRanges
-pub mod RowsHeld
-pub mod OurImage
-pub mod AnyOrder
-pub mod SaidVersion

@@ -1,5 +1,0 @@
-use Rattle.order_tables.proofs.AnyOrder.{any_order}
-use Rattle.order_tables.proofs.laws.rows_are_held_in_any_order.Goals as goal
-
-pub returns : goal.returns
-returns c = any_order

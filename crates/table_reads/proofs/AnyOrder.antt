@@ -1,0 +1,47 @@
+-- Rows are held in any order.
+use Rattle.std.proofs.Common.{◌≡◌, ℕ, Bool, List, [], ◌∷◌, map, refl, subst}
+use Rattle.std.specs.List.Sorted.{IsPermutation}
+use Rattle.std.proofs.lemmas.List.Sorted.{IsPermutation-map, IsPermutation-trans, length_permutation}
+use Rattle.sqlite.specs.Effect.{Database}
+use Rattle.sqlite.specs.Order.{Row}
+use Rattle.sqlite.specs.Table.{Table}
+use Rattle.job_core.specs.Contents.{Mark}
+use Rattle.table_rows.specs.Tables.{HaveSameRows, Tables}
+use Rattle.sql_rows.specs.Encoding.{batch_row, blank_row, grouping_row, lot_row, mark_row, product_row, record_row, remake_row, reply_row, session_row, word_row}
+use Rattle.sql_order.specs.declared.versions.Version.{Version}
+use Rattle.sql_order.specs.declared.versions.Version.TheVariants.{One, Two, Three}
+use Rattle.table_reads.specs.Holding.{Holds, HoldsMarks, HoldsRows}
+
+reordered : {X : Type 0} {table : ℕ → Table} {by_rowid : Bool} {db : Database} (encode : X → Row) (xs ys : List X) → IsPermutation xs ys
+    → Holds table by_rowid (map encode ys) db → Holds table by_rowid (map encode xs) db
+reordered encode xs ys same held = record {
+  number = held.number;
+  finds = held.finds;
+  rows_are = IsPermutation-trans (map encode xs) (map encode ys) _ (IsPermutation-map encode xs ys same) held.rows_are;
+}
+
+none_in : {X : Type 0} (xs : List X) → IsPermutation xs [] → xs ≡ []
+none_in [] same = refl
+none_in (x ∷ xs) same = absurd (let e = length_permutation _ _ same in cc)
+
+marks_reordered : (v : Version) (db : Database) (ms ns : List Mark) → IsPermutation ms ns → HoldsMarks v ns db → HoldsMarks v ms db
+marks_reordered One db ms ns same held = none_in ms (subst (IsPermutation ms) held same)
+marks_reordered Two db ms ns same held = reordered mark_row ms ns same held
+marks_reordered Three db ms ns same held = reordered mark_row ms ns same held
+
+pub any_order : (v : Version) (t u : Tables) (db : Database) → HaveSameRows t u → HoldsRows v u db → HoldsRows v t db
+any_order v t u db same held = record {
+  just = held.just;
+  version = held.version;
+  products = reordered product_row _ _ same.products held.products;
+  lots = reordered lot_row _ _ same.lots held.lots;
+  batches = reordered batch_row _ _ same.batches held.batches;
+  records = reordered record_row _ _ same.records held.records;
+  groupings = reordered grouping_row _ _ same.groupings held.groupings;
+  sessions = reordered session_row _ _ same.sessions held.sessions;
+  words = reordered word_row _ _ same.words held.words;
+  blanks = reordered blank_row _ _ same.blanks held.blanks;
+  remakes = reordered remake_row _ _ same.remakes held.remakes;
+  replies = reordered reply_row _ _ same.replies held.replies;
+  marks = marks_reordered v db _ _ same.marks held.marks;
+}

@@ -1,0 +1,56 @@
+-- One read after another, and what they tell of all tables.
+use Rattle.std.proofs.Common.{ℕ, Bool, List, map, Option, Some, None, Vec, Global, MatchOption, All, subst, arith}
+use Rattle.std.specs.Prelude.{option_map, option_and_then}
+use Rattle.std.specs.List.Sorted.{IsPermutation}
+use Rattle.sqlite.specs.Effect.{Database}
+use Rattle.sqlite.specs.Order.{Row}
+use Rattle.sqlite.specs.State.{HasCleanDisk, State, Survives}
+use Rattle.sqlite.specs.Table.{Table}
+use Rattle.sqlite.proofs.StateLemmas.{survives_then}
+use Rattle.sql_base.specs.Ends.{IsKept}
+use Rattle.sql_rows.specs.Image.{told}
+use Rattle.sql_order.specs.Finds.{Finds}
+use Rattle.table_reads.specs.Whole.{NoneStandSo}
+use Rattle.table_reads.specs.Holding.{Holds}
+use Rattle.table_reads.specs.Reading.{Has, Reads, items}
+
+-- ---- states
+
+pub early : (old new : State) → Survives old new (λ _. ⊥) → HasCleanDisk new → HasCleanDisk old
+early old new survives clean = omega (arith, survives.clean)
+
+-- one read after another commits nothing
+pub outlives : {a b c : State} → Survives a b (λ _. ⊥) → Survives b c (λ _. ⊥) → Survives a c (λ _. ⊥)
+outlives {a} {b} {c} one two = survives_then a b c _ _ _ (λ _ db none. none) (λ _ db none. none) one two
+
+pub outlives_four : {a b c d e : State} → Survives a b (λ _. ⊥) → Survives b c (λ _. ⊥) → Survives c d (λ _. ⊥) → Survives d e (λ _. ⊥) → Survives a e (λ _. ⊥)
+outlives_four one two three four = outlives (outlives one two) (outlives three four)
+
+-- ---- what was found
+
+-- what was read of one table
+pub found_as : {X : Type 0} (encode : X → Row) (fits : X → Type 0) (table : ℕ → Table) (by_rowid : Bool) (db : Database) (Refused : Type 0)
+    → (((xs : List X) → All fits xs → Holds table by_rowid (map encode xs) db → ⊥) → Refused) → (found : Option (Vec X Global))
+    → ((tree : ℕ) → Finds db.schema (table tree) → MatchOption found (NoneStandSo encode fits (told by_rowid (db.trees tree))) (λ all. IsPermutation (map encode all.items) (told by_rowid (db.trees tree))))
+    → MatchOption found Refused (λ all. Has table by_rowid (map encode all.items) db)
+found_as encode fits table by_rowid db Refused refuses (Some all) h = h
+found_as encode fits table by_rowid db Refused refuses None h = refuses (λ xs fit held. h held.number held.finds xs fit held.rows_are)
+
+-- the same of the database that was shown at first
+pub carried : {X : Type 0} (R : Database → Type 0) (P : Database → List X → Type 0) (old mid : State) → IsKept old mid → (found : Option (Vec X Global)) → Reads R (λ db all. P db all.items) mid found
+    → MatchOption (option_map items found) (R old.now) (P old.now)
+carried R P old mid kept (Some all) read = subst (λ db. P db all.items) (kept.now_is read.0) read.1
+carried R P old mid kept None read = subst R (kept.now_is read.0) read.1
+
+pub listed : {X : Type 0} (R : Type 0) (P : List X → Type 0) (found : Option (Vec X Global)) → MatchOption found R (λ all. P all.items) → MatchOption (option_map items found) R P
+listed R P (Some all) h = h
+listed R P None h = h
+
+-- the next, where this one was found
+pub then_found : {A B : Type 0} (R : Type 0) (P : A → Type 0) (Q : B → Type 0) (f : A → Option B) (o : Option A) → MatchOption o R P → ((x : A) → P x → MatchOption (f x) R Q) → MatchOption (option_and_then f o) R Q
+then_found R P Q f (Some x) found next = next x found
+then_found R P Q f None lacks next = lacks
+
+pub last_found : {A B : Type 0} (R : Type 0) (P : A → Type 0) (Q : B → Type 0) (f : A → B) (o : Option A) → MatchOption o R P → ((x : A) → P x → Q (f x)) → MatchOption (option_map f o) R Q
+last_found R P Q f (Some x) found next = next x found
+last_found R P Q f None lacks next = lacks

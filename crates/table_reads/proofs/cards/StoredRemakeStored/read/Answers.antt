@@ -1,0 +1,13 @@
+use Rattle.std.proofs.Common.{◌∷◌, refl, sym, ap, ap₂, ◌∙◌}
+use Rattle.sql_rows.specs.Encoding.{number}
+use Rattle.table_reads.specs.Shown.{IsRemakeRow}
+use Rattle.table_reads.proofs.Shapes.{rebuilt}
+use Rattle.table_reads.proofs.cards.StoredRemakeStored.read.Goals as goal
+
+pub returns : goal.returns
+unfolding IsRemakeRow
+returns c is =
+    ap₂ ◌∷◌ (ap number c.number_at-batch.ensures ∙ is.1)
+    (ap₂ ◌∷◌ (ap number c.number_at-place.ensures ∙ is.2)
+    (ap₂ ◌∷◌ (ap number c.number_at-turn.ensures ∙ is.3) refl))
+    ∙ sym (rebuilt 3 c.args.row.now is.0)

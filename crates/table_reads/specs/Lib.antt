@@ -1,0 +1,9 @@
+pub mod Layers
+pub mod Whole
+pub mod Shown
+pub mod Encoded
+pub mod Texts
+pub mod Version
+pub mod Rowids
+pub mod Holding
+pub mod Reading

@@ -1,0 +1,22 @@
+//! Our tables are read whole, and all of any version as rows, in any order and under any numbers.
+#![tactic(auto)]
+
+mod cards;
+mod laws;
+mod names;
+mod reads;
+mod rowids;
+mod stored;
+mod tables;
+mod values;
+mod version;
+
+pub use laws::{
+    held_rows_are_one, our_rows_are_an_image, our_tables_are_found, rows_are_held_in_any_order,
+    sound_rows_fit,
+};
+pub use reads::whole;
+pub use rowids::has_apart_rowids;
+pub use stored::Stored;
+pub use tables::read_all;
+pub use version::says;

@@ -1,0 +1,162 @@
+//! The values of a shown row.
+ghost use Rattle.std.specs.Prelude.{◌≡◌, ◌↔◌, ◌<◌, ◌^◌, IfOk, IsTrue};
+ghost use Rattle.sqlite.specs.Order.{column};
+ghost use Rattle.sqlite.specs.Value.{owned};
+ghost use Rattle.sql_rows.specs.Decoding.{bytes_in, number_in};
+ghost use Rattle.sql_rows.specs.Encoding.{enc_code, flag, record_code, session_code};
+ghost use Rattle.table_reads.specs.Shown.{IsBelow, IsBlob, IsNumber, IsText};
+
+use job_core::{RecordState, SessionState};
+use sqlite::types::ValueRef;
+use sqlite::{Error, Row};
+use std::alloc::Global;
+use store_data::Enc;
+
+// The value in this column; NULL where there is none.
+pub(crate) fn value_at(row: &Row, at: usize) -> ValueRef<'_>
+    ensures { owned result ≡ column row.now at }
+{
+    match row.get_ref(at) {
+        Ok(value) => value,
+        Err(_) => ValueRef::Null,
+    }
+}
+
+// ---- shapes
+
+// Whether the column has a number from 0 on.
+pub(crate) fn is_number(row: &Row, at: usize) -> bool
+    ensures { IsTrue result ↔ IsNumber (column row.now at) }
+{
+    match value_at(row, at) {
+        ValueRef::Int(n) => n >= 0,
+        _ => false,
+    }
+}
+
+// Whether the column has a number below a limit.
+pub(crate) fn is_below(row: &Row, at: usize, limit: u64) -> bool
+    ensures { IsTrue result ↔ IsBelow limit (column row.now at) }
+{
+    is_number(row, at) && number_at(row, at) < limit
+}
+
+// Whether the column has a text.
+pub(crate) fn is_text(row: &Row, at: usize) -> bool
+    ensures { IsTrue result ↔ IsText (column row.now at) }
+{
+    match value_at(row, at) {
+        ValueRef::Text(_) => true,
+        _ => false,
+    }
+}
+
+// Whether the column has bytes.
+pub(crate) fn is_blob(row: &Row, at: usize) -> bool
+    ensures { IsTrue result ↔ IsBlob (column row.now at) }
+{
+    match value_at(row, at) {
+        ValueRef::Blob(_) => true,
+        _ => false,
+    }
+}
+
+// ---- values
+
+// The number in this column; 0 where there is none.
+pub(crate) fn number_at(row: &Row, at: usize) -> u64
+    ensures { result ≡ number_in (column row.now at) }
+{
+    match value_at(row, at) {
+        ValueRef::Int(n) => { if n < 0 { 0 } else { n as u64 } }
+        _ => 0,
+    }
+}
+
+// The number below 2^8 in this column.
+pub(crate) fn byte_at(row: &Row, at: usize) -> u8
+    ensures { number_in (column row.now at) < 256 → result ≡ number_in (column row.now at) }
+{
+    let n = number_at(row, at);
+    if n < 256 { n as u8 } else { 0 }
+}
+
+// The number below 2^16 in this column.
+pub(crate) fn short_at(row: &Row, at: usize) -> u16
+    ensures { number_in (column row.now at) < 65536 → result ≡ number_in (column row.now at) }
+{
+    let n = number_at(row, at);
+    if n < 65_536 { n as u16 } else { 0 }
+}
+
+// The number below 2^32 in this column.
+pub(crate) fn long_at(row: &Row, at: usize) -> u32
+    ensures { number_in (column row.now at) < 2 ^ 32 → result ≡ number_in (column row.now at) }
+{
+    let n = number_at(row, at);
+    if n < 4_294_967_296 { n as u32 } else { 0 }
+}
+
+// The mark that the number in this column stands for.
+pub(crate) fn flag_at(row: &Row, at: usize) -> bool
+    ensures { number_in (column row.now at) < 2 → flag result ≡ number_in (column row.now at) }
+{
+    match number_at(row, at) {
+        0 => false,
+        _ => true,
+    }
+}
+
+// The state of a record that the number in this column stands for.
+pub(crate) fn record_state_at(row: &Row, at: usize) -> RecordState
+    ensures { number_in (column row.now at) < 5
+        → record_code result ≡ number_in (column row.now at) }
+{
+    match number_at(row, at) {
+        0 => RecordState::Waiting,
+        1 => RecordState::Running,
+        2 => RecordState::Failed,
+        3 => RecordState::Withdrawn,
+        _ => RecordState::Good,
+    }
+}
+
+// The state of a session that the number in this column stands for.
+pub(crate) fn session_state_at(row: &Row, at: usize) -> SessionState
+    ensures { number_in (column row.now at) < 3
+        → session_code result ≡ number_in (column row.now at) }
+{
+    match number_at(row, at) {
+        0 => SessionState::Running,
+        1 => SessionState::Good,
+        _ => SessionState::Spoiled,
+    }
+}
+
+// The mark of encipherment that the number in this column stands for.
+pub(crate) fn enc_at(row: &Row, at: usize) -> Enc
+    ensures { number_in (column row.now at) < 3 → enc_code result ≡ number_in (column row.now at) }
+{
+    match number_at(row, at) {
+        0 => Enc::Plain,
+        1 => Enc::All,
+        _ => Enc::Mixed,
+    }
+}
+
+fn bytes_of(alloc: Global, value: ValueRef<'_>) -> Result<Vec<u8>, Error>
+    ensures { IfOk result (λ bytes. bytes.items ≡ bytes_in (owned value.entry)) }
+{
+    match value {
+        ValueRef::Text(bytes) => Ok(bytes.to_vec(alloc)?),
+        ValueRef::Blob(bytes) => Ok(bytes.to_vec(alloc)?),
+        _ => Ok(Vec::new(alloc)),
+    }
+}
+
+// The bytes in this column; none where there is neither a text nor a blob.
+pub(crate) fn bytes_at(alloc: Global, row: &Row, at: usize) -> Result<Vec<u8>, Error>
+    ensures { IfOk result (λ bytes. bytes.items ≡ bytes_in (column row.now at)) }
+{
+    bytes_of(alloc, value_at(row, at))
+}

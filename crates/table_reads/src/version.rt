@@ -1,0 +1,83 @@
+//! The row of `version` is read.
+ghost use Rattle.std.specs.Prelude.{◌≡◌, ◌↔◌, ℕ, [], ◌∷◌, false, true, IfOk, IsPermutation, IsTrue};
+ghost use Rattle.sqlite.specs.Held.{state};
+ghost use Rattle.sqlite.specs.Order.{column};
+ghost use Rattle.sqlite.specs.State.{HasCleanDisk, Survives};
+ghost use Rattle.sql_base.specs.Ends.{IsKept};
+ghost use Rattle.sql_order.specs.Finds.{Finds};
+ghost use Rattle.sql_order.specs.Ours.{AreThere};
+ghost use Rattle.sql_order.specs.Versions.{numbered_version_at, schema_of};
+ghost use Rattle.sql_rows.specs.Encoding.{number};
+ghost use Rattle.sql_rows.specs.Image.{told};
+ghost use Rattle.table_reads.specs.Holding.{SaysVersion, number_of};
+ghost use Rattle.table_reads.specs.Version.{IsVersionAlone, IsVersionRow, numbered_row};
+
+use crate::reads::whole_rows;
+use crate::values::{is_number, number_at};
+use sql_order::Version;
+use sqlite::{Alter, Connection, Error, Row};
+
+fn is_exactly(row: &Row, at: usize, n: u64) -> bool
+    ensures { IsTrue result ↔ (column row.now at ≡ number n) }
+{
+    is_number(row, at) && number_at(row, at) == n
+}
+
+#[tactic(auto, unfolding(crate::specs::Version::IsVersionRow))]
+fn is_version_row(row: &Row, version: u64) -> bool
+    ensures { IsTrue result ↔ IsVersionRow version row.now }
+{
+    row.column_count() == 2 && is_exactly(row, 0, 1) && is_exactly(row, 1, version)
+}
+
+fn is_version_alone(rows: &[Row], version: u64) -> bool
+    ensures { IsTrue result ↔ IsVersionAlone version rows.now }
+{
+    match rows {
+        [row] => is_version_row(row, version),
+        _ => false,
+    }
+}
+
+// Whether `version` has one row, which says this version.
+fn says_version<S: Alter>(conn: &mut Connection<S>, version: u64) -> Result<bool, Error>
+    requires { conn.old.in_transaction ≡ false }
+    ensures told { HasCleanDisk (state S.Store conn.new) → IfOk result
+        (λ says. IsTrue (state S.Store conn.old).is_open × ((n tree : ℕ)
+        → Finds (state S.Store conn.old).now.schema (numbered_version_at n tree)
+        → IsTrue says ↔ IsPermutation (numbered_row version ∷ [])
+        (told true ((state S.Store conn.old).now.trees tree)))) }
+    ensures kept { HasCleanDisk (state S.Store conn.new)
+        → IsKept (state S.Store conn.old) (state S.Store conn.new) }
+    ensures idle { conn.new.in_transaction ≡ false }
+    ensures survives { Survives (state S.Store conn.old) (state S.Store conn.new) (λ _. ⊥) }
+{
+    let rows = whole_rows(conn, "SELECT * FROM version")?;
+    Ok(is_version_alone(rows.as_slice(), version))
+}
+
+fn number(version: Version) -> u64
+    ensures { result ≡ number_of version }
+{
+    match version {
+        Version::One => 1,
+        Version::Two => 2,
+        Version::Three => 3,
+    }
+}
+
+/// Whether `version` has one row, which says this version, where its tables stand. Nothing is
+/// changed, and a crash leaves what it could leave before.
+pub fn says<S: Alter>(conn: &mut Connection<S>, version: Version) -> Result<bool, Error>
+    requires { conn.old.in_transaction ≡ false }
+    ensures told { HasCleanDisk (state S.Store conn.new) → IfOk result
+        (λ says. IsTrue (state S.Store conn.old).is_open
+        × (AreThere (state S.Store conn.old).now.schema (schema_of version).tables
+        → IsTrue says ↔ SaysVersion version (state S.Store conn.old).now)) }
+    ensures kept { HasCleanDisk (state S.Store conn.new)
+        → IsKept (state S.Store conn.old) (state S.Store conn.new) }
+    ensures idle { conn.new.in_transaction ≡ false }
+    ensures survives { Survives (state S.Store conn.old) (state S.Store conn.new) (λ _. ⊥) }
+{
+    says_version(conn, number(version))
+}
