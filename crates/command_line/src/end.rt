@@ -8,13 +8,13 @@ use batch_import::RowFault;
 use drill::DrillStop;
 use feeding::FeedStop;
 use job_core::{Refusal, StoreFault};
+use over_tables::FileFault;
 use plan_print::PlanStop;
 use program_words::WordsFault;
 use reports::AccountFault;
 use server_lines::ServeStop;
 use std::error::Error;
 use std::fmt;
-use over_tables::FileFault;
 
 /// What a run came to.
 #[derive(Clone, Copy, Debug, PartialEq, Eq)]

@@ -9,11 +9,11 @@ use crate::end::End;
 use connection_lines::note_line;
 use event_lines::{EventLine, EventLog, Level, level_of};
 use job_core::StoreFault;
+use over_tables::{FileFault, Wanted};
 use program_words::{Words, WordsFault};
 use std::alloc::{AllocError, Global};
 use std::env::VarError;
 use std::io::Write;
-use over_tables::{FileFault, Wanted};
 use text_io::{WriteFailed, write_text};
 
 /// Which event lines are written, by what the environment's variable is found to be. A value that

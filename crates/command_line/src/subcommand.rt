@@ -10,9 +10,9 @@ ghost use Rattle.command_line.specs.declared.end.End.TheVariants.{WriteFailed};
 
 use crate::end::End;
 use drill::DrillStop;
-use over_tables::drill_engine;
 use event_lines::EventLog;
 use feeding::{Exchange, feed_with_events};
+use over_tables::drill_engine;
 use plan_print::plan_engine;
 use program_words::{FeedStart, Words};
 use std::alloc::Global;

@@ -1,4 +1,5 @@
 //! Why a file is not taken that isn't there, or that is no database of ours.
+use over_tables::{Cause, FileFault, Wanted};
 use schema::SqlStore;
 use sqlite::{Connection, FileStore};
 use sqlite_disk::{Disk, Unknown};
@@ -6,7 +7,6 @@ use std::alloc::AllocError;
 use std::io::{self, Write};
 use std::test::Fail;
 use std::{env, fs, process};
-use over_tables::{Cause, FileFault, Wanted};
 use store_files::{Found, Place, StoreTask, place_of, with_store};
 
 // Closes the store, and says how its file was found.

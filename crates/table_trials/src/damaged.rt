@@ -4,12 +4,12 @@ use crate::refused::tables;
 use crate::stops::adopted;
 use crate::stories::{MADE_AGAIN, SET_UP};
 use crate::versions::{all_rows, tell};
+use over_tables::{FileFault, Wanted, store_over};
 use schema::SqlStore;
 use sqlite::{Alter, Connection};
 use std::alloc::{AllocError, Global};
 use std::process::Abort;
 use std::test::Fail;
-use over_tables::{FileFault, Wanted, store_over};
 
 // What is changed, the statements that change it, and why the database is refused then: the refusal,
 // its cause, and the name of what differs.

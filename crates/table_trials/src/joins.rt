@@ -6,12 +6,12 @@ use command_line::{End, end_of_close, explain, level_by, note_refusal, told_end,
 use event_lines::{EventLog, Level};
 use file_causes::{Damage, Difference};
 use job_core::StoreFault;
+use over_tables::{Cause, FileFault, Wanted};
 use program_words::{WordsFault, read_words};
 use std::alloc::{AllocError, Global};
 use std::env::VarError;
 use std::process::Abort;
 use std::test::Fail;
-use over_tables::{Cause, FileFault, Wanted};
 
 // What words that give no subcommand print into two pages, and how much of each is used.
 fn explained(
