@@ -5,4 +5,4 @@ set -eu
 cd "$(dirname "$0")"
 made=$(mktemp -d)
 trap 'rm -rf "$made"' EXIT
-python3 -B adopt.py "$(./measure_adopt.sh "$made")" "$@"
+python3 -B adopt.py "$(./measured.sh "$made" measure_adopt schema sqlite)" "$@"

@@ -5,4 +5,4 @@ set -eu
 cd "$(dirname "$0")"
 made=$(mktemp -d)
 trap 'rm -rf "$made"' EXIT
-python3 -B tables.py "$(./measure_tables.sh "$made")" "$@"
+python3 -B tables.py "$(./measured.sh "$made" measure_tables schema server sqlite)" "$@"

@@ -4,4 +4,4 @@ set -eu
 cd "$(dirname "$0")"
 made=$(mktemp -d)
 trap 'rm -rf "$made"' EXIT
-python3 -B tables_read.py "$(./measure_tables.sh "$made")"
+python3 -B tables_read.py "$(./measured.sh "$made" measure_tables schema server sqlite)"
