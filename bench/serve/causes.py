@@ -201,6 +201,25 @@ def refused(program: str, file: File, database: pathlib.Path, user: Optional[str
     return runs
 
 
+# A process that reads a file loses its own locks on it, so one of its own holds it.
+HOLDER = (
+    "import sqlite3, sys\n"
+    "link = sqlite3.connect(sys.argv[1])\n"
+    "print(*link.execute('SELECT count(*) FROM reply').fetchone(), flush=True)\n"
+    "sys.stdin.read()"
+)
+
+
+@contextmanager
+def held(database: pathlib.Path) -> Iterator[None]:
+    """The file is open in an idle C's SQLite."""
+    with subprocess.Popen([sys.executable, "-c", HOLDER, str(database)], stdin=subprocess.PIPE, stdout=subprocess.PIPE) as holder:
+        assert holder.stdout and holder.stdin
+        holder.stdout.readline()
+        yield
+        holder.stdin.close()
+
+
 def in_use(program: str, base: pathlib.Path) -> int:
     """A file that a server or an idle C's SQLite has open. How many runs that were."""
     file = File("in use", no_file, 81, "in-use")
@@ -208,10 +227,8 @@ def in_use(program: str, base: pathlib.Path) -> int:
         server = Server(program, database, free_port())
         runs = refused(program, file, database)
         server.kill()
-        link = sqlite3.connect(database)
-        link.execute("SELECT count(*) FROM reply").fetchone()
-        runs += refused(program, file, database)
-        link.close()
+        with held(database):
+            runs += refused(program, file, database)
     return runs
 
 
