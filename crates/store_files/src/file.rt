@@ -1,6 +1,6 @@
 //! The store in the file at a path.
+use crate::faults::{absent, unopened};
 use crate::place::{has_log, place_of};
-use crate::unopened::{absent, unopened};
 use over_tables::{FileFault, Wanted, begins, store_over};
 use schema::SqlStore;
 use sqlite::{Connection, FileStore};

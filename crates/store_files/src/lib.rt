@@ -1,10 +1,10 @@
 //! The store in a file: what the file system says of its path, opened, and used once.
 #![tactic(auto)]
 
+mod faults;
 mod file;
 mod place;
-mod unopened;
 
+pub use faults::unopened;
 pub use file::{Found, StoreTask, with_store};
 pub use place::{Place, place_of};
-pub use unopened::unopened;
