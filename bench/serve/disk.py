@@ -7,6 +7,7 @@ The batch is one of bench/make_batch.py, with N cards of one application; with -
 The file is looked at after each fourth of the cards, each time after `served N`, so that its log is in it. Then the machine starts with its next boot:
 its release frees the replies that were kept for it, and the same room is used again. The largest size of the log is printed too."""
 import argparse
+import contextlib
 import pathlib
 import random
 import sqlite3
@@ -47,7 +48,7 @@ class Log(threading.Thread):
 
     def run(self) -> None:
         while True:
-            if self.path.exists():
+            with contextlib.suppress(FileNotFoundError):
                 self.most = max(self.most, self.path.stat().st_size)
             time.sleep(0.02)
 
