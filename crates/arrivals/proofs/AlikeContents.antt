@@ -4,15 +4,15 @@ use Rattle.std.specs.Prelude.{bytes_eq, filter, max, nat_le, nat_lt, ifâ—Œthenâ—
 use Rattle.std.proofs.lemmas.Bool.{and_from, and_parts, both_ways, cases_Bool, eqb-true, false_from_ne_true}
 use Rattle.std.proofs.lemmas.List.Sorted.{IsPermutation-append_left, IsPermutation-map, list_any-IsPermutation}
 use Rattle.std.proofs.lemmas.Slice.Eq.{bytes_eq-Decides}
-use Rattle.job_core.specs.declared.refusal.Refusal.TheVariants.{ReleaseTooFar}
-use Rattle.job_core.specs.declared.reply.Reply.TheVariants.{Refused, Released, NumberReleased}
-use Rattle.job_core.specs.declared.request.Request.{Request}
-use Rattle.job_core.specs.declared.request.Call.{Call}
-use Rattle.job_core.specs.declared.request.Call.TheVariants.{Job, Release}
-use Rattle.job_core.specs.Contents.{AreSame, AreSameFacts, AreSound, Contents, Entry, Mark, above, entry_of, has_mark, is_above, is_of_number, mark_of, with_mark}
-use Rattle.job_core.specs.Facts.{Facts}
-use Rattle.job_core.specs.Sound.{IsSound}
-use Rattle.job_core.specs.Steps.{by_option, step}
+use Rattle.job_facts.specs.declared.refusal.Refusal.TheVariants.{ReleaseTooFar}
+use Rattle.job_facts.specs.declared.reply.Reply.TheVariants.{Refused, Released, NumberReleased}
+use Rattle.job_facts.specs.declared.request.Request.{Request}
+use Rattle.job_facts.specs.declared.request.Call.{Call}
+use Rattle.job_facts.specs.declared.request.Call.TheVariants.{Job, Release}
+use Rattle.job_facts.specs.Contents.{AreSame, AreSameFacts, AreSound, Contents, Entry, Mark, above, entry_of, has_mark, is_above, is_of_number, mark_of, with_mark}
+use Rattle.job_facts.specs.Facts.{Facts}
+use Rattle.job_facts.specs.Sound.{IsSound}
+use Rattle.job_facts.specs.Steps.{by_option, step}
 use Rattle.step_laws.specs.Alike.{AreAlike}
 use Rattle.step_laws.proofs.Permuted.{IsPermutation-filter, at_most_one, find_moved}
 use Rattle.arrivals.specs.Laws.{AreToldAlike}

@@ -7,19 +7,19 @@ use Rattle.store_data.specs.declared.row.Product.{Product}
 use Rattle.store_data.specs.declared.row.Row.{Row}
 use Rattle.batch_import.specs.declared.fault.RowFault.{RowFault}
 use Rattle.batch_import.specs.Batch.{batch_of}
-use Rattle.job_core.specs.declared.facts.Lot.{Lot}
-use Rattle.job_core.specs.declared.facts.RecordState.{RecordState}
-use Rattle.job_core.specs.declared.facts.RecordState.TheVariants as rec
-use Rattle.job_core.specs.Contents.{Mark}
-use Rattle.job_core.specs.declared.request.Call.{Call}
-use Rattle.job_core.specs.declared.request.Call.TheVariants.{Job, Release}
-use Rattle.job_core.specs.declared.request.Request.{Request}
-use Rattle.job_core.specs.declared.request.Request.TheVariants as request
-use Rattle.job_core.specs.declared.reply.Reply.{Reply}
-use Rattle.job_core.specs.Facts.{Batch, Facts, Session}
-use Rattle.job_core.specs.States.{any_overlaps, batch_named, command_bytes, commands_for, first_waiting, goes_at, is_batch_finished, is_charged, is_closed, is_running, lot_named, lot_of, product_named, record_state_of, running_session, session_numbered, session_state}
-use Rattle.job_core.specs.Steps.{Outcome, by_option, in_batch, in_record, in_session, remade, same_batch, same_lot, same_product, step, step_answer, step_import, step_lot, step_open, step_product, taken_in, withdrawn}
-use Rattle.job_core.specs.Sound.{IsSound}
+use Rattle.job_facts.specs.declared.facts.Lot.{Lot}
+use Rattle.job_facts.specs.declared.facts.RecordState.{RecordState}
+use Rattle.job_facts.specs.declared.facts.RecordState.TheVariants as rec
+use Rattle.job_facts.specs.Contents.{Mark}
+use Rattle.job_facts.specs.declared.request.Call.{Call}
+use Rattle.job_facts.specs.declared.request.Call.TheVariants.{Job, Release}
+use Rattle.job_facts.specs.declared.request.Request.{Request}
+use Rattle.job_facts.specs.declared.request.Request.TheVariants as request
+use Rattle.job_facts.specs.declared.reply.Reply.{Reply}
+use Rattle.job_facts.specs.Facts.{Batch, Facts, Session}
+use Rattle.job_facts.specs.States.{any_overlaps, batch_named, command_bytes, commands_for, first_waiting, goes_at, is_batch_finished, is_charged, is_closed, is_running, lot_named, lot_of, product_named, record_state_of, running_session, session_numbered, session_state}
+use Rattle.job_facts.specs.Steps.{Outcome, by_option, in_batch, in_record, in_session, remade, same_batch, same_lot, same_product, step, step_answer, step_import, step_lot, step_open, step_product, taken_in, withdrawn}
+use Rattle.job_facts.specs.Sound.{IsSound}
 use Rattle.arrivals.specs.Commands.{HandsOutNext}
 use Rattle.arrivals.specs.Meaning.{reply_by}
 use Rattle.arrivals.proofs.Sequences.{first_command, next_command}

@@ -7,11 +7,11 @@ use Rattle.std.proofs.lemmas.List.Elements.{All-filter, All-head, All-push, All-
 use Rattle.std.proofs.lemmas.List.Folds.{find-append}
 use Rattle.std.proofs.lemmas.Option.{none-some, same_Some}
 use Rattle.std.proofs.lemmas.Slice.Eq.{bytes_eq-Decides}
-use Rattle.job_core.specs.declared.request.Call.{Call}
-use Rattle.job_core.specs.declared.request.Call.TheVariants.{Job, Release}
-use Rattle.job_core.specs.declared.reply.Reply.TheVariants.{NumberReleased}
-use Rattle.job_core.specs.Steps.{by_option}
-use Rattle.job_core.specs.Contents.{Contents, Entry, Mark, above, entry_of, has_mark, is_above, mark_of, with_mark}
+use Rattle.job_facts.specs.declared.request.Call.{Call}
+use Rattle.job_facts.specs.declared.request.Call.TheVariants.{Job, Release}
+use Rattle.job_facts.specs.declared.reply.Reply.TheVariants.{NumberReleased}
+use Rattle.job_facts.specs.Steps.{by_option}
+use Rattle.job_facts.specs.Contents.{Contents, Entry, Mark, above, entry_of, has_mark, is_above, mark_of, with_mark}
 use Rattle.arrivals.specs.Laws.{AreAbove}
 use Rattle.arrivals.specs.Told.{Told, told_of}
 use Rattle.arrivals.specs.Meaning.{Arrived, contents_after, contents_with, entry_with, is_among, is_released, mark_by, marks_by, marks_with, number_of, reply_to, told_by, told_on}

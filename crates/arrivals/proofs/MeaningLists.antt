@@ -6,8 +6,8 @@ use Rattle.std.proofs.lemmas.Bool.Decides.{nat_tests}
 use Rattle.std.proofs.lemmas.List.{map-append}
 use Rattle.std.proofs.lemmas.List.Elements.{filter-append}
 use Rattle.std.proofs.lemmas.Slice.Eq.{bytes_eq-Decides}
-use Rattle.job_core.specs.Facts.{Facts}
-use Rattle.job_core.specs.Contents.{Contents, Entry, Mark, above, entry_of, is_above, mark_of}
+use Rattle.job_facts.specs.Facts.{Facts}
+use Rattle.job_facts.specs.Contents.{Contents, Entry, Mark, above, entry_of, is_above, mark_of}
 use Rattle.arrivals.specs.Laws.{AreAbove}
 use Rattle.arrivals.specs.Meaning.{Arrived, Number, contents_after, contents_with, entries_of, entry_with, facts_after, facts_with, firsts, is_among, is_released, marks_after, marks_with, number_of, reply_to}
 use Rattle.arrivals.proofs.MeaningLemmas.{above_after, among_kept, contents_new, contents_old, contents_released, marks_grow, same_contents}

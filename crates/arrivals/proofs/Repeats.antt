@@ -5,9 +5,9 @@ use Rattle.std.proofs.lemmas.Bool.{and_parts, cases_Bool, cond-true, cond-false,
 use Rattle.std.proofs.lemmas.Bool.Decides.{nat_tests}
 use Rattle.std.proofs.lemmas.Option.{none-some}
 use Rattle.std.proofs.lemmas.Slice.Eq.{bytes_eq-Decides}
-use Rattle.job_core.specs.declared.reply.Reply.TheVariants.{NumberReleased}
-use Rattle.job_core.specs.Steps.{by_option}
-use Rattle.job_core.specs.Contents.{Contents, Entry, Mark, above, entry_of, is_above, mark_of}
+use Rattle.job_facts.specs.declared.reply.Reply.TheVariants.{NumberReleased}
+use Rattle.job_facts.specs.Steps.{by_option}
+use Rattle.job_facts.specs.Contents.{Contents, Entry, Mark, above, entry_of, is_above, mark_of}
 use Rattle.arrivals.specs.Laws.{AreAbove, RepeatsAreTold}
 use Rattle.arrivals.specs.Told.{Told, reused, told_of}
 use Rattle.arrivals.specs.Meaning.{Arrived, contents_after, entry_with, is_released, marks_with, reply_to, told_by, told_on}

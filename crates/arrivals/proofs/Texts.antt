@@ -1,8 +1,8 @@
 -- The values of replies have no float.
 use Rattle.std.proofs.Common.{◌≡◌, false, refl}
 use Rattle.serde_json.specs.Written.{has_float}
-use Rattle.job_core.specs.declared.reply.Reply.{Reply}
-use Rattle.job_core.specs.declared.reply.Reply.TheVariants.{Product, Lot, Import, Opened, Next, Good, Spoiled, Reset, Discarded, Waiting, Withdrawn, Closed, Refused, Busy, Released, NumberReleased, Faulty}
+use Rattle.job_facts.specs.declared.reply.Reply.{Reply}
+use Rattle.job_facts.specs.declared.reply.Reply.TheVariants.{Product, Lot, Import, Opened, Next, Good, Spoiled, Reset, Discarded, Waiting, Withdrawn, Closed, Refused, Busy, Released, NumberReleased, Faulty}
 use Rattle.arrivals.specs.Values.{value_of}
 
 pub no_float : (r : Reply) → has_float (value_of r) ≡ false

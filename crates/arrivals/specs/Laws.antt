@@ -1,6 +1,6 @@
 -- Laws of what arrivals mean.
 use Rattle.std.specs.Prelude.{◌≡◌, false, List, [], ◌∷◌, ◌++◌, All, true}
-use Rattle.job_core.specs.Contents.{AreSame, AreSound, Contents, Entry, is_above}
+use Rattle.job_facts.specs.Contents.{AreSame, AreSound, Contents, Entry, is_above}
 use Rattle.arrivals.specs.Meaning.{Arrived, contents_after, is_released, told_on}
 
 -- what is kept stands under numbers that are not released, as in sound contents

@@ -1,15 +1,15 @@
 -- What arrivals mean: the first of each number acts, each later one is told what is kept, and one whose number is released is told so.
 use Rattle.std.specs.Prelude.{ℕ, ◌==◌, ◌&&◌, ◌||◌, nat_le, max, Bool, if◌then◌else◌, List, [], ◌∷◌, ◌++◌, map, bytes_eq, Option, option_map}
 use Rattle.std.specs.List.{list_any}
-use Rattle.job_core.specs.declared.request.Call.{Call}
-use Rattle.job_core.specs.declared.request.Call.TheVariants.{Job, Release}
-use Rattle.job_core.specs.declared.refusal.Refusal.TheVariants.{ReleaseTooFar}
-use Rattle.job_core.specs.declared.reply.Reply.{Reply}
-use Rattle.job_core.specs.declared.reply.Reply.TheVariants.{Refused, Released, NumberReleased}
-use Rattle.job_core.specs.declared.rows.KeptReply.{KeptReply}
-use Rattle.job_core.specs.Facts.{Facts}
-use Rattle.job_core.specs.Steps.{by_option, step}
-use Rattle.job_core.specs.Contents.{Contents, Entry, Mark, above, entry_of, mark_of, reply_of_entry, with_mark}
+use Rattle.job_facts.specs.declared.request.Call.{Call}
+use Rattle.job_facts.specs.declared.request.Call.TheVariants.{Job, Release}
+use Rattle.job_facts.specs.declared.refusal.Refusal.TheVariants.{ReleaseTooFar}
+use Rattle.job_facts.specs.declared.reply.Reply.{Reply}
+use Rattle.job_facts.specs.declared.reply.Reply.TheVariants.{Refused, Released, NumberReleased}
+use Rattle.job_facts.specs.declared.rows.KeptReply.{KeptReply}
+use Rattle.job_facts.specs.Facts.{Facts}
+use Rattle.job_facts.specs.Steps.{by_option, step}
+use Rattle.job_facts.specs.Contents.{Contents, Entry, Mark, above, entry_of, mark_of, reply_of_entry, with_mark}
 use Rattle.arrivals.specs.Told.{Told, status_of, body_of, reused, told_of}
 
 -- a call under its client's number, with the bytes that asked for it

@@ -1,8 +1,8 @@
 -- What is told of a reply (this project's profile): its status, and its body, which is compact JSON (RFC 8259) with the members in order of their names.
 use Rattle.std.specs.Prelude.{ℕ, List}
-use Rattle.job_core.specs.declared.refusal.Refusal.TheVariants.{NumberReused}
-use Rattle.job_core.specs.declared.reply.Reply.{Reply}
-use Rattle.job_core.specs.declared.reply.Reply.TheVariants.{Product, Lot, Import, Opened, Next, Good, Spoiled, Reset, Discarded, Waiting, Withdrawn, Closed, Refused, Busy, Released, NumberReleased, Faulty}
+use Rattle.job_facts.specs.declared.refusal.Refusal.TheVariants.{NumberReused}
+use Rattle.job_facts.specs.declared.reply.Reply.{Reply}
+use Rattle.job_facts.specs.declared.reply.Reply.TheVariants.{Product, Lot, Import, Opened, Next, Good, Spoiled, Reset, Discarded, Waiting, Withdrawn, Closed, Refused, Busy, Released, NumberReleased, Faulty}
 use Rattle.arrivals.specs.declared.kept.Kept.{Kept}
 use Rattle.serde_json.specs.Written.{compact_text}
 use Rattle.arrivals.specs.Values.{value_of}

@@ -5,11 +5,11 @@ use Rattle.hex.specs.Hex.{encode_upper}
 use Rattle.serde_json.specs.Data.{Data, number, unsigned, string, object, member, no_members}
 use Rattle.store_data.specs.Name.{is_name_char}
 use Rattle.batch_import.specs.Kinds.{code_of as kind_code_of, name_of as kind_name_of}
-use Rattle.job_core.specs.Refusals.{code_of, name_of}
-use Rattle.job_core.specs.declared.reply.Reply.{Reply}
-use Rattle.job_core.specs.declared.reply.Reply.TheVariants.{Product, Lot, Import, Opened, Next, Good, Spoiled, Reset, Discarded, Waiting, Withdrawn, Closed, Refused, Busy, Released, NumberReleased, Faulty}
-use Rattle.job_core.specs.declared.reply.Made.{Made}
-use Rattle.job_core.specs.declared.reply.Made.TheVariants.{Created, Known}
+use Rattle.job_facts.specs.Refusals.{code_of, name_of}
+use Rattle.job_facts.specs.declared.reply.Reply.{Reply}
+use Rattle.job_facts.specs.declared.reply.Reply.TheVariants.{Product, Lot, Import, Opened, Next, Good, Spoiled, Reset, Discarded, Waiting, Withdrawn, Closed, Refused, Busy, Released, NumberReleased, Faulty}
+use Rattle.job_facts.specs.declared.reply.Made.{Made}
+use Rattle.job_facts.specs.declared.reply.Made.TheVariants.{Created, Known}
 
 abbrev pub made_name : Made → List ℕ
 made_name Created = codes "created"

@@ -7,7 +7,7 @@ ghost use Rattle.arrivals.specs.Told.{body_of, status_of};
 ghost use Rattle.arrivals.specs.Values.{IsPlain, ended_value, made_name, record_value, value_of};
 
 use batch_import::RowFault;
-use job_core::{Made, Refusal, Reply};
+use job_facts::{Made, Refusal, Reply};
 use serde_json::{Value, json};
 use std::alloc::{AllocError, Global};
 use store_data::{Bytes, Name};

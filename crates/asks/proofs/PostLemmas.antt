@@ -10,8 +10,8 @@ use Rattle.std.proofs.lemmas.Fmt.{decimal_is_IsNumeral, decimal_nonempty, first_
 use Rattle.std.proofs.lemmas.List.Folds.{list_all-append}
 use Rattle.matchit.specs.Seek.{has_slash}
 use Rattle.store_data.specs.Name.{is_name, is_name_char}
-use Rattle.job_core.specs.declared.request.Call.TheVariants as call
-use Rattle.job_core.specs.declared.request.Request.TheVariants as request
+use Rattle.job_facts.specs.declared.request.Call.TheVariants as call
+use Rattle.job_facts.specs.declared.request.Request.TheVariants as request
 use Rattle.text_io.specs.Inputs.{most_input}
 use Rattle.heads.specs.Messages.{Brings, IsHeardAs, MessageParts}
 use Rattle.heads.specs.RequestHeads.{IsHeardBefore, IsTarget, is_visible, posted, request_head}

@@ -4,10 +4,10 @@ use Rattle.std.specs.List.{list_all}
 use Rattle.std.specs.Char.{is_ascii_digit}
 use Rattle.std.specs.Str.Parse.{digits_value}
 use Rattle.store_data.specs.Name.{is_name}
-use Rattle.job_core.specs.declared.request.Call.{Call}
-use Rattle.job_core.specs.declared.request.Call.TheVariants as call
-use Rattle.job_core.specs.declared.request.Request.TheVariants as request
-use Rattle.job_core.specs.Requests.{IsArrival}
+use Rattle.job_facts.specs.declared.request.Call.{Call}
+use Rattle.job_facts.specs.declared.request.Call.TheVariants as call
+use Rattle.job_facts.specs.declared.request.Request.TheVariants as request
+use Rattle.job_facts.specs.Requests.{IsArrival}
 use Rattle.asks.specs.declared.ask.Asked.{Asked}
 use Rattle.asks.specs.declared.ask.Asked.TheVariants as asked
 use Rattle.asks.specs.declared.ask.AskFault.{AskFault}

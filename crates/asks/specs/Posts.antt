@@ -1,6 +1,6 @@
 -- The messages that clients post (this project's profile), and what they mean.
 use Rattle.std.specs.Prelude.{ℕ, List, ◌++◌, length, codes, decimal, Option, Some}
-use Rattle.job_core.specs.declared.request.Call.{Call}
+use Rattle.job_facts.specs.declared.request.Call.{Call}
 use Rattle.heads.specs.RequestHeads.{request_head}
 use Rattle.asks.specs.Asks.{arrival_of, ask_with, or_malformed}
 use Rattle.asks.specs.Meant.{Meant, meant_by}

@@ -1,9 +1,9 @@
 //! The messages that clients post.
 ghost use Rattle.std.specs.Prelude.{◌≡◌, ◌<◌, ◌≤◌, ◌^◌, [], IfOk, OnOk, Some, length, true};
 ghost use Rattle.std.specs.List.{list_all};
-ghost use Rattle.job_core.specs.Sound.{IsName};
-ghost use Rattle.job_core.specs.declared.request.Call.TheVariants.{Job};
-ghost use Rattle.job_core.specs.declared.request.Request.TheVariants as request;
+ghost use Rattle.job_facts.specs.Sound.{IsName};
+ghost use Rattle.job_facts.specs.declared.request.Call.TheVariants.{Job};
+ghost use Rattle.job_facts.specs.declared.request.Request.TheVariants as request;
 ghost use Rattle.text_io.specs.Inputs.{most_input};
 ghost use Rattle.heads.specs.Messages.{Brings, IsHeardAs};
 ghost use Rattle.heads.specs.RequestHeads.{is_visible, posted};

@@ -4,7 +4,7 @@ ghost use Rattle.std.specs.Char.{is_ascii_hexdigit};
 ghost use Rattle.std.specs.List.{list_all};
 ghost use Rattle.std.specs.Str.Parse.{digits_value};
 ghost use Rattle.store_data.specs.Name.{is_name};
-ghost use Rattle.job_core.specs.Requests.{IsCall, IsRequest};
+ghost use Rattle.job_facts.specs.Requests.{IsCall, IsRequest};
 ghost use Rattle.serde_json.specs.View.{view};
 ghost use Rattle.asks.specs.Members.{passing};
 ghost use Rattle.asks.specs.Requests.{abort_in, answer_in, call_by_word, call_in, call_of_value};
@@ -14,7 +14,7 @@ ghost use Rattle.asks.specs.Requests.{remake_in, request_by_word};
 ghost use Rattle.asks.specs.Requests.{serial_at, session_in, withdraw_in, word_in};
 
 use crate::members::{name_at, number_at, text_at, value_in};
-use job_core::{Call, Lot, Request};
+use job_facts::{Call, Lot, Request};
 use serde_json::Value;
 use std::alloc::{AllocError, Global};
 use store_data::Product;

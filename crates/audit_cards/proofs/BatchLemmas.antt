@@ -16,12 +16,12 @@ use Rattle.store_data.specs.declared.row.Row.{Row}
 use Rattle.store_data.specs.Groups.{grouped}
 use Rattle.store_data.specs.Sequence.{IsProduct}
 use Rattle.batch_import.specs.Batch.{batch_of as read_under}
-use Rattle.job_core.specs.declared.facts.RecordState.{RecordState}
-use Rattle.job_core.specs.declared.facts.RecordState.TheVariants as rec
-use Rattle.job_core.specs.declared.facts.SessionState.TheVariants as session
-use Rattle.job_core.specs.Accounts.{count_records, count_sessions}
-use Rattle.job_core.specs.Sound.{IsBatch, IsName}
-use Rattle.job_core.specs.States.{is_finished, product_named, records_of, same_record_state, same_session_state}
+use Rattle.job_facts.specs.declared.facts.RecordState.{RecordState}
+use Rattle.job_facts.specs.declared.facts.RecordState.TheVariants as rec
+use Rattle.job_facts.specs.declared.facts.SessionState.TheVariants as session
+use Rattle.job_facts.specs.Accounts.{count_records, count_sessions}
+use Rattle.job_facts.specs.Sound.{IsBatch, IsName}
+use Rattle.job_facts.specs.States.{is_finished, product_named, records_of, same_record_state, same_session_state}
 use Rattle.step_laws.proofs.Permuted.{IsPermutation-filter}
 use Rattle.table_rows.specs.Tables.{StoredBatch, StoredRecord, StoredSession, Tables}
 use Rattle.table_rows.specs.After.{new_grouping}

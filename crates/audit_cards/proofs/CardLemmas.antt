@@ -9,14 +9,14 @@ use Rattle.store_data.specs.declared.cursor.Cursor.{Cursor}
 use Rattle.store_data.specs.declared.cursor.SegmentView.{SegmentView}
 use Rattle.store_data.specs.Cursor.{PlacedSegment, cursor_at, segment_at, shown}
 use Rattle.store_data.specs.Sequence.{Command, IsPlan, Plan, commands_of}
-use Rattle.job_core.specs.declared.facts.SessionState.TheVariants as session
-use Rattle.job_core.specs.Facts.{Session}
-use Rattle.job_core.specs.Sound.{AreWords}
-use Rattle.job_core.specs.States.{going, goes_at, last_stops, state_with}
+use Rattle.job_facts.specs.declared.facts.SessionState.TheVariants as session
+use Rattle.job_facts.specs.Facts.{Session}
+use Rattle.job_facts.specs.Sound.{AreWords}
+use Rattle.job_facts.specs.States.{going, goes_at, last_stops, state_with}
 use Rattle.table_rows.specs.Tables.{StoredWord}
 use Rattle.audit_cards.specs.Cards.{Leaves, status_words}
 use Rattle.step_laws.proofs.CursorLemmas.{end_of_view, last_stops-at}
-use Rattle.job_core.proofs.Lists.{item_there, mapped, slice_get-append_left}
+use Rattle.job_facts.proofs.Lists.{item_there, mapped, slice_get-append_left}
 use Rattle.store_data.proofs.CursorLemmas.{slice_get-middle, tolerance_there}
 
 no_words : (commands : List Command) → AreWords commands []

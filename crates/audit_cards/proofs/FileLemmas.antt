@@ -14,8 +14,8 @@ use Rattle.store_data.specs.declared.row.Row.{Row}
 use Rattle.store_data.specs.Groups.{grouped, with_the_key}
 use Rattle.store_data.specs.RecordFaults.{HavePlan}
 use Rattle.store_data.specs.Sequence.{IsRow}
-use Rattle.job_core.specs.Facts.{Batch}
-use Rattle.job_core.specs.States.{product_named, rows_of, rows_of_record}
+use Rattle.job_facts.specs.Facts.{Batch}
+use Rattle.job_facts.specs.States.{product_named, rows_of, rows_of_record}
 use Rattle.table_rows.specs.Tables.{StoredBatch, StoredRecord, StoredSession, Tables}
 use Rattle.facts_of_rows.specs.Decided.{batch_of_row}
 use Rattle.table_rows.specs.Keys.{is_batch, is_record_at, is_record_of}

@@ -9,10 +9,10 @@ use Rattle.std.proofs.lemmas.List.Sums.{sum_by-cons}
 use Rattle.store_data.specs.declared.row.Product.{Product}
 use Rattle.store_data.specs.declared.row.Row.{Row}
 use Rattle.store_data.specs.Sequence.{Plan, plan_of}
-use Rattle.job_core.specs.declared.facts.RecordState.{RecordState}
-use Rattle.job_core.specs.declared.facts.SessionState.{SessionState}
-use Rattle.job_core.specs.Sound.{IsSoundRecord, has_card}
-use Rattle.job_core.specs.States.{is_good, is_running, is_spoiled, state_by}
+use Rattle.job_facts.specs.declared.facts.RecordState.{RecordState}
+use Rattle.job_facts.specs.declared.facts.SessionState.{SessionState}
+use Rattle.job_facts.specs.Sound.{IsSoundRecord, has_card}
+use Rattle.job_facts.specs.States.{is_good, is_running, is_spoiled, state_by}
 use Rattle.table_rows.specs.Tables.{StoredBatch, StoredRecord, StoredSession, Tables}
 use Rattle.table_rows.specs.Keys.{is_batch, is_record_at}
 use Rattle.rows_answer.proofs.TotalRows.{sum_by-map}

@@ -4,8 +4,8 @@ use Rattle.std.proofs.lemmas.Option.{same_Some}
 use Rattle.store_data.specs.declared.cursor.Cursor.{Cursor}
 use Rattle.store_data.specs.Cursor.{cursor_at}
 use Rattle.store_data.specs.Sequence.{Plan, commands_of, plan_of}
-use Rattle.job_core.specs.Sound.{AreWords, IsName}
-use Rattle.job_core.specs.States.{going, product_named, rows_of_record, state_with}
+use Rattle.job_facts.specs.Sound.{AreWords, IsName}
+use Rattle.job_facts.specs.States.{going, product_named, rows_of_record, state_with}
 use Rattle.table_rows.specs.Tables.{StoredBatch, StoredRecord, StoredSession, Tables}
 use Rattle.audit_laws.specs.Audited.{IsAuditedSession, file_rows, named_session, words_of}
 use Rattle.audit_cards.specs.Cards.{Leaves}

@@ -4,8 +4,8 @@ use Rattle.std.specs.List.{enumerate_from}
 use Rattle.store_data.specs.declared.cursor.Cursor.{Cursor}
 use Rattle.store_data.specs.Cursor.{cursor_at}
 use Rattle.store_data.specs.Sequence.{Plan, commands_of}
-use Rattle.job_core.specs.Sound.{AreWords}
-use Rattle.job_core.specs.States.{going, last_stops}
+use Rattle.job_facts.specs.Sound.{AreWords}
+use Rattle.job_facts.specs.States.{going, last_stops}
 use Rattle.table_rows.specs.Tables.{StoredWord}
 
 -- the status words of rows

@@ -8,11 +8,11 @@ use Rattle.store_data.specs.Groups.{first_appearances, grouped}
 use Rattle.store_data.specs.Sequence.{IsProduct}
 use Rattle.batch_import.specs.Batch.{AreBatchRows, batch_of}
 use Rattle.batch_import.specs.SoundRecords.{AreSoundRecords}
-use Rattle.job_core.specs.declared.facts.RecordState.{RecordState}
-use Rattle.job_core.specs.declared.facts.RecordState.TheVariants as rec
-use Rattle.job_core.specs.declared.facts.SessionState.{SessionState}
-use Rattle.job_core.specs.declared.facts.SessionState.TheVariants as session
-use Rattle.job_core.specs.States.{is_finished, product_named, same_record_state, same_session_state}
+use Rattle.job_facts.specs.declared.facts.RecordState.{RecordState}
+use Rattle.job_facts.specs.declared.facts.RecordState.TheVariants as rec
+use Rattle.job_facts.specs.declared.facts.SessionState.{SessionState}
+use Rattle.job_facts.specs.declared.facts.SessionState.TheVariants as session
+use Rattle.job_facts.specs.States.{is_finished, product_named, same_record_state, same_session_state}
 use Rattle.table_rows.specs.Tables.{StoredBatch, StoredGrouping, StoredRecord, StoredSession, Tables}
 use Rattle.table_rows.specs.After.{new_grouping}
 use Rattle.table_rows.specs.Keys.{is_batch, is_record_of}

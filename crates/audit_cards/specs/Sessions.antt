@@ -5,12 +5,12 @@ use Rattle.store_data.specs.declared.row.Product.{Product}
 use Rattle.store_data.specs.declared.row.Row.{Row}
 use Rattle.store_data.specs.RecordFaults.{HavePlan}
 use Rattle.store_data.specs.Sequence.{Plan, plan_of}
-use Rattle.job_core.specs.declared.facts.Lot.{Lot}
-use Rattle.job_core.specs.declared.facts.RecordState.{RecordState}
-use Rattle.job_core.specs.declared.facts.RecordState.TheVariants as rec
-use Rattle.job_core.specs.declared.facts.SessionState.{SessionState}
-use Rattle.job_core.specs.Sound.{IsBatch, IsSoundRecord}
-use Rattle.job_core.specs.States.{is_spoiled, lot_of, product_named, rows_of_record, state_by}
+use Rattle.job_facts.specs.declared.facts.Lot.{Lot}
+use Rattle.job_facts.specs.declared.facts.RecordState.{RecordState}
+use Rattle.job_facts.specs.declared.facts.RecordState.TheVariants as rec
+use Rattle.job_facts.specs.declared.facts.SessionState.{SessionState}
+use Rattle.job_facts.specs.Sound.{IsBatch, IsSoundRecord}
+use Rattle.job_facts.specs.States.{is_spoiled, lot_of, product_named, rows_of_record, state_by}
 use Rattle.table_rows.specs.Tables.{StoredBatch, StoredRecord, StoredRemake, StoredSession, Tables}
 use Rattle.facts_of_rows.specs.Decided.{batch_of_row}
 use Rattle.table_rows.specs.Keys.{is_batch, is_grouping_of, is_record_at, is_record_of}

@@ -3,7 +3,7 @@ ghost use Rattle.std.specs.Prelude.{◌≡◌, ◌↔◌, ◌<◌, IfOk, IfSome,
 ghost use Rattle.std.specs.List.Sorted.{IsNonDecreasingBy};
 ghost use Rattle.store_data.specs.Name.{is_name};
 ghost use Rattle.store_data.specs.Sequence.{IsProduct};
-ghost use Rattle.job_core.specs.States.{product_named};
+ghost use Rattle.job_facts.specs.States.{product_named};
 ghost use Rattle.table_rows.specs.Tables.{StoredSession as SessionValue};
 ghost use Rattle.table_rows.specs.Keys.{is_batch, is_grouping_of, is_record_of};
 ghost use Rattle.audit_laws.specs.Audited.{is_session_of, key_of};

@@ -2,12 +2,12 @@
 ghost use Rattle.std.specs.Prelude.{◌≡◌, ◌∷◌, ◌++◌, [], ℕ, List, IfSome, None, Some, slice_get};
 ghost use Rattle.store_data.specs.Cursor.{IsSegmentAt, cursor_at};
 ghost use Rattle.store_data.specs.Sequence.{IsPlan, Plan, commands_of};
-ghost use Rattle.job_core.specs.Facts.{Session};
-ghost use Rattle.job_core.specs.Sound.{AreWords};
-ghost use Rattle.job_core.specs.States.{goes_at, is_tolerant, state_with};
+ghost use Rattle.job_facts.specs.Facts.{Session};
+ghost use Rattle.job_facts.specs.Sound.{AreWords};
+ghost use Rattle.job_facts.specs.States.{goes_at, is_tolerant, state_with};
 ghost use Rattle.audit_cards.specs.Cards.{Leaves, status_words};
 
-use job_core::SessionState;
+use job_facts::SessionState;
 use store_data::{Class, Cursor, RecordPlan, SegmentView, class};
 use stored_rows::{StoredSession, StoredWord};
 

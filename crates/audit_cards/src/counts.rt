@@ -1,13 +1,13 @@
 //! The counters of batches.
 ghost use Rattle.std.specs.Prelude.{◌≡◌, ◌↔◌, IsTrue, count_by};
 ghost use Rattle.std.specs.List.{list_all};
-ghost use Rattle.job_core.specs.States.{is_finished, same_record_state};
+ghost use Rattle.job_facts.specs.States.{is_finished, same_record_state};
 ghost use Rattle.table_rows.specs.Tables.{StoredRecord as RecordValue};
 ghost use Rattle.audit_cards.specs.Files.{CountsBy, CountsRecords, CountsSessions, IsClosedWell};
 
 use crate::by_record::SessionRef;
 use crate::records::count_of;
-use job_core::{RecordState, SessionState};
+use job_facts::{RecordState, SessionState};
 use stored_rows::{StoredBatch, StoredRecord};
 
 // How many of these records stand so.

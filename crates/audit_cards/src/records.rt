@@ -1,8 +1,8 @@
 //! Records, and how their sessions leave them.
 ghost use Rattle.std.specs.Prelude.{◌≡◌, ◌↔◌, IfOk, IsTrue, All, count_by, nat_lt};
 ghost use Rattle.table_rows.specs.Tables.{StoredSession as SessionValue};
-ghost use Rattle.job_core.specs.Sound.{has_card};
-ghost use Rattle.job_core.specs.States.{same_session_state};
+ghost use Rattle.job_facts.specs.Sound.{has_card};
+ghost use Rattle.job_facts.specs.States.{same_session_state};
 ghost use Rattle.audit_laws.specs.Audited.{IsAuditedRecord, IsAuditedSession, is_withdrawn};
 ghost use Rattle.ordered_rows.specs.Order.{AreReady};
 ghost use Rattle.audit_cards.specs.Sessions.{HasPlan, HasRows, IsSoundCount, StandsBy, state_by_count};
@@ -10,7 +10,7 @@ ghost use Rattle.audit_cards.specs.Sessions.{states_in};
 
 use crate::by_record::SessionRef;
 use crate::sessions::is_audited_session;
-use job_core::{RecordState, SessionState};
+use job_facts::{RecordState, SessionState};
 use std::alloc::{AllocError, Global};
 use store_data::{Product, RecordPlan, Row, plan_of_sound};
 use stored_rows::{StoredBatch, StoredRecord, Tables};

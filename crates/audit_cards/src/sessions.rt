@@ -1,14 +1,14 @@
 //! Sessions, and what their words say of them.
 ghost use Rattle.std.specs.Prelude.{◌≡◌, ◌↔◌, IsTrue, option_map};
-ghost use Rattle.job_core.specs.Sound.{IsName};
-ghost use Rattle.job_core.specs.States.{lot_of};
+ghost use Rattle.job_facts.specs.Sound.{IsName};
+ghost use Rattle.job_facts.specs.States.{lot_of};
 ghost use Rattle.audit_laws.specs.Audited.{IsAuditedSession, words_of};
 ghost use Rattle.audit_cards.specs.Cards.{status_words};
 ghost use Rattle.ordered_rows.specs.Order.{AreReady, lots_of};
 ghost use Rattle.audit_cards.specs.Sessions.{HasPlan, IsFor};
 
 use crate::cards::{card_after, state_of};
-use job_core::SessionState;
+use job_facts::SessionState;
 use ordered_rows::{is_name, lot_of, range_of};
 use store_data::{Cursor, RecordPlan};
 use stored_rows::{StoredBatch, StoredLot, StoredSession, StoredWord, Tables};

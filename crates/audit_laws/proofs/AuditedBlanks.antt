@@ -5,11 +5,11 @@ use Rattle.std.proofs.lemmas.List.Elements.{All-append, All-map, filter-append}
 use Rattle.std.proofs.lemmas.Simd.{map-map}
 use Rattle.store_data.proofs.FaultLemmas.{All-from_map}
 use Rattle.store_data.proofs.PieceLemmas.{sum_by-map}
-use Rattle.job_core.specs.declared.facts.Lot.{Lot}
-use Rattle.job_core.specs.Contents.{Contents}
-use Rattle.job_core.specs.Facts.{Facts, Session}
-use Rattle.job_core.specs.Sound.{AreLots, IsSound}
-use Rattle.job_core.specs.States.{is_in, lot_of}
+use Rattle.job_facts.specs.declared.facts.Lot.{Lot}
+use Rattle.job_facts.specs.Contents.{Contents}
+use Rattle.job_facts.specs.Facts.{Facts, Session}
+use Rattle.job_facts.specs.Sound.{AreLots, IsSound}
+use Rattle.job_facts.specs.States.{is_in, lot_of}
 use Rattle.step_laws.specs.Sums.{discarded_in}
 use Rattle.table_rows.specs.Tables.{StoredBlank, StoredLot, StoredSession}
 use Rattle.rows_of_facts.specs.Image.{image, lot_name, name_of, sessions_by_id, stored_blank, stored_blanks, stored_lot, stored_lots, stored_session, stored_sessions}

@@ -6,13 +6,13 @@ use Rattle.std.proofs.lemmas.List.Elements.{All-map, All-weaker}
 use Rattle.std.proofs.lemmas.List.Folds.{list_all-map}
 use Rattle.std.proofs.lemmas.List.Sums.{AllPass-from_list_all}
 use Rattle.std.proofs.lemmas.Option.{get_or_from_slice_get, slice_get_within}
-use Rattle.job_core.specs.declared.facts.RecordState.TheVariants as rec
-use Rattle.job_core.specs.declared.facts.SessionState.TheVariants as session
-use Rattle.job_core.specs.Accounts.{batch_totals, count_records, count_sessions, record_states}
-use Rattle.job_core.specs.Contents.{Contents}
-use Rattle.job_core.specs.Facts.{Batch, Facts}
-use Rattle.job_core.specs.Sound.{IsSound, IsSoundRecord}
-use Rattle.job_core.specs.States.{is_batch_finished, is_closed, is_finished, is_spoiled, is_withdrawn as is_gone, record_state, records_named, remakes_of, state_by, states_of}
+use Rattle.job_facts.specs.declared.facts.RecordState.TheVariants as rec
+use Rattle.job_facts.specs.declared.facts.SessionState.TheVariants as session
+use Rattle.job_facts.specs.Accounts.{batch_totals, count_records, count_sessions, record_states}
+use Rattle.job_facts.specs.Contents.{Contents}
+use Rattle.job_facts.specs.Facts.{Batch, Facts}
+use Rattle.job_facts.specs.Sound.{IsSound, IsSoundRecord}
+use Rattle.job_facts.specs.States.{is_batch_finished, is_closed, is_finished, is_spoiled, is_withdrawn as is_gone, record_state, records_named, remakes_of, state_by, states_of}
 use Rattle.rows_of_facts.proofs.Lists.{All-joined}
 use Rattle.table_rows.specs.Tables.{StoredBatch, StoredRecord, Tables}
 use Rattle.rows_of_facts.specs.Image.{batches_by_id, image, place_in, placed_records, records_in, stored_batch, stored_batches, stored_record, stored_records}

@@ -6,8 +6,8 @@ use Rattle.std.proofs.lemmas.List.Elements.{All-map}
 use Rattle.std.proofs.lemmas.List.Folds.{flat_map-map}
 use Rattle.std.proofs.lemmas.Simd.{map-map}
 use Rattle.store_data.proofs.RankLemmas.{flat_map-flat_map}
-use Rattle.job_core.specs.Contents.{Contents}
-use Rattle.job_core.specs.Facts.{Facts, Session}
+use Rattle.job_facts.specs.Contents.{Contents}
+use Rattle.job_facts.specs.Facts.{Facts, Session}
 use Rattle.table_rows.specs.Tables.{StoredBatch, StoredSession, StoredWord}
 use Rattle.rows_of_facts.specs.Image.{batches_by_id, image, placed_records, records_in, sessions_by_id, stored_batch, stored_batches, stored_groupings, stored_record, stored_records, stored_remakes, stored_session, stored_sessions, stored_words, words_in}
 use Rattle.rows_of_facts.proofs.Lists.{flat_map_same}

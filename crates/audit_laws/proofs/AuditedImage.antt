@@ -1,8 +1,8 @@
 -- The rows of sound contents pass the audit.
 use Rattle.std.proofs.Common.{◌≡◌, ◌∷◌, [], subst, sym}
 use Rattle.std.proofs.lemmas.List.Sorted.{IsPermutation-sym}
-use Rattle.job_core.specs.Contents.{AreSound, Contents}
-use Rattle.job_core.specs.Sound.{AreBatches}
+use Rattle.job_facts.specs.Contents.{AreSound, Contents}
+use Rattle.job_facts.specs.Sound.{AreBatches}
 use Rattle.table_rows.specs.Tables.{HaveSameRows, StoredBatch, StoredGrouping, StoredRecord, StoredRemake, StoredSession, StoredWord, Tables}
 use Rattle.rows_of_facts.specs.Image.{image, stored_batches, stored_groupings, stored_records, stored_remakes, stored_sessions, stored_words}
 use Rattle.audit_laws.specs.Audited.{AreInOrder, IsAudited}

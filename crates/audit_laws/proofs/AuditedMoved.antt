@@ -9,11 +9,11 @@ use Rattle.store_data.specs.declared.row.Product.{Product}
 use Rattle.store_data.specs.declared.row.Row.{Row}
 use Rattle.store_data.specs.Groups.{first_appearances}
 use Rattle.store_data.specs.Sequence.{IsProduct, plan_of}
-use Rattle.job_core.specs.declared.facts.Lot.{Lot}
-use Rattle.job_core.specs.Contents.{Entry, IsEntry, IsMark, Mark, has_mark, is_above, is_of_number, mark_of}
-use Rattle.job_core.specs.Facts.{Batch}
-use Rattle.job_core.specs.Sound.{AreApart, AreBatches, AreLots, AreProducts, IsBatch, IsLot, IsName}
-use Rattle.job_core.specs.States.{is_in, lot_of, product_named, records_of, rows_of, rows_of_record, rows_under}
+use Rattle.job_facts.specs.declared.facts.Lot.{Lot}
+use Rattle.job_facts.specs.Contents.{Entry, IsEntry, IsMark, Mark, has_mark, is_above, is_of_number, mark_of}
+use Rattle.job_facts.specs.Facts.{Batch}
+use Rattle.job_facts.specs.Sound.{AreApart, AreBatches, AreLots, AreProducts, IsBatch, IsLot, IsName}
+use Rattle.job_facts.specs.States.{is_in, lot_of, product_named, records_of, rows_of, rows_of_record, rows_under}
 use Rattle.step_laws.proofs.BlankSums.{apart_once, bytes_eq_either, named_once}
 use Rattle.step_laws.proofs.Permuted.{IsPermutation-filter, at_most_one, count_moved, find_moved}
 use Rattle.table_rows.specs.Tables.{StoredBatch, StoredBlank, StoredLot, StoredSession, Tables}

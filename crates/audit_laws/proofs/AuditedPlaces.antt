@@ -9,13 +9,13 @@ use Rattle.std.proofs.lemmas.List.FromFn.{get_or-enumerate_from, length-enumerat
 use Rattle.std.proofs.lemmas.Simd.{map-map}
 use Rattle.store_data.proofs.GroupLemmas.{bytes_eq-same, same-bytes_eq}
 use Rattle.store_data.proofs.SummaryLemmas.{filter-map}
-use Rattle.job_core.specs.declared.facts.RecordState.{RecordState}
-use Rattle.job_core.specs.declared.facts.SessionState.{SessionState}
-use Rattle.job_core.specs.Accounts.{record_states, session_states}
-use Rattle.job_core.specs.Facts.{Batch, Facts, Session}
-use Rattle.job_core.specs.Sound.{IsRecord, IsSession, IsSound}
-use Rattle.job_core.specs.States.{batch_named, record_state, records_named, records_of, session_state, states_of}
-use Rattle.job_core.proofs.SoundFacts.{is_for}
+use Rattle.job_facts.specs.declared.facts.RecordState.{RecordState}
+use Rattle.job_facts.specs.declared.facts.SessionState.{SessionState}
+use Rattle.job_facts.specs.Accounts.{record_states, session_states}
+use Rattle.job_facts.specs.Facts.{Batch, Facts, Session}
+use Rattle.job_facts.specs.Sound.{IsRecord, IsSession, IsSound}
+use Rattle.job_facts.specs.States.{batch_named, record_state, records_named, records_of, session_state, states_of}
+use Rattle.job_facts.proofs.SoundFacts.{is_for}
 use Rattle.table_rows.proofs.Found.{filter_alike}
 use Rattle.table_rows.specs.Tables.{StoredRecord, StoredSession}
 use Rattle.rows_of_facts.specs.Image.{batch_id, batches_by_id, place_in, placed_records, sessions_by_id, stored_record, stored_records, stored_session, stored_sessions}

@@ -8,12 +8,12 @@ use Rattle.store_data.specs.declared.row.Product.{Product}
 use Rattle.store_data.specs.Cursor.{cursor_at, cursors_of, select_cursor}
 use Rattle.store_data.specs.Sequence.{Command, IsPlan, Plan, commands_of, plan_of}
 use Rattle.store_data.proofs.CursorLemmas.{length-cursors_of, length-sequence}
-use Rattle.job_core.specs.Contents.{Contents}
-use Rattle.job_core.specs.Facts.{Batch, Facts, Session}
-use Rattle.job_core.specs.Sound.{AreWords, IsBatch, IsSound}
-use Rattle.job_core.specs.States.{batch_named, commands_for, commands_under, going, last_stops, lot_of, plan_for, product_named, rows_of, rows_of_record, session_cursor, session_state, state_with}
-use Rattle.job_core.proofs.Lists.{find-All, item_there}
-use Rattle.job_core.proofs.PlanLemmas.{plan_there}
+use Rattle.job_facts.specs.Contents.{Contents}
+use Rattle.job_facts.specs.Facts.{Batch, Facts, Session}
+use Rattle.job_facts.specs.Sound.{AreWords, IsBatch, IsSound}
+use Rattle.job_facts.specs.States.{batch_named, commands_for, commands_under, going, last_stops, lot_of, plan_for, product_named, rows_of, rows_of_record, session_cursor, session_state, state_with}
+use Rattle.job_facts.proofs.Lists.{find-All, item_there}
+use Rattle.job_facts.proofs.PlanLemmas.{plan_there}
 use Rattle.step_laws.proofs.Numbered.{session_sound}
 use Rattle.step_laws.proofs.Permuted.{at_most_one}
 use Rattle.rows_of_facts.specs.Image.{batch_id, image, stored_batch, stored_record, stored_session, stored_sessions, stored_words}

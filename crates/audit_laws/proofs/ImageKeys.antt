@@ -5,7 +5,7 @@ use Rattle.std.specs.List.{enumerate_from, flat_map, range_with_len}
 use Rattle.std.proofs.lemmas.List.Elements.{All-cons, All-map, All-nil}
 use Rattle.std.proofs.lemmas.List.Kept.{AllPairs-cons}
 use Rattle.store_data.proofs.RankLemmas.{All-flat_map}
-use Rattle.job_core.specs.Facts.{Batch, Facts}
+use Rattle.job_facts.specs.Facts.{Batch, Facts}
 use Rattle.table_rows.specs.Tables.{StoredBatch, StoredGrouping, StoredRecord, StoredRemake, StoredSession, StoredWord}
 use Rattle.rows_of_facts.specs.Image.{groupings_in, placed_records, records_in, remakes_at, remakes_in, stored_batch, stored_batches, stored_grouping, stored_groupings, stored_record, stored_records, stored_remakes, stored_session, stored_sessions, stored_words, words_in}
 use Rattle.rows_answer.proofs.Finding.{AllPairs-joined, AllPairs-map, numbers_rise}

@@ -6,9 +6,9 @@ use Rattle.std.proofs.lemmas.List.Folds.{flat_map-map}
 use Rattle.std.proofs.lemmas.List.Sorted.{IsPermutation-append, IsPermutation-filter_both, IsPermutation-map, IsPermutation-refl, IsPermutation-trans}
 use Rattle.std.proofs.lemmas.Simd.{map-map}
 use Rattle.store_data.proofs.PieceLemmas.{sum_by-map}
-use Rattle.job_core.specs.Facts.{Batch, Facts, Session}
-use Rattle.job_core.specs.States.{is_in}
-use Rattle.job_core.specs.Accounts.{batch_totals, session_states}
+use Rattle.job_facts.specs.Facts.{Batch, Facts, Session}
+use Rattle.job_facts.specs.States.{is_in}
+use Rattle.job_facts.specs.Accounts.{batch_totals, session_states}
 use Rattle.table_rows.specs.Tables.{HaveSameRows, StoredBatch, StoredBlank, StoredLot, StoredRecord, StoredRemake, StoredSession, Tables}
 use Rattle.rows_of_facts.specs.Image.{groupings_in, image, name_of, records_in, remakes_at, remakes_in, stored_batch, stored_batches, stored_blank, stored_blanks, stored_groupings, stored_lot, stored_lots, stored_record, stored_records, stored_remakes, stored_session, stored_sessions, stored_words, words_in}
 use Rattle.rows_of_facts.proofs.Lists.{flat_map_same, unmoved}

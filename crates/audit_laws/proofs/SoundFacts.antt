@@ -10,10 +10,10 @@ use Rattle.std.proofs.lemmas.Option.{none-some, same_Some}
 use Rattle.std.proofs.lemmas.Simd.{map-map}
 use Rattle.store_data.proofs.GroupLemmas.{bytes_eq-same}
 use Rattle.store_data.proofs.PieceLemmas.{sum_by-map}
-use Rattle.job_core.specs.Facts.{Facts, Session}
-use Rattle.job_core.specs.Sound.{AreNamed, AreSessions, AreWords, IsRecord, IsSession, charges, runs_on}
-use Rattle.job_core.specs.States.{batch_named, is_running, lot_of, records_named, records_under}
-use Rattle.job_core.proofs.Lists.{map_same}
+use Rattle.job_facts.specs.Facts.{Facts, Session}
+use Rattle.job_facts.specs.Sound.{AreNamed, AreSessions, AreWords, IsRecord, IsSession, charges, runs_on}
+use Rattle.job_facts.specs.States.{batch_named, is_running, lot_of, records_named, records_under}
+use Rattle.job_facts.proofs.Lists.{map_same}
 use Rattle.step_laws.proofs.Permuted.{at_most_one, count_moved}
 use Rattle.table_rows.specs.Tables.{StoredBlank, StoredRecord, StoredSession, Tables}
 use Rattle.facts_of_rows.specs.Decided.{batch_name, batch_of_row, discarded_rows, facts_of, record_name}

@@ -8,10 +8,10 @@ use Rattle.std.proofs.lemmas.List.Elements.{All-map, All-weaker}
 use Rattle.std.proofs.lemmas.Option.{same_Some, slice_get-map}
 use Rattle.store_data.proofs.FaultLemmas.{All-from_map}
 use Rattle.store_data.proofs.GroupLemmas.{bytes_eq-same}
-use Rattle.job_core.specs.Facts.{Batch, Facts}
-use Rattle.job_core.specs.Sound.{AreBatches}
-use Rattle.job_core.specs.States.{batch_named}
-use Rattle.job_core.proofs.Lists.{find-All}
+use Rattle.job_facts.specs.Facts.{Batch, Facts}
+use Rattle.job_facts.specs.Sound.{AreBatches}
+use Rattle.job_facts.specs.States.{batch_named}
+use Rattle.job_facts.proofs.Lists.{find-All}
 use Rattle.step_laws.proofs.BlankSums.{bytes_eq_either, named_once}
 use Rattle.table_rows.proofs.Found.{find_passes}
 use Rattle.rows_of_facts.proofs.Lists.{All-joined}

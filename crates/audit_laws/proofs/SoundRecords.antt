@@ -10,12 +10,12 @@ use Rattle.std.proofs.lemmas.List.Sums.{list_all-from_AllPass}
 use Rattle.store_data.proofs.FaultLemmas.{list_any-map}
 use Rattle.store_data.proofs.GroupLemmas.{same-bytes_eq}
 use Rattle.store_data.proofs.PieceLemmas.{sum_by-flat_map, sum_by-map}
-use Rattle.job_core.specs.Accounts.{record_states}
-use Rattle.job_core.specs.Contents.{AreSound}
-use Rattle.job_core.specs.Facts.{Batch, Facts, RecordName, Session}
-use Rattle.job_core.specs.Sound.{AreTold, IsRecord, IsSoundRecord}
-use Rattle.job_core.specs.States.{batch_named, is_batch_finished, is_finished, is_record, is_withdrawn as is_gone, record_state, records_named, remakes_of, states_of}
-use Rattle.job_core.proofs.Lists.{find-All, find-None}
+use Rattle.job_facts.specs.Accounts.{record_states}
+use Rattle.job_facts.specs.Contents.{AreSound}
+use Rattle.job_facts.specs.Facts.{Batch, Facts, RecordName, Session}
+use Rattle.job_facts.specs.Sound.{AreTold, IsRecord, IsSoundRecord}
+use Rattle.job_facts.specs.States.{batch_named, is_batch_finished, is_finished, is_record, is_withdrawn as is_gone, record_state, records_named, remakes_of, states_of}
+use Rattle.job_facts.proofs.Lists.{find-All, find-None}
 use Rattle.step_laws.proofs.BlankSums.{bytes_eq_either}
 use Rattle.table_rows.proofs.Found.{filter_none, find_passes}
 use Rattle.rows_of_facts.proofs.Lists.{All-joined}

@@ -10,9 +10,9 @@ use Rattle.store_data.proofs.SummaryLemmas.{filter-map}
 use Rattle.store_data.specs.Cursor.{cursor_at, select_cursor}
 use Rattle.store_data.specs.declared.row.Product.{Product}
 use Rattle.store_data.specs.Sequence.{Plan, commands_of, plan_of}
-use Rattle.job_core.specs.Facts.{Batch, Facts, Session}
-use Rattle.job_core.specs.States.{batch_named, commands_for, commands_under, going, plan_for, product_named, records_named, records_under, rows_of, rows_of_record, session_cursor, session_state, state_with}
-use Rattle.job_core.proofs.Lists.{map_same}
+use Rattle.job_facts.specs.Facts.{Batch, Facts, Session}
+use Rattle.job_facts.specs.States.{batch_named, commands_for, commands_under, going, plan_for, product_named, records_named, records_under, rows_of, rows_of_record, session_cursor, session_state, state_with}
+use Rattle.job_facts.proofs.Lists.{map_same}
 use Rattle.table_rows.proofs.Found.{filter_alike}
 use Rattle.table_rows.specs.Tables.{StoredSession, StoredWord, Tables}
 use Rattle.rows_of_facts.specs.Image.{batch_id, place_in, sessions_by_id}

@@ -8,10 +8,10 @@ use Rattle.std.proofs.lemmas.Simd.{map-map}
 use Rattle.store_data.proofs.FaultLemmas.{list_any-map}
 use Rattle.store_data.proofs.PieceLemmas.{sum_by-flat_map, sum_by-map}
 use Rattle.store_data.proofs.SummaryLemmas.{filter-map}
-use Rattle.job_core.specs.Accounts.{record_states, session_states}
-use Rattle.job_core.specs.Facts.{Facts, RecordName, Session}
-use Rattle.job_core.specs.States.{batch_named, is_closed, is_record, is_spoiled, is_withdrawn as is_gone, record_state, records_under, remakes_of, state_by, states_of}
-use Rattle.job_core.proofs.Lists.{map_same}
+use Rattle.job_facts.specs.Accounts.{record_states, session_states}
+use Rattle.job_facts.specs.Facts.{Facts, RecordName, Session}
+use Rattle.job_facts.specs.States.{batch_named, is_closed, is_record, is_spoiled, is_withdrawn as is_gone, record_state, records_under, remakes_of, state_by, states_of}
+use Rattle.job_facts.proofs.Lists.{map_same}
 use Rattle.step_laws.proofs.BlankSums.{bytes_eq_either}
 use Rattle.table_rows.specs.Tables.{StoredBatch, StoredRecord, StoredRemake, StoredSession, Tables}
 use Rattle.rows_of_facts.specs.Image.{batch_id}

@@ -1,8 +1,8 @@
 -- What audited rows tell of the contents that they decide, each row of its own.
 use Rattle.std.specs.Prelude.{◌≡◌, ℕ, map, count_by, All}
-use Rattle.job_core.specs.Accounts.{record_states, session_states}
-use Rattle.job_core.specs.Facts.{Batch, Session}
-use Rattle.job_core.specs.States.{is_closed, is_spoiled, is_withdrawn as is_gone, record_state, records_named, remakes_of, session_cursor, session_state, states_of}
+use Rattle.job_facts.specs.Accounts.{record_states, session_states}
+use Rattle.job_facts.specs.Facts.{Batch, Session}
+use Rattle.job_facts.specs.States.{is_closed, is_spoiled, is_withdrawn as is_gone, record_state, records_named, remakes_of, session_cursor, session_state, states_of}
 use Rattle.table_rows.specs.Tables.{StoredBatch, StoredRecord, StoredSession, Tables}
 use Rattle.rows_of_facts.specs.Image.{batch_id, batches_by_id, place_in, sessions_by_id}
 use Rattle.facts_of_rows.specs.Decided.{batch_name, batch_of_row, facts_of, record_name}

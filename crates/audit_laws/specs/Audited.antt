@@ -5,16 +5,16 @@ use Rattle.store_data.specs.declared.row.Product.{Product}
 use Rattle.store_data.specs.declared.row.Row.{Row}
 use Rattle.store_data.specs.Cursor.{cursor_at}
 use Rattle.store_data.specs.Sequence.{Plan, commands_of, plan_of}
-use Rattle.job_core.specs.declared.facts.Lot.{Lot}
-use Rattle.job_core.specs.declared.facts.RecordState.{RecordState}
-use Rattle.job_core.specs.declared.facts.RecordState.TheVariants as rec
-use Rattle.job_core.specs.declared.facts.SessionState.{SessionState}
-use Rattle.job_core.specs.declared.facts.SessionState.TheVariants as session
-use Rattle.job_core.specs.Accounts.{count_records, count_sessions}
-use Rattle.job_core.specs.Contents.{Entry, IsEntry, IsMark, Mark, is_above, is_of_number}
-use Rattle.job_core.specs.Facts.{Session}
-use Rattle.job_core.specs.Sound.{AreBatches, AreLots, AreProducts, AreWords, IsName, IsSoundRecord}
-use Rattle.job_core.specs.States.{going, is_finished, is_in, is_spoiled, lot_of, product_named, records_of, rows_of, rows_of_record, same_record_state, state_by, state_with}
+use Rattle.job_facts.specs.declared.facts.Lot.{Lot}
+use Rattle.job_facts.specs.declared.facts.RecordState.{RecordState}
+use Rattle.job_facts.specs.declared.facts.RecordState.TheVariants as rec
+use Rattle.job_facts.specs.declared.facts.SessionState.{SessionState}
+use Rattle.job_facts.specs.declared.facts.SessionState.TheVariants as session
+use Rattle.job_facts.specs.Accounts.{count_records, count_sessions}
+use Rattle.job_facts.specs.Contents.{Entry, IsEntry, IsMark, Mark, is_above, is_of_number}
+use Rattle.job_facts.specs.Facts.{Session}
+use Rattle.job_facts.specs.Sound.{AreBatches, AreLots, AreProducts, AreWords, IsName, IsSoundRecord}
+use Rattle.job_facts.specs.States.{going, is_finished, is_in, is_spoiled, lot_of, product_named, records_of, rows_of, rows_of_record, same_record_state, state_by, state_with}
 use Rattle.table_rows.specs.Tables.{StoredBatch, StoredBlank, StoredGrouping, StoredLot, StoredRecord, StoredRemake, StoredSession, StoredWord, Tables}
 use Rattle.rows_of_facts.specs.Image.{place_in}
 use Rattle.facts_of_rows.specs.Decided.{batch_name, batch_of_row, discarded_rows, record_name}

@@ -8,8 +8,8 @@ use Rattle.std.proofs.lemmas.List.Elements.{All-append, All-filter, All-head, Al
 use Rattle.std.proofs.lemmas.List.Folds.{find_at}
 use Rattle.std.proofs.lemmas.List.Sums.{passes_at_first}
 use Rattle.std.proofs.lemmas.Option.{slice_get_within}
-use Rattle.job_core.specs.Facts.{Batch}
-use Rattle.job_core.specs.Sound.{AreApart, AreLots, AreNamedOnce, AreProducts, IsBatch, IsName}
+use Rattle.job_facts.specs.Facts.{Batch}
+use Rattle.job_facts.specs.Sound.{AreApart, AreLots, AreNamedOnce, AreProducts, IsBatch, IsName}
 use Rattle.table_rows.specs.Tables.{StoredBatch, StoredGrouping, StoredLot, StoredRecord, StoredSession, StoredWord, Tables}
 use Rattle.rows_of_facts.proofs.Lists.{flat_map_same}
 use Rattle.facts_of_rows.specs.Decided.{batch_of_row}

@@ -5,7 +5,7 @@ use Rattle.std.specs.List.Sorted.{IsNonDecreasing}
 use Rattle.std.proofs.lemmas.Bool.{false≢true}
 use Rattle.std.proofs.lemmas.Bool.Decides.{nat_tests}
 use Rattle.std.proofs.lemmas.List.Sorted.{IsPermutation-sym, IsPermutation-trans, sum_by-IsPermutation}
-use Rattle.job_core.specs.States.{is_in}
+use Rattle.job_facts.specs.States.{is_in}
 use Rattle.table_rows.specs.Tables.{StoredBlank, StoredLot}
 use Rattle.facts_of_rows.specs.Decided.{discarded_rows}
 use Rattle.rows_answer.proofs.Finding.{AllPairs-from_map, AllPairs-map}

@@ -5,7 +5,7 @@ use Rattle.std.proofs.lemmas.Bool.{cases_Bool, cond-false, cond-true}
 use Rattle.std.proofs.lemmas.List.Kept.{AllPairs-cons}
 use Rattle.std.proofs.lemmas.List.Sums.{sum_by-cons}
 use Rattle.store_data.proofs.GroupLemmas.{bytes_eq-same, same-bytes_eq}
-use Rattle.job_core.specs.States.{is_running}
+use Rattle.job_facts.specs.States.{is_running}
 use Rattle.table_rows.specs.Keys.{is_running_on}
 use Rattle.table_rows.specs.Tables.{StoredSession}
 

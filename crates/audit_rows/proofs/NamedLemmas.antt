@@ -7,8 +7,8 @@ use Rattle.std.proofs.lemmas.List.{length-map}
 use Rattle.std.proofs.lemmas.List.Elements.{All-map}
 use Rattle.store_data.specs.declared.row.Product.{Product}
 use Rattle.store_data.specs.Sequence.{IsProduct}
-use Rattle.job_core.specs.declared.facts.Lot.{Lot}
-use Rattle.job_core.specs.Sound.{AreApart, AreLots, AreNamedOnce, AreProducts, IsLot, IsName}
+use Rattle.job_facts.specs.declared.facts.Lot.{Lot}
+use Rattle.job_facts.specs.Sound.{AreApart, AreLots, AreNamedOnce, AreProducts, IsLot, IsName}
 use Rattle.table_rows.specs.Tables.{StoredLot}
 use Rattle.rows_answer.proofs.Finding.{AllPairs-from_map, AllPairs-map}
 use Rattle.ordered_rows.specs.Order.{lots_of}

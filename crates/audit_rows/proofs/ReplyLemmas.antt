@@ -7,7 +7,7 @@ use Rattle.std.proofs.lemmas.Bool.Decides.{nat_tests}
 use Rattle.std.proofs.lemmas.List.{length-map}
 use Rattle.std.proofs.lemmas.List.Folds.{find_at}
 use Rattle.std.proofs.lemmas.Option.{none-some, same_Some, slice_get-get_or, slice_get_past}
-use Rattle.job_core.specs.Contents.{Entry, Mark, has_mark, is_of_number, mark_of}
+use Rattle.job_facts.specs.Contents.{Entry, Mark, has_mark, is_of_number, mark_of}
 use Rattle.step_laws.proofs.BlankSums.{bytes_eq_either}
 use Rattle.rows_answer.proofs.Finding.{AllPairs-from_map, AllPairs-map}
 use Rattle.audit_rows.proofs.NamedLemmas.{pairs_weaker}

@@ -1,7 +1,7 @@
 -- What the audit tests of names and ids.
 use Rattle.std.specs.Prelude.{◌≡◌, ◌≤◌, ◌<◌, ◌+◌, ◌^◌, ℕ, true, not, List, All, AllPairs, bytes_eq, length}
-use Rattle.job_core.specs.declared.facts.Lot.{Lot}
-use Rattle.job_core.specs.Sound.{IsName}
+use Rattle.job_facts.specs.declared.facts.Lot.{Lot}
+use Rattle.job_facts.specs.Sound.{IsName}
 use Rattle.table_rows.specs.Tables.{StoredBatch, StoredGrouping, StoredRecord, StoredSession}
 
 -- a lot has a name, and its serials are in range

@@ -1,8 +1,8 @@
 -- The audit's rules: what each says of rows, and which is the first that fails.
 use Rattle.std.specs.Prelude.{◌≡◌, ◌≢◌, ◌≤◌, ℕ, false, List, [], ◌∷◌, ◌++◌, All, AllPairs, IsPermutation, IsTrue, Option, Some, None, bytes_eq, count_by, flat_map, length, map}
 use Rattle.std.specs.List.{AllByRecursion, range_with_len}
-use Rattle.job_core.specs.Contents.{Entry, IsEntry, IsMark, Mark, is_above, is_of_number}
-use Rattle.job_core.specs.Sound.{AreLots, AreProducts}
+use Rattle.job_facts.specs.Contents.{Entry, IsEntry, IsMark, Mark, is_above, is_of_number}
+use Rattle.job_facts.specs.Sound.{AreLots, AreProducts}
 use Rattle.table_rows.specs.Tables.{StoredBatch, StoredBlank, StoredSession, Tables}
 use Rattle.table_rows.specs.Keys.{is_running_on}
 use Rattle.audit_laws.specs.Audited.{IsAuditedBlank, IsAuditedLot, opened_rows, placed_words, turns_of}

@@ -1,6 +1,6 @@
 //! The audit over rows in order.
 ghost use Rattle.std.specs.Prelude.{◌≡◌, ◌≤◌, ◌↔◌, ℕ, List, IfOk, IsTrue, All, count_by};
-ghost use Rattle.job_core.specs.Sound.{IsName};
+ghost use Rattle.job_facts.specs.Sound.{IsName};
 ghost use Rattle.table_rows.specs.Keys.{is_running_on};
 ghost use Rattle.table_rows.specs.Tables.{StoredSession as SessionValue};
 ghost use Rattle.audit_rows.specs.Rules.{IsFirstFailing, card_rules, rules};

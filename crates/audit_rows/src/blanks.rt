@@ -3,7 +3,7 @@ ghost use Rattle.std.specs.Prelude.{◌≡◌, ◌≢◌, ◌≤◌, ◌+◌, �
 ghost use Rattle.std.specs.Prelude.{nat_lt};
 ghost use Rattle.std.specs.Prelude.{AllPairs, IsPermutation, count_by, map, not, option_map};
 ghost use Rattle.std.specs.List.Sorted.{IsNonDecreasing};
-ghost use Rattle.job_core.specs.States.{is_in, lot_of};
+ghost use Rattle.job_facts.specs.States.{is_in, lot_of};
 ghost use Rattle.table_rows.specs.Tables.{StoredBlank as BlankValue, StoredLot as LotValue};
 ghost use Rattle.table_rows.specs.Tables.{StoredSession as SessionValue};
 ghost use Rattle.facts_of_rows.specs.Decided.{discarded_rows};

@@ -1,12 +1,12 @@
 //! Machines, and the sessions that run on them.
 ghost use Rattle.std.specs.Prelude.{◌≡◌, ◌≤◌, ◌↔◌, ℕ, List, IfOk, IsTrue, All, count_by, filter, map};
-ghost use Rattle.job_core.specs.Sound.{IsName};
-ghost use Rattle.job_core.specs.States.{is_running};
+ghost use Rattle.job_facts.specs.Sound.{IsName};
+ghost use Rattle.job_facts.specs.States.{is_running};
 ghost use Rattle.table_rows.specs.Keys.{is_running_on};
 ghost use Rattle.table_rows.specs.Tables.{StoredSession as SessionValue};
 
 use crate::once::are_once;
-use job_core::SessionState;
+use job_facts::SessionState;
 use std::alloc::{AllocError, Global};
 use store_data::Name;
 use stored_rows::StoredSession;

@@ -1,8 +1,8 @@
 //! Products, lots and batches by their names.
 ghost use Rattle.std.specs.Prelude.{◌≡◌, ◌↔◌, ◌+◌, ◌&&◌, ◌||◌, IsSome, IsTrue, All, not, bytes_eq, nat_le};
 ghost use Rattle.store_data.specs.Sequence.{IsProduct};
-ghost use Rattle.job_core.specs.Sound.{AreLots, AreProducts, IsLot, IsName};
-ghost use Rattle.job_core.specs.States.{product_named};
+ghost use Rattle.job_facts.specs.Sound.{AreLots, AreProducts, IsLot, IsName};
+ghost use Rattle.job_facts.specs.States.{product_named};
 ghost use Rattle.table_rows.specs.Tables.{StoredLot as LotValue};
 ghost use Rattle.store_data.specs.declared.row.Product.{Product as ProductValue};
 ghost use Rattle.ordered_rows.specs.Order.{lots_of};

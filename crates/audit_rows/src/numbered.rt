@@ -1,7 +1,7 @@
 //! Names, ids, and the batches that rows name.
 ghost use Rattle.std.specs.Prelude.{◌≡◌, ◌↔◌, IsTrue, length, map};
 ghost use Rattle.std.specs.List.{range_with_len};
-ghost use Rattle.job_core.specs.Sound.{AreLots, AreProducts};
+ghost use Rattle.job_facts.specs.Sound.{AreLots, AreProducts};
 ghost use Rattle.table_rows.specs.Tables.{StoredBatch as BatchValue};
 ghost use Rattle.table_rows.specs.Tables.{StoredSession as SessionValue};
 ghost use Rattle.ordered_rows.specs.Order.{lots_of};

@@ -1,9 +1,9 @@
 //! Kept replies, and how far clients have released their numbers.
 ghost use Rattle.std.specs.Prelude.{◌≡◌, ◌≤◌, ◌<◌, ◌^◌, ◌⊎◌, ◌↔◌, false, IfOk, IfSome, IsTrue, All};
 ghost use Rattle.std.specs.Prelude.{AllPairs, None, bytes_eq, map};
-ghost use Rattle.job_core.specs.Contents.{Entry, IsEntry, IsMark, Mark, is_above, is_of_number};
-ghost use Rattle.job_core.specs.Contents.{mark_of};
-ghost use Rattle.job_core.specs.Sound.{IsName};
+ghost use Rattle.job_facts.specs.Contents.{Entry, IsEntry, IsMark, Mark, is_above, is_of_number};
+ghost use Rattle.job_facts.specs.Contents.{mark_of};
+ghost use Rattle.job_facts.specs.Sound.{IsName};
 ghost use Rattle.audit_rows.specs.Rules.{IsFirstFailing, reply_rules};
 
 use crate::once::{are_once, set_of};

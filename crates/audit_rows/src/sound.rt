@@ -1,6 +1,6 @@
 //! Whether rows are those of sound contents, and where not, which rule fails.
 ghost use Rattle.std.specs.Prelude.{◌↔◌, IfOk, IfSome, IsNone, IsTrue};
-ghost use Rattle.job_core.specs.Contents.{AreSound, Contents};
+ghost use Rattle.job_facts.specs.Contents.{AreSound, Contents};
 ghost use Rattle.rows_of_facts.specs.Image.{image};
 ghost use Rattle.table_rows.specs.Tables.{HaveSameRows};
 ghost use Rattle.ordered_rows.specs.Order.{AreSorted};

@@ -1,7 +1,7 @@
 //! A machine that makes every card of a batch.
 use crate::typed::reply_to;
 use crate::ways::{StoreKind, over};
-use job_core::{JobStore, Reply};
+use job_facts::{JobStore, Reply};
 use std::alloc::Global;
 use store_data::Product;
 use worked_files::{CaseFault, Printed, check_bytes, post, put_command, put_name};

@@ -4,7 +4,7 @@ use crate::ways::{
     Exchange, ONE_BY_ONE, StoreKind, WHOLE, Way, are_few, check_wanted, check_way, connected,
     inputs, over, served,
 };
-use job_core::JobStore;
+use job_facts::JobStore;
 use server::Replied;
 use std::alloc::{AllocError, Global};
 use worked_files::{Case, CaseFault, Line, Wanted, check_bytes, put_bytes};

@@ -1,12 +1,12 @@
 //! A case's connections as typed arrivals and accounts.
 ghost use Rattle.std.specs.Prelude.{◌↔◌, ◌≤◌, ◌<◌, ◌^◌, All, IfOk, IfSome, IsTrue};
-ghost use Rattle.job_core.specs.Requests.{IsArrival, IsCall};
+ghost use Rattle.job_facts.specs.Requests.{IsArrival, IsCall};
 ghost use Rattle.wire.specs.Asks.{IsInRange};
 ghost use Rattle.wire.specs.Sending.{IsSendable};
 
 use crate::ways::{Exchange, StoreKind};
 use arrivals::{Kept, body_of, status_of};
-use job_core::{Arrival, Call, JobStore, Refusal, Reply, Request};
+use job_facts::{Arrival, Call, JobStore, Refusal, Reply, Request};
 use reply_store::{handle, run};
 use reports::{AccountFault, batch_counts, blank_counts, close_report};
 use server::Replied;

@@ -1,5 +1,5 @@
 //! Connections in memory, and what comes out of them.
-use job_core::JobStore;
+use job_facts::JobStore;
 use server::{End, MemoryConnections, Replied, serve_all};
 use std::alloc::{AllocError, Global};
 use worked_files::{CaseFault, NO_STORE, Wanted, check_bytes};

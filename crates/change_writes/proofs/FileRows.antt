@@ -20,8 +20,8 @@ use Rattle.batch_import.specs.Rows.{Left, TakesRow, row_then}
 use Rattle.batch_import.specs.Walks.{rows_then}
 use Rattle.batch_import.proofs.OutlineLemmas.{enumerate_push, keys_of_numbered}
 use Rattle.batch_import.proofs.WalkLemmas.{coming_of-few}
-use Rattle.job_core.specs.States.{rows_or_none}
-use Rattle.job_core.proofs.Lists.{list_any-there}
+use Rattle.job_facts.specs.States.{rows_or_none}
+use Rattle.job_facts.proofs.Lists.{list_any-there}
 use Rattle.sql_rows.specs.Image.{Moves}
 use Rattle.sql_rows.proofs.SameRows.{same_rows}
 use Rattle.table_rows.specs.After.{batch_rows_after, new_batch, new_grouping, new_record}

@@ -3,8 +3,8 @@
 ghost use Rattle.std.specs.Prelude.{◌≡◌, ◌+◌, false, true};
 ghost use Rattle.sqlite.specs.Held.{state};
 ghost use Rattle.sqlite.specs.State.{Survives};
-ghost use Rattle.job_core.specs.declared.facts.RecordState.TheVariants as rec;
-ghost use Rattle.job_core.specs.declared.facts.SessionState.TheVariants as stands;
+ghost use Rattle.job_facts.specs.declared.facts.RecordState.TheVariants as rec;
+ghost use Rattle.job_facts.specs.declared.facts.SessionState.TheVariants as stands;
 ghost use Rattle.sql_rows.specs.Writes.{WritesRows};
 ghost use Rattle.table_rows.specs.After.{less, more, new_session, one_opened};
 ghost use Rattle.table_rows.specs.After.{record_after, stopped};
@@ -13,7 +13,7 @@ ghost use Rattle.table_rows.specs.Tables.{with_lot_set, with_session, with_sessi
 
 use crate::counters::{fit, less, more, one_more, one_opened};
 use crate::records::{write_record, write_spoiled, write_stop};
-use job_core::{RecordState, SessionState};
+use job_facts::{RecordState, SessionState};
 use row_writes::{add_blank, add_session, add_word, set_end, set_lot, set_session};
 use sqlite::{Alter, Error, Transaction};
 use store_data::{Cursor, Name};

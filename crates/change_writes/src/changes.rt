@@ -11,7 +11,7 @@ use crate::cards::{write_discard, write_end, write_opened, write_record_word, wr
 use crate::counters::{fit, is_readable};
 use crate::imports::write_batch;
 use crate::records::{write_passed, write_remake};
-use job_core::{Change, RecordState, SessionState};
+use job_facts::{Change, RecordState, SessionState};
 use row_writes::{add_lot, add_product, set_closed};
 use sqlite::{Alter, Error, Transaction};
 use std::alloc::Global;

@@ -3,7 +3,7 @@ ghost use Rattle.std.specs.Prelude.{◌≡◌, ◌+◌, ◌<◌, ◌^◌, IfOk, 
 ghost use Rattle.store_data.specs.Sequence.{IsProduct};
 ghost use Rattle.table_rows.specs.After.{less, more, one_opened, one_spoiled};
 
-use job_core::{BatchTotals, RecordState};
+use job_facts::{BatchTotals, RecordState};
 use sqlite::Error;
 use store_data::Product;
 

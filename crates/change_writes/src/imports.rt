@@ -8,7 +8,7 @@ ghost use Rattle.store_data.specs.Sequence.{IsProduct};
 ghost use Rattle.store_data.specs.declared.row.Row.{Row as RowValue};
 ghost use Rattle.batch_import.specs.Batch.{batch_of, coming_of, records_of_rows};
 ghost use Rattle.batch_import.specs.Rows.{TakesRow};
-ghost use Rattle.job_core.specs.States.{rows_or_none};
+ghost use Rattle.job_facts.specs.States.{rows_or_none};
 ghost use Rattle.sql_rows.specs.Writes.{WritesRows};
 ghost use Rattle.table_rows.specs.After.{batch_rows_after};
 ghost use Rattle.change_writes.specs.Imports.{record_if_new, with_file_row, with_file_rows};

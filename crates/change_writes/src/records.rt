@@ -3,15 +3,15 @@
 ghost use Rattle.std.specs.Prelude.{◌≡◌, ◌+◌};
 ghost use Rattle.sqlite.specs.Held.{state};
 ghost use Rattle.sqlite.specs.State.{Survives};
-ghost use Rattle.job_core.specs.declared.facts.RecordState.TheVariants as rec;
-ghost use Rattle.job_core.specs.declared.facts.SessionState.TheVariants as session;
+ghost use Rattle.job_facts.specs.declared.facts.RecordState.TheVariants as rec;
+ghost use Rattle.job_facts.specs.declared.facts.SessionState.TheVariants as session;
 ghost use Rattle.sql_rows.specs.Writes.{WritesRows};
 ghost use Rattle.table_rows.specs.After.{less, more, passed, record_after, stopped};
 ghost use Rattle.table_rows.specs.Tables.{StoredRemake, with_remake};
 ghost use Rattle.change_writes.specs.Many.{WritesMany};
 
 use crate::counters::{fit, less, more, one_more, one_spoiled, totals_fit};
-use job_core::{BatchTotals, RecordState, SessionState};
+use job_facts::{BatchTotals, RecordState, SessionState};
 use row_writes::{add_remake, set_record, set_totals};
 use sqlite::{Alter, Error, Transaction};
 use table_rows::RecordPlace;

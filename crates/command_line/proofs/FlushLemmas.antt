@@ -7,9 +7,9 @@ use Rattle.text_io.specs.Inputs.{Tells}
 use Rattle.text_io.specs.Written.{AppendsBeginning}
 use Rattle.plan_print.specs.PlanEnds.{PlanEnds}
 use Rattle.plan_print.specs.declared.plan.PlanStop.TheVariants as plan
-use Rattle.job_core.specs.Store.{State}
-use Rattle.job_core.specs.declared.store.StoreFault.{StoreFault}
-use Rattle.job_core.specs.declared.store.StoreFault.TheVariants as fault
+use Rattle.job_facts.specs.Store.{State}
+use Rattle.job_facts.specs.declared.store.StoreFault.{StoreFault}
+use Rattle.job_facts.specs.declared.store.StoreFault.TheVariants as fault
 use Rattle.shop_floor.specs.Floors.{Floor}
 use Rattle.drill.specs.Steps.{Did}
 use Rattle.drill.specs.Ends.{EndsAt, IsWritten, Runs, printed, unopened}

@@ -3,9 +3,9 @@ use Rattle.std.specs.Prelude.{ℕ, Bool, List, ◌++◌, codes, if◌then◌else
 use Rattle.std.specs.Prelude.{Result, Ok, Err}
 use Rattle.std.specs.Fmt.{decimal}
 use Rattle.batch_import.specs.Kinds.{code_of}
-use Rattle.job_core.specs.Refusals as refusals
-use Rattle.job_core.specs.declared.store.StoreFault.{StoreFault}
-use Rattle.job_core.specs.declared.store.StoreFault.TheVariants as store
+use Rattle.job_facts.specs.Refusals as refusals
+use Rattle.job_facts.specs.declared.store.StoreFault.{StoreFault}
+use Rattle.job_facts.specs.declared.store.StoreFault.TheVariants as store
 use Rattle.reports.specs.declared.fault.AccountFault.{AccountFault}
 use Rattle.reports.specs.declared.fault.AccountFault.TheVariants as account
 use Rattle.server_lines.specs.declared.lines.ServeStop.{ServeStop}

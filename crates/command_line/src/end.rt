@@ -7,7 +7,7 @@ ghost use Rattle.command_line.specs.Ends.{end_of_store, exit_of, told_end};
 use batch_import::RowFault;
 use drill::DrillStop;
 use feeding::FeedStop;
-use job_core::{Refusal, StoreFault};
+use job_facts::{Refusal, StoreFault};
 use over_tables::FileFault;
 use plan_print::PlanStop;
 use program_words::WordsFault;

@@ -8,7 +8,7 @@ ghost use Rattle.command_line.specs.Joins.{refusal_lines, table_pair, wanted_of}
 use crate::end::End;
 use connection_lines::note_line;
 use event_lines::{EventLine, EventLog, Level, level_of};
-use job_core::StoreFault;
+use job_facts::StoreFault;
 use over_tables::{FileFault, Wanted};
 use program_words::{Words, WordsFault};
 use std::alloc::{AllocError, Global};

@@ -1,7 +1,7 @@
 -- The event lines of connections (this project's profile).
 use Rattle.std.specs.Prelude.{ℕ, ◌&&◌, ◌||◌, Bool, true, false, not, List, [], ◌∷◌, ◌++◌, bytes_eq, codes, if◌then◌else◌, Option, Some, None}
-use Rattle.job_core.specs.declared.store.StoreFault.{StoreFault}
-use Rattle.job_core.specs.declared.store.StoreFault.TheVariants as fault
+use Rattle.job_facts.specs.declared.store.StoreFault.{StoreFault}
+use Rattle.job_facts.specs.declared.store.StoreFault.TheVariants as fault
 use Rattle.heads.specs.ReplyParts.{body_behind}
 use Rattle.server.specs.declared.served.End.{End}
 use Rattle.server.specs.declared.served.End.TheVariants.{Answered, Broken, WriteFailed}

@@ -1,8 +1,8 @@
 -- What is observed of a connection that was served (this project's profile).
 use Rattle.std.specs.Prelude.{◌≡◌, nat_lt, Bool, IsTrue, if◌then◌else◌}
-use Rattle.job_core.specs.declared.store.StoreFault.{StoreFault}
-use Rattle.job_core.specs.declared.store.StoreFault.TheVariants as fault
-use Rattle.reopening.specs.declared.server_store.FaultCounts.{FaultCounts}
+use Rattle.job_facts.specs.declared.store.StoreFault.{StoreFault}
+use Rattle.job_facts.specs.declared.store.StoreFault.TheVariants as fault
+use Rattle.job_facts.specs.declared.server_store.FaultCounts.{FaultCounts}
 use Rattle.server.specs.Exchanges.{Exchange}
 use Rattle.connection_lines.specs.Bytes.{IsBeginning, IsReplyOf}
 use Rattle.connection_lines.specs.declared.observation.Observation.{Observation}

@@ -8,7 +8,7 @@ use crate::observation::Observation;
 use crate::words::{refusal_in, request_line};
 use event_lines::EventLine;
 use heads::reply_parts;
-use job_core::StoreFault;
+use job_facts::StoreFault;
 use server::End;
 use std::alloc::{AllocError, Global};
 

@@ -4,8 +4,7 @@ ghost use Rattle.std.specs.Prelude.{◌≡◌};
 use crate::beginning::Beginning;
 use crate::kept::{REPLY_BYTES, REQUEST_BYTES};
 use crate::words::status_digits;
-use job_core::StoreFault;
-use reopening::FaultCounts;
+use job_facts::{FaultCounts, StoreFault};
 use server::{End, Served};
 
 /// What is observed of a connection that was served.

@@ -2,7 +2,7 @@
 ghost use Rattle.std.specs.Prelude.{◌≡◌, is_some};
 ghost use Rattle.std.specs.Io.KnownBytes.{Appends};
 ghost use Rattle.heads.specs.Messages.{Tells};
-ghost use Rattle.reopening.specs.Reopening.{counts_of};
+ghost use Rattle.job_facts.specs.Reopening.{counts_of};
 ghost use Rattle.server.specs.Exchanges.{Exchange, Serves};
 ghost use Rattle.connection_lines.specs.Bytes.{KeepsRead, KeepsReply};
 ghost use Rattle.connection_lines.specs.Observations.{IsObservationOf};
@@ -10,7 +10,7 @@ ghost use Rattle.connection_lines.specs.Observations.{IsObservationOf};
 use crate::kept::{KeepingReader, KeepingWriter, Start};
 use crate::observation::Observation;
 use heads::ByteSource;
-use reopening::ServerStore;
+use job_facts::ServerStore;
 use server::serve_one;
 use std::alloc::Global;
 use std::io::Write;

@@ -1,6 +1,6 @@
 -- Lines by what they name.
 use Rattle.std.proofs.Common.{◌≡◌, ℕ, List, Option, Some, sym, subst}
-use Rattle.job_core.specs.Store.{State}
+use Rattle.job_facts.specs.Store.{State}
 use Rattle.feeder.specs.declared.world.Stop.{Stop}
 use Rattle.shop_floor.specs.declared.sent.Packet.{Packet}
 use Rattle.shop_floor.specs.Floors.{Floor, packet_at}

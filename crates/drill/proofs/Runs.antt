@@ -6,9 +6,9 @@ use Rattle.std.proofs.KnownBytes.{Appends-nil, Appends-trans, Keeps-refl}
 use Rattle.std.proofs.lemmas.List.{drop-drop, drop-map, length-drop, length-map}
 use Rattle.std.proofs.lemmas.List.Concat.{flat_map-append}
 use Rattle.std.proofs.lemmas.Option.{get_or_from_slice_get, slice_get-get_or}
-use Rattle.job_core.specs.Store.{State}
-use Rattle.job_core.specs.declared.store.StoreFault.{StoreFault}
-use Rattle.job_core.specs.declared.store.StoreFault.TheVariants as fault
+use Rattle.job_facts.specs.Store.{State}
+use Rattle.job_facts.specs.declared.store.StoreFault.{StoreFault}
+use Rattle.job_facts.specs.declared.store.StoreFault.TheVariants as fault
 use Rattle.text_io.proofs.Pieces.{begun}
 use Rattle.text_io.specs.Inputs.{Tells}
 use Rattle.text_io.specs.Written.{AppendsBeginning}

@@ -2,9 +2,9 @@
 use Rattle.std.proofs.Common.{◌≡◌, ℕ, List, [], ◌++◌, length, map, take, Some, refl, sym, ap, ◌∙◌}
 use Rattle.std.proofs.lemmas.List.{take_at, length-map}
 use Rattle.std.proofs.lemmas.Option.{same_Some}
-use Rattle.job_core.specs.Contents.{no_contents}
+use Rattle.job_facts.specs.Contents.{no_contents}
 use Rattle.list_store.specs.Lists.{state_of}
-use Rattle.job_core.specs.Contents.{Contents}
+use Rattle.job_facts.specs.Contents.{Contents}
 use Rattle.server.specs.Exchanges.{Entry, Exchange, IsServed, Moves, Queue, ServesAll, shown}
 
 abbrev brought : Exchange → List ℕ

@@ -1,6 +1,6 @@
 -- A drill over lists.
 use Rattle.std.specs.Prelude.{ℕ, List, Option, Result, ⊤}
-use Rattle.job_core.specs.Contents.{no_contents}
+use Rattle.job_facts.specs.Contents.{no_contents}
 use Rattle.list_store.specs.Lists.{state}
 use Rattle.list_store.specs.declared.store.ListStore.{ListStore}
 use Rattle.drill.specs.declared.stop.DrillStop.{DrillStop}

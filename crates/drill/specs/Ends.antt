@@ -3,9 +3,9 @@ use Rattle.std.specs.Prelude.{◌≡◌, ℕ, ◌+◌, Bool, true, false, List, 
 use Rattle.std.specs.Fmt.{decimal}
 use Rattle.std.specs.List.{flat_map}
 use Rattle.std.specs.Io.KnownBytes.{Appends, Keeps}
-use Rattle.job_core.specs.Store.{State}
-use Rattle.job_core.specs.declared.store.StoreFault.{StoreFault}
-use Rattle.job_core.specs.declared.store.StoreFault.TheVariants as fault
+use Rattle.job_facts.specs.Store.{State}
+use Rattle.job_facts.specs.declared.store.StoreFault.{StoreFault}
+use Rattle.job_facts.specs.declared.store.StoreFault.TheVariants as fault
 use Rattle.text_io.specs.Inputs.{Tells}
 use Rattle.text_io.specs.Written.{AppendsBeginning}
 use Rattle.text_io.specs.declared.reading.ReadFault.{ReadFault}
@@ -14,7 +14,7 @@ use Rattle.line_words.specs.Lines.{lines}
 use Rattle.shop_floor.specs.Floors.{Floor, empty_floor}
 use Rattle.drill.specs.declared.stop.DrillStop.{DrillStop}
 use Rattle.drill.specs.declared.stop.DrillStop.TheVariants as stop
-use Rattle.reopening.specs.Reopening.{IsAnew, Reopens}
+use Rattle.job_facts.specs.Reopening.{IsAnew, Reopens}
 use Rattle.drill.specs.Steps.{Did, Steps}
 
 -- what a line did, the store behind it, and the store at the next line

@@ -3,7 +3,7 @@ use Rattle.std.specs.Prelude.{◌≡◌, ℕ, ◌+◌, nat_eq, Bool, true, false
 use Rattle.std.specs.Fmt.{decimal}
 use Rattle.std.specs.List.{ends_with}
 use Rattle.text_io.specs.Written.{line}
-use Rattle.job_core.specs.Store.{State}
+use Rattle.job_facts.specs.Store.{State}
 use Rattle.wire.specs.ReplyParts.{body_behind, status_in}
 use Rattle.server.specs.declared.served.End.TheVariants.{Answered}
 use Rattle.server.specs.Exchanges.{Exchange, Serves}

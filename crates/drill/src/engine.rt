@@ -6,9 +6,8 @@ ghost use Rattle.drill.specs.Ends.{DrillsOver, Goes, GoesOn, Runs};
 
 use crate::step::step;
 use crate::stop::DrillStop;
-use job_core::StoreFault;
+use job_facts::{Reopen, StoreFault};
 use line_words::lines_of;
-use reopening::Reopen;
 use shop_floor::Floor;
 use std::alloc::Global;
 use std::io::{Read, Write};

@@ -10,7 +10,7 @@ use crate::delivery::{Delivery, delivery_of};
 use crate::script::asked;
 use feeder::Stop;
 use itoa::Buffer;
-use job_core::JobStore;
+use job_facts::JobStore;
 use server::{End, MemoryReader, serve_one};
 use shop_floor::{Floor, Turn, text_line, turn_of};
 use std::alloc::{AllocError, Global};

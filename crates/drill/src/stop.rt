@@ -1,7 +1,7 @@
 //! Why a drill stops.
 ghost use Rattle.std.specs.Prelude.{◌≡◌};
 
-use job_core::StoreFault;
+use job_facts::StoreFault;
 use std::alloc::AllocError;
 use std::error::Error;
 use std::fmt;

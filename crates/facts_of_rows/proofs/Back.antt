@@ -7,9 +7,9 @@ use Rattle.std.proofs.lemmas.List.Folds.{find_at}
 use Rattle.std.proofs.lemmas.List.FromFn.{length-enumerate_from}
 use Rattle.std.proofs.lemmas.List.Sorted.{length_permutation}
 use Rattle.store_data.proofs.GroupLemmas.{same-bytes_eq}
-use Rattle.job_core.specs.Contents.{AreSound, Contents}
-use Rattle.job_core.specs.Facts.{Batch, Facts, Session}
-use Rattle.job_core.specs.States.{records_named, records_of, records_under}
+use Rattle.job_facts.specs.Contents.{AreSound, Contents}
+use Rattle.job_facts.specs.Facts.{Batch, Facts, Session}
+use Rattle.job_facts.specs.States.{records_named, records_of, records_under}
 use Rattle.step_laws.proofs.Numbered.{session_sound}
 use Rattle.table_rows.specs.Tables.{HaveSameRows, StoredBatch, StoredRecord, StoredWord, Tables}
 use Rattle.rows_of_facts.specs.Image.{batch_id, batches_by_id, image, place_in, sessions_by_id, stored_batch, stored_batches, stored_record, stored_records, stored_session, stored_sessions, stored_words}

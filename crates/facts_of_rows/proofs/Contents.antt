@@ -1,7 +1,7 @@
 -- The rows of sound contents give these back; so contents with the same rows are the same.
 use Rattle.std.proofs.Common.{sym, ◌∙◌}
 use Rattle.std.proofs.lemmas.List.Sorted.{IsPermutation-sym, IsPermutation-trans}
-use Rattle.job_core.specs.Contents.{AreSame, AreSound, Contents}
+use Rattle.job_facts.specs.Contents.{AreSame, AreSound, Contents}
 use Rattle.table_rows.specs.Tables.{HaveSameRows, Tables}
 use Rattle.table_rows.proofs.Same.{itself}
 use Rattle.rows_of_facts.specs.Image.{image}

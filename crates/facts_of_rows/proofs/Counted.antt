@@ -6,7 +6,7 @@ use Rattle.std.proofs.lemmas.Bool.{both_ways, cases_Bool, cond-true, cond-false,
 use Rattle.std.proofs.lemmas.List.Folds.{sum_by-replicate}
 use Rattle.std.proofs.lemmas.List.Sorted.{IsPermutation-cons, IsPermutation-middle, IsPermutation-refl, IsPermutation-sym, IsPermutation-trans}
 use Rattle.std.proofs.lemmas.List.Sums.{sum_by-append, sum_by-cons}
-use Rattle.job_core.proofs.Lists.{All-there, count_by-at, count_by_any, count_by_none}
+use Rattle.job_facts.proofs.Lists.{All-there, count_by-at, count_by_any, count_by_none}
 use Rattle.step_laws.proofs.Permuted.{PassAlone, at_most_one}
 
 abbrev one : Bool → ℕ

@@ -9,9 +9,9 @@ use Rattle.store_data.proofs.GroupLemmas.{Distinct, Distinct-first_appearances, 
 use Rattle.store_data.proofs.PieceLemmas.{sum_by-agree, sum_by-flat_map, sum_by-map}
 use Rattle.store_data.specs.declared.row.Product.{Product}
 use Rattle.store_data.specs.declared.row.Row.{Row}
-use Rattle.job_core.specs.Facts.{Batch, Facts, RecordName}
-use Rattle.job_core.specs.Sound.{AreNamedOnce, IsRecord, IsSound}
-use Rattle.job_core.specs.States.{batch_named, is_record, records_of, records_under, rows_of}
+use Rattle.job_facts.specs.Facts.{Batch, Facts, RecordName}
+use Rattle.job_facts.specs.Sound.{AreNamedOnce, IsRecord, IsSound}
+use Rattle.job_facts.specs.States.{batch_named, is_record, records_of, records_under, rows_of}
 use Rattle.step_laws.proofs.Permuted.{PassAlone, at_most_one}
 use Rattle.rows_of_facts.specs.Image.{batches_by_id, placed_records}
 use Rattle.rows_of_facts.proofs.OneRecord.{turned}

@@ -10,12 +10,12 @@ use Rattle.std.proofs.lemmas.Grind.{flat_map-append}
 use Rattle.std.proofs.lemmas.Simd.{map-map}
 use Rattle.store_data.proofs.GroupLemmas.{bytes_eq-same, same-bytes_eq}
 use Rattle.store_data.proofs.IsPlanLemmas.{All-from_list_any}
-use Rattle.job_core.specs.declared.facts.RecordState.TheVariants as rec
-use Rattle.job_core.specs.declared.facts.SessionState.{SessionState}
-use Rattle.job_core.specs.Contents.{AreSound, Contents}
-use Rattle.job_core.specs.Facts.{Batch, Facts, RecordName, Session}
-use Rattle.job_core.specs.Sound.{IsRecord, IsSoundRecord, has_card}
-use Rattle.job_core.specs.States.{batch_named, is_closed, is_good, is_running, is_withdrawn, record_state, records_of, remakes_of, same_record_state, state_by}
+use Rattle.job_facts.specs.declared.facts.RecordState.TheVariants as rec
+use Rattle.job_facts.specs.declared.facts.SessionState.{SessionState}
+use Rattle.job_facts.specs.Contents.{AreSound, Contents}
+use Rattle.job_facts.specs.Facts.{Batch, Facts, RecordName, Session}
+use Rattle.job_facts.specs.Sound.{IsRecord, IsSoundRecord, has_card}
+use Rattle.job_facts.specs.States.{batch_named, is_closed, is_good, is_running, is_withdrawn, record_state, records_of, remakes_of, same_record_state, state_by}
 use Rattle.step_laws.proofs.Permuted.{IsPermutation-filter}
 use Rattle.table_rows.specs.Tables.{HaveSameRows, StoredBatch, StoredBlank, StoredLot, StoredRecord, StoredRemake, Tables}
 use Rattle.rows_of_facts.specs.Image.{batches_by_id, image, placed_records, records_in, remakes_at, remakes_in, stored_batch, stored_batches, stored_blank, stored_blanks, stored_lot, stored_lots, stored_record, stored_records, stored_remakes}

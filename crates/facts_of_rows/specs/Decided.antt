@@ -1,10 +1,10 @@
 -- The contents that rows decide: each by look-ups of keys, in a fixed way.
 use Rattle.std.specs.Prelude.{◌==◌, ◌&&◌, ℕ, List, [], map, filter, find, filter_map, length, Option, option_map, unwrap_or}
 use Rattle.std.specs.List.{range_with_len}
-use Rattle.job_core.specs.declared.facts.RecordState.TheVariants as rec
-use Rattle.job_core.specs.Contents.{Contents}
-use Rattle.job_core.specs.Facts.{Batch, Facts, RecordName, Session}
-use Rattle.job_core.specs.States.{same_record_state}
+use Rattle.job_facts.specs.declared.facts.RecordState.TheVariants as rec
+use Rattle.job_facts.specs.Contents.{Contents}
+use Rattle.job_facts.specs.Facts.{Batch, Facts, RecordName, Session}
+use Rattle.job_facts.specs.States.{same_record_state}
 use Rattle.table_rows.specs.Tables.{StoredBatch, StoredBlank, StoredLot, StoredRecord, StoredRemake, StoredSession, StoredWord, Tables}
 
 -- what the look-up finds for so many numbers, from the first of them on

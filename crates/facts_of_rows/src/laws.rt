@@ -1,5 +1,5 @@
 //! The rows of an image decide the contents. Each function does nothing; who calls it has its law.
-ghost use Rattle.job_core.specs.Contents.{AreSame, AreSound, Contents};
+ghost use Rattle.job_facts.specs.Contents.{AreSame, AreSound, Contents};
 ghost use Rattle.rows_of_facts.specs.Image.{image};
 ghost use Rattle.table_rows.specs.Tables.{HaveSameRows, Tables};
 ghost use Rattle.facts_of_rows.specs.Decided.{contents_of};

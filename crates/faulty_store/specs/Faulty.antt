@@ -1,7 +1,7 @@
 -- What a store of lists behind a device stands for.
 use Rattle.std.specs.Prelude.{◌≡◌, ℕ, zero, suc, Bool, false, true, Option, None, Some, ⊤}
-use Rattle.job_core.specs.Contents.{AreSound, Contents}
-use Rattle.job_core.specs.Store.{State}
+use Rattle.job_facts.specs.Contents.{AreSound, Contents}
+use Rattle.job_facts.specs.Store.{State}
 use Rattle.list_store.specs.Lists.{contents}
 use Rattle.faulty_store.specs.declared.device.Device.{Device}
 use Rattle.faulty_store.specs.declared.device.Fault.{Fault}

@@ -1,12 +1,13 @@
 //! A device, and the fault that is planned for it.
 ghost use Rattle.std.specs.Prelude.{◌≡◌, IfErr, OnErr, OnOk, Some, false, true};
-ghost use Rattle.job_core.specs.declared.store.StoreFault.TheVariants.{Device as DeviceFault};
-ghost use Rattle.job_core.specs.declared.store.StoreFault.TheVariants.{Full as FullFault};
-ghost use Rattle.job_core.specs.Store.{one_more};
+ghost use Rattle.job_facts.specs.declared.store.StoreFault.TheVariants.{Device as DeviceFault};
+ghost use Rattle.job_facts.specs.declared.store.StoreFault.TheVariants.{Full as FullFault};
+ghost use Rattle.job_facts.specs.Store.{one_more};
 ghost use Rattle.faulty_store.specs.declared.device.Fault.TheVariants.{Failed};
 ghost use Rattle.faulty_store.specs.Faulty.{ends, left, struck};
 
-use job_core::StoreFault;
+use job_facts::StoreFault;
+
 
 /// What a device does wrong.
 #[derive(Clone, Copy)]

@@ -1,11 +1,7 @@
 //! The store.
 use crate::device::{Device, Fault, Plan};
-use job_core::{
-    BatchRow, BatchSize, BatchTotals, BlankTotals, Change, JobStore, KeptReply, Lot, RecordLine,
-    RecordState, SegmentRow, SessionRow, StoreFault,
-};
+use job_facts::{BatchRow, BatchSize, BatchTotals, BlankTotals, Change, FaultCounts, JobStore, KeptReply, Lot, RecordLine, RecordState, SegmentRow, ServerStore, SessionRow, StoreFault};
 use list_store::ListStore;
-use reopening::{FaultCounts, ServerStore};
 use std::alloc::Global;
 use store_data::{Name, Product};
 
@@ -19,8 +15,8 @@ pub struct FaultyStore {
 
 impl FaultyStore {
     ghost use Rattle.std.specs.Prelude.{◌≡◌, false, OnOk, Some};
-    ghost use Rattle.job_core.specs.Contents.{AreSound, Contents, no_contents};
-    ghost use Rattle.job_core.specs.Store.{CountsFaults, IsHonest, Stays};
+    ghost use Rattle.job_facts.specs.Contents.{AreSound, Contents, no_contents};
+    ghost use Rattle.job_facts.specs.Store.{CountsFaults, IsHonest, Stays};
     ghost use Rattle.list_store.specs.Lists.{contents};
     ghost use Rattle.faulty_store.specs.Faulty.{IsAnswered, state, struck};
 

@@ -5,19 +5,19 @@ use Rattle.std.proofs.lemmas.Bool.{cond_both, cond-true}
 use Rattle.std.proofs.lemmas.List.Elements.{All-push, All-weaker}
 use Rattle.std.proofs.lemmas.Option.{slice_get_within}
 use Rattle.store_data.specs.Sequence.{Command}
-use Rattle.job_core.specs.declared.reply.Reply.{Reply}
-use Rattle.job_core.specs.declared.reply.Reply.TheVariants as reply
-use Rattle.job_core.specs.declared.refusal.Refusal.TheVariants.{ReleaseTooFar}
-use Rattle.job_core.specs.declared.request.Call.{Call}
-use Rattle.job_core.specs.declared.request.Call.TheVariants.{Job, Release}
-use Rattle.job_core.specs.declared.request.Request.TheVariants as request
-use Rattle.job_core.specs.Facts.{Facts, Session}
-use Rattle.job_core.specs.Sound.{IsName, IsSound}
-use Rattle.job_core.specs.States.{commands_for}
-use Rattle.job_core.specs.Steps.{step}
-use Rattle.job_core.specs.Contents.{Contents, Entry, Mark, entry_of, mark_of, with_mark}
-use Rattle.job_core.proofs.Lists.{find-All}
-use Rattle.job_core.proofs.Lists.{slice_get-append_left}
+use Rattle.job_facts.specs.declared.reply.Reply.{Reply}
+use Rattle.job_facts.specs.declared.reply.Reply.TheVariants as reply
+use Rattle.job_facts.specs.declared.refusal.Refusal.TheVariants.{ReleaseTooFar}
+use Rattle.job_facts.specs.declared.request.Call.{Call}
+use Rattle.job_facts.specs.declared.request.Call.TheVariants.{Job, Release}
+use Rattle.job_facts.specs.declared.request.Request.TheVariants as request
+use Rattle.job_facts.specs.Facts.{Facts, Session}
+use Rattle.job_facts.specs.Sound.{IsName, IsSound}
+use Rattle.job_facts.specs.States.{commands_for}
+use Rattle.job_facts.specs.Steps.{step}
+use Rattle.job_facts.specs.Contents.{Contents, Entry, Mark, entry_of, mark_of, with_mark}
+use Rattle.job_facts.proofs.Lists.{find-All}
+use Rattle.job_facts.proofs.Lists.{slice_get-append_left}
 use Rattle.step_laws.specs.Later.{IsLaterSession, Later, WordsWithin}
 use Rattle.step_laws.proofs.Growth.{later_same, step_later, step_words}
 use Rattle.step_laws.proofs.ReplyFacts.{step_may, step_says}

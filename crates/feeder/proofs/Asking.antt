@@ -1,8 +1,8 @@
 -- What is asked can be sent.
 use Rattle.std.proofs.Common.{◌≡◌, ◌≤◌, ℕ, subst, arith}
-use Rattle.job_core.specs.declared.request.Call.{Call}
-use Rattle.job_core.specs.declared.request.Call.TheVariants.{Job, Release}
-use Rattle.job_core.specs.declared.request.Request.TheVariants as request
+use Rattle.job_facts.specs.declared.request.Call.{Call}
+use Rattle.job_facts.specs.declared.request.Call.TheVariants.{Job, Release}
+use Rattle.job_facts.specs.declared.request.Request.TheVariants as request
 use Rattle.wire.specs.Sending.{IsSendable}
 use Rattle.feeder.specs.declared.feeder.Stand.TheVariants.{Asks}
 use Rattle.feeder.specs.Table.{FeederState, IsAsked, IsFeeder, IsStand, number_at}

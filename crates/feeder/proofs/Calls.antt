@@ -4,13 +4,13 @@ use Rattle.std.specs.Prelude.{nat_le, nat_lt}
 use Rattle.std.proofs.lemmas.Bool.{and_parts, cond_both, leb-true, leb-false}
 use borrow.Author.Tests.{ltb-true}
 use Rattle.std.proofs.lemmas.Option.{same_Some}
-use Rattle.job_core.specs.declared.reply.Reply.{Reply}
-use Rattle.job_core.specs.declared.reply.Reply.TheVariants as reply
-use Rattle.job_core.specs.declared.request.Call.{Call}
-use Rattle.job_core.specs.declared.request.Call.TheVariants.{Job, Release}
-use Rattle.job_core.specs.declared.request.Request.TheVariants as request
-use Rattle.job_core.specs.Facts.{Facts, Session}
-use Rattle.job_core.specs.States.{session_numbered}
+use Rattle.job_facts.specs.declared.reply.Reply.{Reply}
+use Rattle.job_facts.specs.declared.reply.Reply.TheVariants as reply
+use Rattle.job_facts.specs.declared.request.Call.{Call}
+use Rattle.job_facts.specs.declared.request.Call.TheVariants.{Job, Release}
+use Rattle.job_facts.specs.declared.request.Request.TheVariants as request
+use Rattle.job_facts.specs.Facts.{Facts, Session}
+use Rattle.job_facts.specs.States.{session_numbered}
 use Rattle.arrivals.specs.Commands.{IsCommand}
 use Rattle.feeder.specs.declared.feeder.Stand.{Stand}
 use Rattle.feeder.specs.declared.feeder.Stand.TheVariants.{Idle, Asks, HasCommand, Stale}

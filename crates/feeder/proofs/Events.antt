@@ -6,15 +6,15 @@ use Rattle.std.proofs.lemmas.Bool.{cond_both, eqb-true, eq-eqb, false≢true, lt
 use Rattle.std.proofs.lemmas.List.{length-take-le}
 use Rattle.std.proofs.lemmas.List.Elements.{All-nil, All-push, All-weaker}
 use Rattle.std.proofs.lemmas.Option.{none-some, same_Some, slice_get_within}
-use Rattle.job_core.specs.declared.reply.Reply.{Reply}
-use Rattle.job_core.specs.declared.request.Call.{Call}
-use Rattle.job_core.specs.declared.request.Call.TheVariants.{Job, Release}
-use Rattle.job_core.specs.declared.request.Request.TheVariants as request
-use Rattle.job_core.specs.Facts.{Facts, Session}
-use Rattle.job_core.specs.Sound.{IsName}
-use Rattle.job_core.specs.Contents.{Mark}
-use Rattle.job_core.proofs.Lists.{slice_get-append_left}
-use Rattle.job_core.proofs.SoundFacts.{sound_nothing}
+use Rattle.job_facts.specs.declared.reply.Reply.{Reply}
+use Rattle.job_facts.specs.declared.request.Call.{Call}
+use Rattle.job_facts.specs.declared.request.Call.TheVariants.{Job, Release}
+use Rattle.job_facts.specs.declared.request.Request.TheVariants as request
+use Rattle.job_facts.specs.Facts.{Facts, Session}
+use Rattle.job_facts.specs.Sound.{IsName}
+use Rattle.job_facts.specs.Contents.{Mark}
+use Rattle.job_facts.proofs.Lists.{slice_get-append_left}
+use Rattle.job_facts.proofs.SoundFacts.{sound_nothing}
 use Rattle.arrivals.specs.Told.{Told}
 use Rattle.arrivals.specs.Meaning.{Arrived, told_on}
 use Rattle.feeder.specs.Reading.{ReadsBack}
@@ -57,7 +57,7 @@ start_fine names = record {
     none_at zero x is = none-some x is
     none_at (suc i) x is = none-some x is
 
-    none_numbered : (s : ℕ) (x : Session) → Rattle.job_core.specs.States.session_numbered [] s ≡ Some x → ⊥
+    none_numbered : (s : ℕ) (x : Session) → Rattle.job_facts.specs.States.session_numbered [] s ≡ Some x → ⊥
     none_numbered zero x is = none-some x is
     none_numbered (suc i) x is = none_at i x is
 

@@ -6,12 +6,12 @@ use Rattle.std.proofs.lemmas.List.{length-map}
 use Rattle.std.proofs.lemmas.List.Elements.{All-weaker}
 use Rattle.std.proofs.lemmas.Option.{same_Some}
 use Rattle.store_data.specs.Sequence.{Command}
-use Rattle.job_core.specs.declared.reply.Reply.{Reply}
-use Rattle.job_core.specs.declared.request.Call.{Call}
-use Rattle.job_core.specs.declared.request.Call.TheVariants.{Release}
-use Rattle.job_core.specs.Facts.{Facts, Session}
-use Rattle.job_core.specs.States.{commands_for, session_numbered}
-use Rattle.job_core.specs.Contents.{Mark, mark_of}
+use Rattle.job_facts.specs.declared.reply.Reply.{Reply}
+use Rattle.job_facts.specs.declared.request.Call.{Call}
+use Rattle.job_facts.specs.declared.request.Call.TheVariants.{Release}
+use Rattle.job_facts.specs.Facts.{Facts, Session}
+use Rattle.job_facts.specs.States.{commands_for, session_numbered}
+use Rattle.job_facts.specs.Contents.{Mark, mark_of}
 use Rattle.step_laws.proofs.GoodCards.{good_whole, one_good, one_of_blank}
 use Rattle.arrivals.specs.Told.{Told, status_of}
 use Rattle.arrivals.specs.Meaning.{contents_after, is_released}

@@ -2,7 +2,7 @@
 use Rattle.std.proofs.Common.{Option, ap, ◌∙◌}
 use Rattle.std.specs.Prelude.{option_and_then}
 use Rattle.serde_json.specs.Read.{read}
-use Rattle.job_core.specs.declared.reply.Reply.{Reply}
+use Rattle.job_facts.specs.declared.reply.Reply.{Reply}
 use Rattle.arrivals.specs.Told.{Told}
 use Rattle.wire.specs.ReplyReading.{reply_in}
 use Rattle.wire.proofs.ParseLemmas.{body_is_read, reply_is_found}

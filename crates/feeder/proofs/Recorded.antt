@@ -6,9 +6,9 @@ use Rattle.std.proofs.lemmas.Bool.{cond_both}
 use Rattle.std.proofs.lemmas.List.{map-append, take-append-le}
 use Rattle.std.proofs.lemmas.List.Elements.{All-nil, All-push, All-weaker}
 use Rattle.std.proofs.lemmas.Option.{none-some, same_Some, slice_get_within}
-use Rattle.job_core.specs.declared.reply.Reply.{Reply}
-use Rattle.job_core.specs.Contents.{Contents, Entry, is_above, no_contents}
-use Rattle.job_core.proofs.Lists.{slice_get-append_left}
+use Rattle.job_facts.specs.declared.reply.Reply.{Reply}
+use Rattle.job_facts.specs.Contents.{Contents, Entry, is_above, no_contents}
+use Rattle.job_facts.proofs.Lists.{slice_get-append_left}
 use Rattle.arrivals.specs.Told.{Told}
 use Rattle.arrivals.specs.Meaning.{Arrived, contents_after, is_released, told_on}
 use Rattle.arrivals.specs.Laws.{AreAbove}

@@ -1,15 +1,15 @@
 -- What the replies of the plain machine say to machines, and go on to say.
 use Rattle.std.proofs.Common.{◌≡◌, ◌<◌, ◌+◌, ℕ, List, length, Some, refl, sym, ap, ◌∙◌, arith}
 use Rattle.std.specs.Prelude.{false, slice_get, ⊤}
-use Rattle.job_core.specs.declared.facts.SessionState.TheVariants as session
-use Rattle.job_core.specs.declared.reply.Reply.{Reply}
-use Rattle.job_core.specs.declared.reply.Reply.TheVariants as reply
-use Rattle.job_core.specs.declared.request.Request.{Request}
-use Rattle.job_core.specs.declared.request.Request.TheVariants as request
-use Rattle.job_core.specs.Facts.{Facts, Session, new_session}
-use Rattle.job_core.specs.Sound.{IsSound}
-use Rattle.job_core.specs.States.{command_at, command_bytes, commands_for, is_charged, session_numbered, session_state}
-use Rattle.job_core.proofs.Lists.{item_there}
+use Rattle.job_facts.specs.declared.facts.SessionState.TheVariants as session
+use Rattle.job_facts.specs.declared.reply.Reply.{Reply}
+use Rattle.job_facts.specs.declared.reply.Reply.TheVariants as reply
+use Rattle.job_facts.specs.declared.request.Request.{Request}
+use Rattle.job_facts.specs.declared.request.Request.TheVariants as request
+use Rattle.job_facts.specs.Facts.{Facts, Session, new_session}
+use Rattle.job_facts.specs.Sound.{IsSound}
+use Rattle.job_facts.specs.States.{command_at, command_bytes, commands_for, is_charged, session_numbered, session_state}
+use Rattle.job_facts.proofs.Lists.{item_there}
 use Rattle.step_laws.specs.Later.{IsLaterSession, Later}
 use Rattle.step_laws.specs.Ranges.{IsRangedReply}
 use Rattle.step_laws.specs.Replies.{MayBeTold, Says}

@@ -1,6 +1,6 @@
 -- How replies are told apart by their texts.
 use Rattle.std.specs.Prelude.{◌≡◌, ◌≢◌, ℕ, List, Option, Some, None}
-use Rattle.job_core.specs.declared.reply.Reply.{Reply}
+use Rattle.job_facts.specs.declared.reply.Reply.{Reply}
 use Rattle.arrivals.specs.Told.{Told, told_of}
 use Rattle.wire.specs.ReplyText.{IsReply, reply_bytes}
 

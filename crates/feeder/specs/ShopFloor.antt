@@ -1,14 +1,14 @@
 -- What holds on a shop floor, whatever happens.
 use Rattle.std.specs.Prelude.{◌≡◌, ◌≢◌, ◌≤◌, ◌<◌, ◌^◌, ◌==◌, ℕ, true, false, List, [], ◌∷◌, ◌++◌, map, filter, take, All, slice_get, Some, ⊤}
 use Rattle.store_data.specs.Sequence.{Command}
-use Rattle.job_core.specs.declared.facts.SessionState.TheVariants as session
-use Rattle.job_core.specs.declared.request.Call.{Call}
-use Rattle.job_core.specs.declared.request.Call.TheVariants.{Job, Release}
-use Rattle.job_core.specs.Facts.{Facts, Session}
-use Rattle.job_core.specs.Requests.{IsCall}
-use Rattle.job_core.specs.Sound.{IsName}
-use Rattle.job_core.specs.States.{commands_for, session_numbered, session_state}
-use Rattle.job_core.specs.Contents.{no_contents}
+use Rattle.job_facts.specs.declared.facts.SessionState.TheVariants as session
+use Rattle.job_facts.specs.declared.request.Call.{Call}
+use Rattle.job_facts.specs.declared.request.Call.TheVariants.{Job, Release}
+use Rattle.job_facts.specs.Facts.{Facts, Session}
+use Rattle.job_facts.specs.Requests.{IsCall}
+use Rattle.job_facts.specs.Sound.{IsName}
+use Rattle.job_facts.specs.States.{commands_for, session_numbered, session_state}
+use Rattle.job_facts.specs.Contents.{no_contents}
 use Rattle.step_laws.specs.Ranges.{IsRanged}
 use Rattle.arrivals.specs.Meaning.{Arrived, contents_after, is_released, told_on}
 use Rattle.feeder.specs.declared.world.Event.{Event}

@@ -1,12 +1,12 @@
 -- The shop floor: machines with their feeders and cards, a network that loses, repeats, delays and reorders, and a server that stops.
 use Rattle.std.specs.Prelude.{◌==◌, ◌||◌, ℕ, Bool, true, false, if◌then◌else◌, List, [], ◌∷◌, ◌++◌, bytes_eq, slice_get, Option, Some, None, Result, Ok, Err}
 use Rattle.std.specs.List.{list_any}
-use Rattle.job_core.specs.declared.request.Arrival.{Arrival}
-use Rattle.job_core.specs.declared.request.Call.{Call}
-use Rattle.job_core.specs.declared.request.Call.TheVariants.{Job, Release}
-use Rattle.job_core.specs.declared.request.Request.TheVariants as request
-use Rattle.job_core.specs.declared.reply.Reply.{Reply}
-use Rattle.job_core.specs.Contents.{Contents, no_contents}
+use Rattle.job_facts.specs.declared.request.Arrival.{Arrival}
+use Rattle.job_facts.specs.declared.request.Call.{Call}
+use Rattle.job_facts.specs.declared.request.Call.TheVariants.{Job, Release}
+use Rattle.job_facts.specs.declared.request.Request.TheVariants as request
+use Rattle.job_facts.specs.declared.reply.Reply.{Reply}
+use Rattle.job_facts.specs.Contents.{Contents, no_contents}
 use Rattle.arrivals.specs.Told.{Told}
 use Rattle.arrivals.specs.Meaning.{Arrived, contents_after, told_on}
 use Rattle.wire.specs.Sending.{ask_of}

@@ -1,6 +1,6 @@
 //! The shop floor: machines, a network that loses, repeats and delays, and a server that stops.
 ghost use Rattle.std.specs.Prelude.{All, Option};
-ghost use Rattle.job_core.specs.declared.reply.Reply.{Reply};
+ghost use Rattle.job_facts.specs.declared.reply.Reply.{Reply};
 ghost use Rattle.arrivals.specs.Told.{Told};
 ghost use Rattle.feeder.specs.Reading.{IsReadable, ReadsBack};
 ghost use Rattle.feeder.specs.ShopFloor.{AcknowledgedIsDecided, CardsAreCharged, DecidedIsMeant};
@@ -9,7 +9,7 @@ ghost use Rattle.feeder.specs.ShopFloor.{OldBootsAreOver, PutOutIsCounted, Recor
 ghost use Rattle.feeder.specs.ShopFloor.{RepeatsAreTold};
 ghost use Rattle.feeder.specs.World.{world_after};
 
-use job_core::Arrival;
+use job_facts::Arrival;
 use store_data::Name;
 
 /// Whether the server stops at an arrival.

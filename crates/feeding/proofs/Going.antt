@@ -3,10 +3,10 @@ use Rattle.std.proofs.Common.{◌≡◌, ◌≤◌, ◌<◌, ◌==◌, ℕ, ◌+
 use Rattle.std.specs.Prelude.{nat_lt, if◌then◌else◌}
 use Rattle.std.proofs.lemmas.Bool.{cond_both, eqb-true, eqb-false}
 use Rattle.std.proofs.lemmas.Option.{same_Some}
-use Rattle.job_core.specs.declared.reply.Reply.{Reply}
-use Rattle.job_core.specs.declared.request.Call.{Call}
-use Rattle.job_core.specs.declared.request.Call.TheVariants.{Job}
-use Rattle.job_core.specs.declared.request.Request.TheVariants as request
+use Rattle.job_facts.specs.declared.reply.Reply.{Reply}
+use Rattle.job_facts.specs.declared.request.Call.{Call}
+use Rattle.job_facts.specs.declared.request.Call.TheVariants.{Job}
+use Rattle.job_facts.specs.declared.request.Request.TheVariants as request
 use Rattle.feeder.specs.declared.feeder.InsertFault.{InsertFault}
 use Rattle.feeder.specs.declared.feeder.InsertFault.TheVariants.{Exhausted}
 use Rattle.feeder.specs.declared.feeder.Stand.{Stand}

@@ -10,7 +10,7 @@ use Rattle.std.specs.Global.{Global}
 use Rattle.std.specs.Io.KnownBytes.{Appends, Keeps}
 use Rattle.std.proofs.KnownBytes.{Appends-nil, Keeps-refl, Keeps-trans}
 use Rattle.text_io.specs.Written.{AppendsBeginning, line}
-use Rattle.job_core.specs.declared.reply.Reply.{Reply}
+use Rattle.job_facts.specs.declared.reply.Reply.{Reply}
 use Rattle.feeding.specs.declared.engine.Response.{Response}
 use Rattle.feeding.specs.declared.feed.Rejected.{Rejected}
 use Rattle.feeding.specs.declared.feed.Rejection.{Rejection}

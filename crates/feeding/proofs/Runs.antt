@@ -4,8 +4,8 @@ use Rattle.std.specs.Prelude.{option_map}
 use Rattle.std.specs.Io.KnownBytes.{Appends}
 use Rattle.std.proofs.KnownBytes.{Appends-trans}
 use Rattle.std.proofs.lemmas.List.{map_push}
-use Rattle.job_core.specs.declared.reply.Reply.{Reply}
-use Rattle.job_core.specs.declared.request.Call.{Call}
+use Rattle.job_facts.specs.declared.reply.Reply.{Reply}
+use Rattle.job_facts.specs.declared.request.Call.{Call}
 use Rattle.wire.specs.ReplyText.{IsReply, reply_bytes}
 use Rattle.text_io.proofs.Pieces.{begun}
 use Rattle.text_io.specs.Written.{AppendsBeginning}

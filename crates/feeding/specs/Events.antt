@@ -5,10 +5,10 @@ use Rattle.std.specs.Io.KnownBytes.{Keeps}
 use Rattle.event_lines.specs.declared.log.EventLog.{EventLog}
 use Rattle.event_lines.specs.Lines.{number_pair, pair, quoted_pair}
 use Rattle.event_lines.specs.Notes.{NotesAll}
-use Rattle.job_core.specs.declared.refusal.Refusal.TheVariants.{NumberReused}
-use Rattle.job_core.specs.declared.reply.Reply.{Reply}
-use Rattle.job_core.specs.declared.request.Call.{Call}
-use Rattle.job_core.specs.Refusals.{code_of}
+use Rattle.job_facts.specs.declared.refusal.Refusal.TheVariants.{NumberReused}
+use Rattle.job_facts.specs.declared.reply.Reply.{Reply}
+use Rattle.job_facts.specs.declared.request.Call.{Call}
+use Rattle.job_facts.specs.Refusals.{code_of}
 use Rattle.arrivals.specs.Values.{value_of}
 use Rattle.asks.specs.Members.{number_at, text_at}
 use Rattle.asks.specs.Requests.{with_two}

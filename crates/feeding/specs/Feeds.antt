@@ -1,7 +1,7 @@
 -- A feed (this project's profile): a machine that is given one card after the other, what its feeder's acts do, and what is printed of them.
 use Rattle.std.specs.Prelude.{ℕ, ◌+◌, ◌==◌, Bool, false, if◌then◌else◌, List, [], ◌∷◌, ◌++◌, Option, Some, None, Result, Ok, Err}
-use Rattle.job_core.specs.declared.reply.Reply.{Reply}
-use Rattle.job_core.specs.declared.request.Call.{Call}
+use Rattle.job_facts.specs.declared.reply.Reply.{Reply}
+use Rattle.job_facts.specs.declared.request.Call.{Call}
 use Rattle.feeder.specs.declared.feeder.InsertFault.{InsertFault}
 use Rattle.feeder.specs.declared.feeder.Stand.{Stand}
 use Rattle.feeder.specs.declared.feeder.Stand.TheVariants.{Idle, Asks, HasCommand, Stale}

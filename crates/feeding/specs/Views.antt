@@ -1,7 +1,7 @@
 -- How the code's values are seen.
 use Rattle.std.specs.Prelude.{◌≡◌, ℕ, List, Option, Some, map, drop, option_map}
-use Rattle.job_core.specs.declared.reply.Reply.{Reply}
-use Rattle.job_core.specs.declared.request.Call.{Call}
+use Rattle.job_facts.specs.declared.reply.Reply.{Reply}
+use Rattle.job_facts.specs.declared.request.Call.{Call}
 use Rattle.feeder.specs.Table.{asked}
 use Rattle.feeding.specs.declared.card.Card.{Card as CardValue}
 use Rattle.feeding.specs.declared.engine.Response.{Response}

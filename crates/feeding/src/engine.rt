@@ -14,7 +14,7 @@ use crate::exchange::Exchange;
 use crate::feed::Feed;
 use event_lines::{EventLog, Level};
 use feeder::Stand;
-use job_core::{Call, Reply};
+use job_facts::{Call, Reply};
 use line_words::lines_of;
 use std::alloc::{AllocError, Global};
 use std::error::Error;

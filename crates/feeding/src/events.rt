@@ -13,7 +13,7 @@ use crate::card::card_of;
 use crate::feed::{Rejected, Rejection};
 use crate::flaw::{Flaw, flaw_of};
 use event_lines::{EventLine, EventLog};
-use job_core::{Refusal, Reply};
+use job_facts::{Refusal, Reply};
 use std::alloc::{AllocError, Global};
 use std::io::Write;
 

@@ -11,7 +11,7 @@ ghost use Rattle.feeding.specs.Views.{AsksUnder, IsRejected, feed_view};
 
 use crate::card::{Card, card_of, push_applied, push_end};
 use feeder::{Act, Feeder, Stand};
-use job_core::Reply;
+use job_facts::Reply;
 use std::alloc::{AllocError, Global};
 use store_data::Name;
 

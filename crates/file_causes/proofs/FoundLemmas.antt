@@ -4,7 +4,7 @@ use Rattle.std.specs.Prelude.{IfOk, IfSome, MatchOption, option_map}
 use Rattle.sqlite.specs.Effect.{Database}
 use Rattle.sqlite.specs.State.{State}
 use Rattle.sqlite.specs.declared.error.Error.{Error}
-use Rattle.job_core.specs.Contents.{AreSound, Contents}
+use Rattle.job_facts.specs.Contents.{AreSound, Contents}
 use Rattle.table_rows.specs.Tables.{HaveSameRows, Tables}
 use Rattle.rows_of_facts.specs.Image.{image}
 use Rattle.ordered_rows.specs.Order.{AreSorted}

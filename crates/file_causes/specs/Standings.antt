@@ -1,7 +1,7 @@
 -- Whose tables a database has, and what rows come to that were read of it.
 use Rattle.std.specs.Prelude.{Option, Some, None}
 use Rattle.sqlite.specs.Effect.{Database}
-use Rattle.job_core.specs.Contents.{AreSound, Contents}
+use Rattle.job_facts.specs.Contents.{AreSound, Contents}
 use Rattle.table_rows.specs.Tables.{HaveSameRows, Tables}
 use Rattle.rows_of_facts.specs.Image.{image}
 use Rattle.ordered_rows.specs.Order.{AreSorted}

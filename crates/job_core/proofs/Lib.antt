@@ -1,10 +1,1 @@
-pub mod Lists
 pub mod HandingLemmas
-pub mod PlanLemmas
-pub mod RecordLemmas
-pub mod Serials
-pub mod SoundFacts
-pub mod SessionLemmas
-pub mod SoundSessions
-pub mod RunningLemmas
-pub mod NextContents

@@ -8,17 +8,13 @@ mod records;
 mod sessions;
 
 ghost use Rattle.std.specs.Prelude.{◌≡◌};
-ghost use Rattle.job_core.specs.Requests.{IsRequest};
-ghost use Rattle.job_core.specs.Sound.{Decides};
-ghost use Rattle.job_core.specs.Store.{CountsFaults, Reads, Stays};
-ghost use Rattle.job_core.specs.declared.change.Change.TheVariants.{Nothing};
-ghost use Rattle.job_core.specs.declared.reply.Reply.TheVariants.{Refused};
+ghost use Rattle.job_facts.specs.Requests.{IsRequest};
+ghost use Rattle.job_facts.specs.Sound.{Decides};
+ghost use Rattle.job_facts.specs.Store.{CountsFaults, Reads, Stays};
+ghost use Rattle.job_facts.specs.declared.change.Change.TheVariants.{Nothing};
+ghost use Rattle.job_facts.specs.declared.reply.Reply.TheVariants.{Refused};
 
-use crate::change::Change;
-use crate::refusal::Refusal;
-use crate::reply::Reply;
-use crate::request::Request;
-use crate::store::{JobStore, StoreFault};
+use job_facts::{Change, JobStore, Refusal, Reply, Request, StoreFault};
 use std::alloc::Global;
 use store_data::Name;
 

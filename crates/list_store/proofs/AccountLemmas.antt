@@ -1,12 +1,12 @@
 -- The totals of a product's blanks, from their parts.
 use Rattle.std.proofs.Common.{◌≡◌, ℕ, List, length, map}
 use Rattle.std.specs.Prelude.{count_by, filter, sum_by}
-use Rattle.job_core.specs.declared.facts.Lot.{Lot}
-use Rattle.job_core.specs.declared.facts.SessionState.{SessionState}
-use Rattle.job_core.specs.declared.rows.BlankTotals.{BlankTotals}
-use Rattle.job_core.specs.Accounts.{blank_states, blank_totals, is_blank_of, is_lot_of}
-use Rattle.job_core.specs.Facts.{Facts, Session}
-use Rattle.job_core.specs.States.{is_good, is_running, is_spoiled, lot_of, session_state}
+use Rattle.job_facts.specs.declared.facts.Lot.{Lot}
+use Rattle.job_facts.specs.declared.facts.SessionState.{SessionState}
+use Rattle.job_facts.specs.declared.rows.BlankTotals.{BlankTotals}
+use Rattle.job_facts.specs.Accounts.{blank_states, blank_totals, is_blank_of, is_lot_of}
+use Rattle.job_facts.specs.Facts.{Facts, Session}
+use Rattle.job_facts.specs.States.{is_good, is_running, is_spoiled, lot_of, session_state}
 use Rattle.list_store.specs.Sessions.{lots_for}
 
 module _ (f : Facts) (p : List ℕ) where

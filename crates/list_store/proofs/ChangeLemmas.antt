@@ -1,6 +1,6 @@
 -- A change of one session, by its place.
 use Rattle.std.proofs.Common.{◌≡◌, ℕ, zero, suc, ◌-◌, ◌<◌, ◌≤◌, List, [], ◌∷◌, length, get_or, set, refl, ap, ◌∙◌, arith}
-use Rattle.job_core.specs.Facts.{Session, at_session}
+use Rattle.job_facts.specs.Facts.{Session, at_session}
 
 module _ (change : Session → Session) where
   set_at : (sessions : List Session) (i : ℕ) (d new : Session) → i < length sessions → new ≡ change (get_or sessions i d)

@@ -8,7 +8,7 @@ use Rattle.store_data.specs.declared.row.Row.{Row}
 use Rattle.store_data.specs.RecordFaults.{HavePlan}
 use Rattle.store_data.specs.Sequence.{IsProduct, IsRow}
 use Rattle.batch_import.specs.SoundRecords.{AreSoundRecords}
-use Rattle.job_core.specs.States.{rows_of_record}
+use Rattle.job_facts.specs.States.{rows_of_record}
 
 pub HavePlan-of_record : (p : Product) (rows made : List Row) (r : List ℕ) → made ≡ rows_of_record rows r → IsProduct p → length rows ≤ 4096 → All IsRow rows
     → AreSoundRecords p.max rows → HavePlan p made

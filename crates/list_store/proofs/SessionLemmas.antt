@@ -3,8 +3,8 @@ use Rattle.std.proofs.Common.{◌≡◌, ℕ, zero, suc, Option, Some, None, ref
 use Rattle.std.specs.Prelude.{option_and_then, unwrap_or}
 use Rattle.store_data.specs.Cursor.{cursor_at, cursors_of, select_cursor}
 use Rattle.store_data.specs.Sequence.{Plan, commands_of, no_plan}
-use Rattle.job_core.specs.Facts.{Facts, Session}
-use Rattle.job_core.specs.States.{commands_under, going, plan_for, session_cursor, session_state, state_with}
+use Rattle.job_facts.specs.Facts.{Facts, Session}
+use Rattle.job_facts.specs.States.{commands_under, going, plan_for, session_cursor, session_state, state_with}
 use Rattle.list_store.specs.Sessions.{cursor_after, plan_of_session}
 
 commands_or_none : (o : Option Plan) → commands_of (unwrap_or o no_plan) ≡ commands_under o

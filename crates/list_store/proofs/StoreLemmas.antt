@@ -1,11 +1,11 @@
 -- What a commit or a release makes of the contents of the lists.
 use Rattle.std.proofs.Common.{◌≡◌, ℕ, List, ◌∷◌, ◌++◌, [], Option, Some, Ok, sym, ap, ◌∙◌, subst, inr, arith}
-use Rattle.job_core.specs.declared.change.Change.{Change}
-use Rattle.job_core.specs.Facts.{Facts}
-use Rattle.job_core.specs.Sound.{changed}
-use Rattle.job_core.specs.Contents.{AreSound, Contents, Entry, IsOwed, IsOwedRelease, Mark, above, committed, released, with_mark}
-use Rattle.job_core.specs.Store.{Commits, IsFound}
-use Rattle.job_core.proofs.NextContents.{AreSame-refl, sound_committed, sound_released}
+use Rattle.job_facts.specs.declared.change.Change.{Change}
+use Rattle.job_facts.specs.Facts.{Facts}
+use Rattle.job_facts.specs.Sound.{changed}
+use Rattle.job_facts.specs.Contents.{AreSound, Contents, Entry, IsOwed, IsOwedRelease, Mark, above, committed, released, with_mark}
+use Rattle.job_facts.specs.Store.{Commits, IsFound}
+use Rattle.job_facts.proofs.NextContents.{AreSame-refl, sound_committed, sound_released}
 use Rattle.list_store.specs.Lists.{state_of}
 
 -- contents that have become those after

@@ -1,7 +1,7 @@
 -- What the lists stand for.
 use Rattle.std.specs.Prelude.{◌≡◌, Some}
-use Rattle.job_core.specs.Contents.{AreSound, Contents}
-use Rattle.job_core.specs.Store.{State}
+use Rattle.job_facts.specs.Contents.{AreSound, Contents}
+use Rattle.job_facts.specs.Store.{State}
 use Rattle.list_store.specs.declared.store.ListStore.{ListStore}
 
 abbrev pub contents : ListStore → Contents

@@ -3,9 +3,9 @@ use Rattle.std.specs.Prelude.{◌&&◌, ℕ, List, Option, bytes_eq, filter, fin
 use Rattle.store_data.specs.declared.cursor.Cursor.{Cursor}
 use Rattle.store_data.specs.Cursor.{cursor_at, select_cursor}
 use Rattle.store_data.specs.Sequence.{Plan, commands_of, no_plan}
-use Rattle.job_core.specs.declared.facts.Lot.{Lot}
-use Rattle.job_core.specs.Facts.{Facts, Session}
-use Rattle.job_core.specs.States.{going, is_running, numbered, plan_for, session_state}
+use Rattle.job_facts.specs.declared.facts.Lot.{Lot}
+use Rattle.job_facts.specs.Facts.{Facts, Session}
+use Rattle.job_facts.specs.States.{going, is_running, numbered, plan_for, session_state}
 
 -- the plan of a session's record, or one without commands
 abbrev pub plan_of_session : Facts → Session → Plan

@@ -1,22 +1,20 @@
 //! The accounts of batches, records and blanks.
 ghost use Rattle.std.specs.Prelude.{◌≡◌, ◌&&◌, IfErr, IfOk, bytes_eq, count_by, filter, find};
 ghost use Rattle.std.specs.Prelude.{length, map, option_map, sum_by};
-ghost use Rattle.job_core.specs.declared.store.StoreFault.TheVariants.{Memory};
-ghost use Rattle.job_core.specs.declared.facts.Lot.{Lot as LotValue};
-ghost use Rattle.job_core.specs.Accounts.{batch_totals, blank_states, blank_totals, count_records};
-ghost use Rattle.job_core.specs.Accounts.{is_blank_of, is_lot_of, record_line, record_lines};
-ghost use Rattle.job_core.specs.Accounts.{record_states, session_states};
-ghost use Rattle.job_core.specs.Facts.{Session};
-ghost use Rattle.job_core.specs.States.{is_good, lot_of, record_state, session_state};
+ghost use Rattle.job_facts.specs.declared.store.StoreFault.TheVariants.{Memory};
+ghost use Rattle.job_facts.specs.declared.facts.Lot.{Lot as LotValue};
+ghost use Rattle.job_facts.specs.Accounts.{batch_totals, blank_states, blank_totals, count_records};
+ghost use Rattle.job_facts.specs.Accounts.{is_blank_of, is_lot_of, record_line, record_lines};
+ghost use Rattle.job_facts.specs.Accounts.{record_states, session_states};
+ghost use Rattle.job_facts.specs.Facts.{Session};
+ghost use Rattle.job_facts.specs.States.{is_good, lot_of, record_state, session_state};
 ghost use Rattle.list_store.specs.Sessions.{lots_for, sessions_of_record};
 
 use crate::lists::{FactLists, KeptSession};
 use crate::records::record_names;
 use crate::sessions::session_state;
 use crate::states::{count_sessions, record_state, states_among};
-use job_core::{
-    BatchTotals, BlankTotals, Lot, RecordLine, RecordState, SessionState, StoreFault, lot_among,
-};
+use job_facts::{BatchTotals, BlankTotals, Lot, RecordLine, RecordState, SessionState, StoreFault, lot_among};
 use std::alloc::Global;
 use store_data::Name;
 
@@ -69,7 +67,7 @@ fn count_records(states: &[RecordState], state: RecordState) -> u64
 }
 
 /// How a batch stands.
-#[tactic(auto, unfolding(job_core::specs::Accounts::batch_totals, job_core::specs::Accounts::record_states, job_core::specs::Accounts::session_states))]
+#[tactic(auto, unfolding(job_facts::specs::Accounts::batch_totals, job_facts::specs::Accounts::record_states, job_facts::specs::Accounts::session_states))]
 pub(crate) fn batch_totals(
     alloc: Global,
     facts: &FactLists,
@@ -139,7 +137,7 @@ fn record_line(
 }
 
 /// How the records of a batch stand, in file order.
-#[tactic(auto, unfolding(job_core::specs::Accounts::record_lines))]
+#[tactic(auto, unfolding(job_facts::specs::Accounts::record_lines))]
 pub(crate) fn record_lines(
     alloc: Global,
     facts: &FactLists,
@@ -223,7 +221,7 @@ fn sum_lots(lots: &[Lot], product: &Name) -> Result<u64, StoreFault>
 }
 
 /// How a product's blanks stand.
-#[tactic(auto, unfolding(job_core::specs::Accounts::blank_totals, job_core::specs::Accounts::blank_states))]
+#[tactic(auto, unfolding(job_facts::specs::Accounts::blank_totals, job_facts::specs::Accounts::blank_states))]
 pub(crate) fn blank_totals(
     alloc: Global,
     facts: &FactLists,

@@ -1,7 +1,6 @@
 //! Lists have nothing to close.
 use crate::store::ListStore;
-use job_core::StoreFault;
-use reopening::Reopen;
+use job_facts::{Reopen, StoreFault};
 use std::alloc::Global;
 
 impl Reopen for ListStore {

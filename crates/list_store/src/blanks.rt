@@ -1,8 +1,8 @@
 //! Which blanks are charged.
 ghost use Rattle.std.specs.Prelude.{◌≡◌, ◌==◌};
 ghost use Rattle.std.specs.List.{list_any};
-ghost use Rattle.job_core.specs.Facts.{Session};
-ghost use Rattle.job_core.specs.States.{is_charged};
+ghost use Rattle.job_facts.specs.Facts.{Session};
+ghost use Rattle.job_facts.specs.States.{is_charged};
 
 use crate::lists::{FactLists, KeptSession};
 

@@ -1,12 +1,12 @@
 //! Facts with one change more.
 ghost use Rattle.std.specs.Prelude.{◌≡◌, IfErr, Ok, OnErr, OnOk};
-ghost use Rattle.job_core.specs.declared.store.StoreFault.TheVariants.{Memory};
-ghost use Rattle.job_core.specs.Facts.{at_session, ended, worded};
-ghost use Rattle.job_core.specs.Sound.{changed};
+ghost use Rattle.job_facts.specs.declared.store.StoreFault.TheVariants.{Memory};
+ghost use Rattle.job_facts.specs.Facts.{at_session, ended, worded};
+ghost use Rattle.job_facts.specs.Sound.{changed};
 
 use crate::kept::copied;
 use crate::lists::{FactLists, KeptBatch, KeptRecord, KeptSession, KnownProduct};
-use job_core::{Change, StoreFault};
+use job_facts::{Change, StoreFault};
 use std::alloc::Global;
 use store_data::{Name, Product};
 

@@ -2,7 +2,7 @@
 ghost use Rattle.std.specs.Prelude.{◌≡◌, ◌==◌, IfSome, length, slice_get};
 ghost use Rattle.store_data.specs.Cursor.{IsCursor, cursor_at};
 ghost use Rattle.store_data.specs.Sequence.{IsPlan, commands_of};
-ghost use Rattle.job_core.specs.States.{going, is_tolerant, last_stops};
+ghost use Rattle.job_facts.specs.States.{going, is_tolerant, last_stops};
 
 use store_data::{Class, Cursor, RecordPlan, class};
 

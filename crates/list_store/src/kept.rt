@@ -1,10 +1,10 @@
 //! Kept replies.
 ghost use Rattle.std.specs.Prelude.{◌≡◌, IfOk, IfErr, option_map};
-ghost use Rattle.job_core.specs.declared.store.StoreFault.TheVariants.{Memory};
-ghost use Rattle.job_core.specs.Contents.{entry_of, reply_of_entry};
+ghost use Rattle.job_facts.specs.declared.store.StoreFault.TheVariants.{Memory};
+ghost use Rattle.job_facts.specs.Contents.{entry_of, reply_of_entry};
 
 use crate::lists::KeptRow;
-use job_core::{KeptReply, StoreFault};
+use job_facts::{KeptReply, StoreFault};
 use std::alloc::Global;
 use store_data::{Bytes, Name};
 

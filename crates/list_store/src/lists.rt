@@ -1,10 +1,10 @@
 //! The facts as lists.
 ghost use Rattle.std.specs.Prelude.{◌≡◌, IfErr, IfOk, Ok, OnErr, OnOk};
 ghost use Rattle.store_data.specs.Sequence.{IsProduct};
-ghost use Rattle.job_core.specs.Facts.{ended, no_facts, worded};
-ghost use Rattle.job_core.specs.declared.store.StoreFault.TheVariants.{Memory};
+ghost use Rattle.job_facts.specs.Facts.{ended, no_facts, worded};
+ghost use Rattle.job_facts.specs.declared.store.StoreFault.TheVariants.{Memory};
 
-use job_core::{Lot, StoreFault};
+use job_facts::{Lot, StoreFault};
 use std::alloc::{AllocError, Global};
 use std::marker::Model;
 use store_data::{Bytes, Name, Product};
@@ -57,7 +57,7 @@ pub(crate) struct KeptBatch {
 }
 
 impl Model for KeptBatch {
-    ghost use Rattle.job_core.specs.Facts.{Batch};
+    ghost use Rattle.job_facts.specs.Facts.{Batch};
 
     ghost Value = { Batch };
 
@@ -76,7 +76,7 @@ pub(crate) struct KeptSession {
 }
 
 impl Model for KeptSession {
-    ghost use Rattle.job_core.specs.Facts.{Session};
+    ghost use Rattle.job_facts.specs.Facts.{Session};
 
     ghost Value = { Session };
 
@@ -114,7 +114,7 @@ pub(crate) struct KeptRecord {
 }
 
 impl Model for KeptRecord {
-    ghost use Rattle.job_core.specs.Facts.{RecordName};
+    ghost use Rattle.job_facts.specs.Facts.{RecordName};
 
     ghost Value = { RecordName };
 
@@ -135,7 +135,7 @@ pub(crate) struct FactLists {
 }
 
 impl Model for FactLists {
-    ghost use Rattle.job_core.specs.Facts.{Facts};
+    ghost use Rattle.job_facts.specs.Facts.{Facts};
 
     ghost Value = { Facts };
 
@@ -180,7 +180,7 @@ pub(crate) struct KeptRow {
 }
 
 impl Model for KeptRow {
-    ghost use Rattle.job_core.specs.Contents.{Entry};
+    ghost use Rattle.job_facts.specs.Contents.{Entry};
 
     ghost Value = { Entry };
 
@@ -201,7 +201,7 @@ pub(crate) struct KeptMark {
 }
 
 impl Model for KeptMark {
-    ghost use Rattle.job_core.specs.Contents.{Mark};
+    ghost use Rattle.job_facts.specs.Contents.{Mark};
 
     ghost Value = { Mark };
 

@@ -1,10 +1,10 @@
 //! How far clients have released their numbers.
 ghost use Rattle.std.specs.Prelude.{◌≡◌, IfErr, OnErr, OnOk};
-ghost use Rattle.job_core.specs.declared.store.StoreFault.TheVariants.{Memory};
-ghost use Rattle.job_core.specs.Contents.{above, mark_of, with_mark};
+ghost use Rattle.job_facts.specs.declared.store.StoreFault.TheVariants.{Memory};
+ghost use Rattle.job_facts.specs.Contents.{above, mark_of, with_mark};
 
 use crate::lists::{KeptMark, KeptRow};
-use job_core::StoreFault;
+use job_facts::StoreFault;
 use store_data::Name;
 
 /// The mark of a client; 0 where it has none.

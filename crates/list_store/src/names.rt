@@ -1,10 +1,10 @@
 //! What stands under a name.
 ghost use Rattle.std.specs.Prelude.{◌≡◌, IfSome, option_copied};
 ghost use Rattle.store_data.specs.Sequence.{IsProduct};
-ghost use Rattle.job_core.specs.States.{batch_named, lot_named, product_named};
+ghost use Rattle.job_facts.specs.States.{batch_named, lot_named, product_named};
 
 use crate::lists::{KeptBatch, KnownProduct};
-use job_core::Lot;
+use job_facts::Lot;
 use store_data::{Name, Product};
 
 pub(crate) fn product_named(products: &[KnownProduct], code: &Name) -> Option<Product>

@@ -6,15 +6,15 @@ ghost use Rattle.store_data.specs.Sequence.{IsProduct, IsRow};
 ghost use Rattle.store_data.specs.declared.row.Row.{Row as RowValue};
 ghost use Rattle.batch_import.specs.Batch.{batch_of};
 ghost use Rattle.batch_import.specs.SoundRecords.{AreSoundRecords};
-ghost use Rattle.job_core.specs.declared.store.StoreFault.TheVariants.{Memory};
-ghost use Rattle.job_core.specs.Rows.{batch_has, batch_row_of, batch_size_of};
-ghost use Rattle.job_core.specs.States.{is_closed, plan_for, records_named, records_of, rows_of};
-ghost use Rattle.job_core.specs.States.{rows_of_record, rows_or_none};
+ghost use Rattle.job_facts.specs.declared.store.StoreFault.TheVariants.{Memory};
+ghost use Rattle.job_facts.specs.Rows.{batch_has, batch_row_of, batch_size_of};
+ghost use Rattle.job_facts.specs.States.{is_closed, plan_for, records_named, records_of, rows_of};
+ghost use Rattle.job_facts.specs.States.{rows_of_record, rows_or_none};
 
 use crate::lists::{FactLists, KeptBatch};
 use crate::names::{batch_named, product_named};
 use batch_import::{ImportFault, Totals, check_batch, read_batch};
-use job_core::{BatchRow, BatchSize, StoreFault};
+use job_facts::{BatchRow, BatchSize, StoreFault};
 use std::alloc::{AllocError, Global};
 use std::marker::Model;
 use store_data::{Name, Product, RecordPlan, Row, plan_of_sound};
@@ -73,7 +73,7 @@ pub(crate) fn batch_row(facts: &FactLists, name: &Name) -> Option<BatchRow>
 }
 
 /// How many rows and records the batch of a name has.
-#[tactic(auto, unfolding(job_core::specs::States::rows_of, store_data::specs::Groups::grouped))]
+#[tactic(auto, unfolding(job_facts::specs::States::rows_of, store_data::specs::Groups::grouped))]
 pub(crate) fn batch_size(
     alloc: Global,
     facts: &FactLists,
@@ -124,7 +124,7 @@ fn rows_of_record(alloc: Global, rows: Vec<Row>, rec: &Name) -> Result<Vec<Row>,
 }
 
 /// The rows of a record, if its batch and product are there.
-#[tactic(auto, unfolding(job_core::specs::States::plan_for, job_core::specs::States::rows_of))]
+#[tactic(auto, unfolding(job_facts::specs::States::plan_for, job_facts::specs::States::rows_of))]
 pub(crate) fn record_rows(
     alloc: Global,
     facts: &FactLists,
@@ -168,7 +168,7 @@ pub(crate) fn has_name(names: &[Name], name: &Name) -> bool
 }
 
 /// The records of the batch of a name, in file order.
-#[tactic(auto, unfolding(job_core::specs::States::records_of, job_core::specs::States::rows_of))]
+#[tactic(auto, unfolding(job_facts::specs::States::records_of, job_facts::specs::States::rows_of))]
 pub(crate) fn record_names(
     alloc: Global,
     facts: &FactLists,

@@ -1,13 +1,13 @@
 //! The segments of a record's plan.
 ghost use Rattle.std.specs.Prelude.{◌≡◌, ◌≤◌, IfErr, IfOk, IfSome};
-ghost use Rattle.job_core.specs.declared.rows.SegmentRow.{SegmentRow as SegmentRowValue};
-ghost use Rattle.job_core.specs.declared.store.StoreFault.TheVariants.{Memory};
-ghost use Rattle.job_core.specs.Rows.{segment_row_of};
+ghost use Rattle.job_facts.specs.declared.rows.SegmentRow.{SegmentRow as SegmentRowValue};
+ghost use Rattle.job_facts.specs.declared.store.StoreFault.TheVariants.{Memory};
+ghost use Rattle.job_facts.specs.Rows.{segment_row_of};
 
 use crate::kept::copied;
 use crate::lists::FactLists;
 use crate::records::record_rows;
-use job_core::{SegmentRow, StoreFault};
+use job_facts::{SegmentRow, StoreFault};
 use std::alloc::Global;
 use store_data::{Aid, Name, RecordPlan, SegmentView};
 

@@ -3,17 +3,17 @@ ghost use Rattle.std.specs.Prelude.{◌≡◌, IfErr, IfOk, IfSome, option_copie
 ghost use Rattle.std.specs.Prelude.{unwrap_or};
 ghost use Rattle.store_data.specs.Cursor.{IsCursor};
 ghost use Rattle.store_data.specs.Sequence.{commands_of, no_plan};
-ghost use Rattle.job_core.specs.declared.rows.SessionRow.{SessionRow as SessionRowValue};
-ghost use Rattle.job_core.specs.declared.store.StoreFault.TheVariants.{Memory};
-ghost use Rattle.job_core.specs.Rows.{session_row_of};
-ghost use Rattle.job_core.specs.States.{running_session, session_numbered, session_state};
-ghost use Rattle.job_core.specs.States.{state_with};
+ghost use Rattle.job_facts.specs.declared.rows.SessionRow.{SessionRow as SessionRowValue};
+ghost use Rattle.job_facts.specs.declared.store.StoreFault.TheVariants.{Memory};
+ghost use Rattle.job_facts.specs.Rows.{session_row_of};
+ghost use Rattle.job_facts.specs.States.{running_session, session_numbered, session_state};
+ghost use Rattle.job_facts.specs.States.{state_with};
 ghost use Rattle.list_store.specs.Sessions.{cursor_after};
 
 use crate::cursors::{cursor_at, ends_at, going, last_stops};
 use crate::lists::{FactLists, KeptSession};
 use crate::records::{RecordRows, record_rows};
-use job_core::{SessionRow, SessionState, StoreFault};
+use job_facts::{SessionRow, SessionState, StoreFault};
 use std::alloc::{AllocError, Global};
 use store_data::{Cursor, Name, RecordPlan};
 
@@ -111,7 +111,7 @@ pub(crate) fn session_row_of(
 }
 
 /// The number of a machine's running session.
-#[tactic(auto, unfolding(job_core::specs::States::running_session))]
+#[tactic(auto, unfolding(job_facts::specs::States::running_session))]
 pub(crate) fn running_session(
     alloc: Global,
     facts: &FactLists,

@@ -2,17 +2,17 @@
 ghost use Rattle.std.specs.Prelude.{◌≡◌, ◌&&◌, IfErr, IfOk, count_by, filter};
 ghost use Rattle.std.specs.Prelude.{map};
 ghost use Rattle.std.specs.List.{list_any};
-ghost use Rattle.job_core.specs.declared.store.StoreFault.TheVariants.{Memory};
-ghost use Rattle.job_core.specs.Accounts.{count_sessions};
+ghost use Rattle.job_facts.specs.declared.store.StoreFault.TheVariants.{Memory};
+ghost use Rattle.job_facts.specs.Accounts.{count_sessions};
 ghost use Rattle.list_store.specs.Sessions.{sessions_of_record};
-ghost use Rattle.job_core.specs.States.{first_waiting, is_batch_finished, is_record};
-ghost use Rattle.job_core.specs.States.{record_state, record_state_of};
-ghost use Rattle.job_core.specs.States.{session_state, state_by, states_of};
+ghost use Rattle.job_facts.specs.States.{first_waiting, is_batch_finished, is_record};
+ghost use Rattle.job_facts.specs.States.{record_state, record_state_of};
+ghost use Rattle.job_facts.specs.States.{session_state, state_by, states_of};
 
 use crate::lists::{FactLists, KeptRecord, KeptSession};
 use crate::records::{has_name, record_names};
 use crate::sessions::session_state;
-use job_core::{RecordState, SessionState, StoreFault};
+use job_facts::{RecordState, SessionState, StoreFault};
 use std::alloc::Global;
 use store_data::Name;
 
@@ -84,7 +84,7 @@ fn state_by(states: &[SessionState], withdrawn: bool, remakes: u64) -> RecordSta
 }
 
 /// The state of a record.
-#[tactic(auto, unfolding(job_core::specs::States::record_state, job_core::specs::States::states_of))]
+#[tactic(auto, unfolding(job_facts::specs::States::record_state, job_facts::specs::States::states_of))]
 pub(crate) fn record_state(
     alloc: Global,
     facts: &FactLists,
@@ -101,7 +101,7 @@ pub(crate) fn record_state(
 }
 
 /// The state of a record, if the batch has it.
-#[tactic(auto, unfolding(job_core::specs::States::record_state_of))]
+#[tactic(auto, unfolding(job_facts::specs::States::record_state_of))]
 pub(crate) fn record_state_of(
     alloc: Global,
     facts: &FactLists,
@@ -120,7 +120,7 @@ pub(crate) fn record_state_of(
 }
 
 /// The first waiting record of a batch, in file order.
-#[tactic(auto, unfolding(job_core::specs::States::first_waiting))]
+#[tactic(auto, unfolding(job_facts::specs::States::first_waiting))]
 pub(crate) fn first_waiting(
     alloc: Global,
     facts: &FactLists,
@@ -139,7 +139,7 @@ pub(crate) fn first_waiting(
 }
 
 /// Whether each record of a batch is good or withdrawn.
-#[tactic(auto, unfolding(job_core::specs::States::is_batch_finished))]
+#[tactic(auto, unfolding(job_facts::specs::States::is_batch_finished))]
 pub(crate) fn is_batch_finished(
     alloc: Global,
     facts: &FactLists,

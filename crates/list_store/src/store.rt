@@ -1,11 +1,7 @@
 //! The store.
 use crate::lists::{FactLists, KeptMark, KeptRow};
 use crate::{accounts, blanks, changes, kept, marks, names, records, segments, sessions, states};
-use job_core::{
-    BatchRow, BatchSize, BatchTotals, BlankTotals, Change, JobStore, KeptReply, Lot, RecordLine,
-    RecordState, SegmentRow, SessionRow, StoreFault, any_overlaps, lot_among,
-};
-use reopening::{FaultCounts, ServerStore};
+use job_facts::{BatchRow, BatchSize, BatchTotals, BlankTotals, Change, FaultCounts, JobStore, KeptReply, Lot, RecordLine, RecordState, SegmentRow, ServerStore, SessionRow, StoreFault, any_overlaps, lot_among};
 use std::alloc::Global;
 use store_data::{Name, Product};
 
@@ -20,7 +16,7 @@ pub struct ListStore {
 }
 
 impl ListStore {
-    ghost use Rattle.job_core.specs.Contents.{no_contents};
+    ghost use Rattle.job_facts.specs.Contents.{no_contents};
     ghost use Rattle.list_store.specs.Lists.{state};
 
     /// An empty store. It takes no memory.

@@ -7,9 +7,9 @@ use Rattle.std.proofs.lemmas.Bool.{and_left, and_right, cond-false}
 use Rattle.std.proofs.lemmas.Bool.Decides.{nat_tests}
 use Rattle.std.proofs.lemmas.List.{drop_more, get_or-drop, get_or-take, length-drop, length-take, length-take-le, take-append-drop}
 use Rattle.std.proofs.lemmas.List.Elements.{All-head, All-tail}
-use Rattle.job_core.specs.declared.facts.Lot.{Lot}
-use Rattle.job_core.specs.Sound.{AreApart}
-use Rattle.job_core.specs.States.{is_in, lot_of}
+use Rattle.job_facts.specs.declared.facts.Lot.{Lot}
+use Rattle.job_facts.specs.Sound.{AreApart}
+use Rattle.job_facts.specs.States.{is_in, lot_of}
 use Rattle.table_rows.specs.Tables.{StoredLot}
 use Rattle.table_rows.proofs.Found.{find_none}
 use Rattle.rows_answer.proofs.Finding.{find-map}

@@ -1,6 +1,6 @@
 //! The lot of a serial.
 ghost use Rattle.std.specs.Prelude.{◌≡◌, ◌≤◌, option_map};
-ghost use Rattle.job_core.specs.States.{is_in, lot_of};
+ghost use Rattle.job_facts.specs.States.{is_in, lot_of};
 ghost use Rattle.ordered_rows.specs.Order.{AreLotsInOrder, lots_of};
 
 use stored_rows::StoredLot;

@@ -2,8 +2,8 @@
 ghost use Rattle.std.specs.Prelude.{◌≡◌, IfSome, bytes_eq};
 ghost use Rattle.store_data.specs.Name.{is_name};
 ghost use Rattle.store_data.specs.Sequence.{IsProduct};
-ghost use Rattle.job_core.specs.Sound.{AreProducts, IsName};
-ghost use Rattle.job_core.specs.States.{product_named};
+ghost use Rattle.job_facts.specs.Sound.{AreProducts, IsName};
+ghost use Rattle.job_facts.specs.States.{product_named};
 
 use store_data::{Name, Product};
 use stored_rows::StoredProduct;

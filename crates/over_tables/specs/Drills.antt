@@ -4,9 +4,9 @@ use Rattle.std.specs.Io.KnownBytes.{Keeps}
 use Rattle.sqlite.specs.Held.{state}
 use Rattle.sqlite.specs.Steps.{over_memory}
 use Rattle.sqlite_trees.specs.declared.memory.MemStore.{MemStore}
-use Rattle.job_core.specs.Contents.{no_contents}
-use Rattle.job_core.specs.Store.{IsHonest}
-use Rattle.job_core.specs.declared.store.StoreFault.{StoreFault}
+use Rattle.job_facts.specs.Contents.{no_contents}
+use Rattle.job_facts.specs.Store.{IsHonest}
+use Rattle.job_facts.specs.declared.store.StoreFault.{StoreFault}
 use Rattle.schema.specs.Stores.{connection, stands_for}
 use Rattle.schema.specs.declared.store.SqlStore.{SqlStore}
 use Rattle.drill.specs.declared.stop.DrillStop.{DrillStop}

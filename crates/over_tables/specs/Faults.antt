@@ -2,8 +2,8 @@
 use Rattle.sqlite.specs.declared.error.Error.{Error}
 use Rattle.sqlite.specs.declared.error.Error.TheVariants.{SqliteFailure}
 use Rattle.sqlite.specs.declared.error.ErrorCode.TheVariants as code
-use Rattle.job_core.specs.declared.store.StoreFault.{StoreFault}
-use Rattle.job_core.specs.declared.store.StoreFault.TheVariants as store
+use Rattle.job_facts.specs.declared.store.StoreFault.{StoreFault}
+use Rattle.job_facts.specs.declared.store.StoreFault.TheVariants as store
 use Rattle.over_tables.specs.declared.fault.FileFault.{FileFault}
 use Rattle.over_tables.specs.declared.fault.FileFault.TheVariants.{Storage, Memory}
 

@@ -1,13 +1,13 @@
 //! A drill over the tables of a database in memory: the engine of `persod drill`.
 ghost use Rattle.std.specs.Prelude.{IfOk};
 ghost use Rattle.sqlite.specs.Steps.{over_memory};
-ghost use Rattle.job_core.specs.Contents.{no_contents};
-ghost use Rattle.job_core.specs.Store.{IsHonest};
+ghost use Rattle.job_facts.specs.Contents.{no_contents};
+ghost use Rattle.job_facts.specs.Store.{IsHonest};
 ghost use Rattle.schema.specs.Stores.{stands_for};
 ghost use Rattle.over_tables.specs.Drills.{DrillEnds};
 
 use drill::{DrillStop, drill_over};
-use job_core::StoreFault;
+use job_facts::StoreFault;
 use schema::{OpenFault, SqlStore};
 use sqlite::{Connection, MemStore};
 use std::alloc::Global;

@@ -4,7 +4,7 @@ ghost use Rattle.over_tables.specs.Faults.{of_later};
 
 use crate::cause::Cause;
 use file_causes::Damage;
-use job_core::StoreFault;
+use job_facts::StoreFault;
 use sqlite::{Error, ErrorCode};
 
 /// Why a file is not taken.

@@ -2,7 +2,7 @@
 ghost use Rattle.std.specs.Prelude.{◌≡◌, ◌↔◌, false, IfErr, IfOk, IsTrue};
 ghost use Rattle.sqlite.specs.Held.{state};
 ghost use Rattle.sqlite.specs.State.{HasCleanDisk};
-ghost use Rattle.job_core.specs.Contents.{AreSound, Contents, no_contents};
+ghost use Rattle.job_facts.specs.Contents.{AreSound, Contents, no_contents};
 ghost use Rattle.rows_of_facts.specs.Image.{image};
 ghost use Rattle.sql_base.specs.Ends.{IsKept};
 ghost use Rattle.sql_order.specs.declared.versions.Version.{Version};

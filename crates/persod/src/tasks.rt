@@ -3,10 +3,10 @@ ghost use Rattle.program_words.specs.Words.{IsBoot};
 
 use command_line::{End, end_of_close, run_feed};
 use event_lines::{EventLog, Level};
+use job_facts::ServerStore;
 use loopback::{Loopback, Port};
 use over_tables::serve_over_tables;
 use program_words::FeedStart;
-use reopening::ServerStore;
 use reports::close_report;
 use schema::SqlStore;
 use server_lines::Opened;

@@ -3,16 +3,16 @@ use Rattle.std.proofs.Common.{◌≡◌, ◌≤◌, ◌<◌, ◌^◌, ◌⊎◌,
 use Rattle.std.specs.Prelude.{nat_le}
 use Rattle.std.proofs.lemmas.Bool.Decides.{nat_tests}
 use Rattle.std.proofs.lemmas.List.Elements.{All-push}
-use Rattle.job_core.specs.declared.change.Change.{Change}
-use Rattle.job_core.specs.declared.change.Change.TheVariants.{Nothing}
-use Rattle.job_core.specs.declared.refusal.Refusal.TheVariants.{ReleaseTooFar}
-use Rattle.job_core.specs.declared.reply.Reply.{Reply}
-use Rattle.job_core.specs.declared.reply.Reply.TheVariants.{Product, Lot, Import, Opened, Next, Good, Spoiled, Reset, Discarded, Waiting, Withdrawn, Closed, Refused, Busy, Released, NumberReleased, Faulty}
-use Rattle.job_core.specs.declared.request.Call.{Call}
-use Rattle.job_core.specs.declared.request.Call.TheVariants.{Job, Release}
-use Rattle.job_core.specs.Contents.{AreSound, Contents, Entry, IsNewEntry, IsOwed, IsOwedRelease, above, committed, entry_of, is_above, mark_of, released}
-use Rattle.job_core.specs.Facts.{Facts}
-use Rattle.job_core.specs.Sound.{IsName, changed}
+use Rattle.job_facts.specs.declared.change.Change.{Change}
+use Rattle.job_facts.specs.declared.change.Change.TheVariants.{Nothing}
+use Rattle.job_facts.specs.declared.refusal.Refusal.TheVariants.{ReleaseTooFar}
+use Rattle.job_facts.specs.declared.reply.Reply.{Reply}
+use Rattle.job_facts.specs.declared.reply.Reply.TheVariants.{Product, Lot, Import, Opened, Next, Good, Spoiled, Reset, Discarded, Waiting, Withdrawn, Closed, Refused, Busy, Released, NumberReleased, Faulty}
+use Rattle.job_facts.specs.declared.request.Call.{Call}
+use Rattle.job_facts.specs.declared.request.Call.TheVariants.{Job, Release}
+use Rattle.job_facts.specs.Contents.{AreSound, Contents, Entry, IsNewEntry, IsOwed, IsOwedRelease, above, committed, entry_of, is_above, mark_of, released}
+use Rattle.job_facts.specs.Facts.{Facts}
+use Rattle.job_facts.specs.Sound.{IsName, changed}
 use Rattle.arrivals.specs.Told.{body_of, status_of}
 use Rattle.arrivals.specs.Meaning.{Arrived, contents_after, contents_with, entry_with, is_released, reply_by}
 use Rattle.arrivals.proofs.MeaningLemmas.{contents_new, filter_all}

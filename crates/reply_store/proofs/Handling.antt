@@ -3,13 +3,13 @@ use Rattle.std.proofs.Common.{◌≡◌, ◌⊎◌, [], ◌∷◌, true, false, 
 use Rattle.std.specs.Prelude.{option_map}
 use Rattle.std.proofs.lemmas.Bool.{cond-true, cond-false, false≢true}
 use Rattle.std.proofs.lemmas.Option.{none-some, same_Some}
-use Rattle.job_core.specs.declared.reply.Reply.{Reply}
-use Rattle.job_core.specs.declared.reply.Reply.TheVariants.{NumberReleased}
-use Rattle.job_core.specs.declared.rows.KeptReply.{KeptReply}
-use Rattle.job_core.specs.declared.store.StoreFault.{StoreFault}
-use Rattle.job_core.specs.Contents.{AreSound, Contents, Entry, entry_of, mark_of, reply_of_entry}
-use Rattle.job_core.specs.Steps.{by_option}
-use Rattle.job_core.specs.Store.{Commits, IsFound, IsHonest, State, Stays}
+use Rattle.job_facts.specs.declared.reply.Reply.{Reply}
+use Rattle.job_facts.specs.declared.reply.Reply.TheVariants.{NumberReleased}
+use Rattle.job_facts.specs.declared.rows.KeptReply.{KeptReply}
+use Rattle.job_facts.specs.declared.store.StoreFault.{StoreFault}
+use Rattle.job_facts.specs.Contents.{AreSound, Contents, Entry, entry_of, mark_of, reply_of_entry}
+use Rattle.job_facts.specs.Steps.{by_option}
+use Rattle.job_facts.specs.Store.{Commits, IsFound, IsHonest, State, Stays}
 use Rattle.arrivals.specs.declared.kept.Kept.{Kept}
 use Rattle.arrivals.specs.Told.{Told, told, told_of}
 use Rattle.arrivals.specs.Meaning.{Arrived, contents_after, entry_with, is_released, reply_to, told_by, told_on}

@@ -6,11 +6,11 @@ use Rattle.std.proofs.lemmas.Bool.{cases_Bool}
 use Rattle.std.proofs.lemmas.List.{map-append, map_more, map_push, take-append-le, take_at, length-map, length-take-le}
 use Rattle.std.proofs.lemmas.List.Elements.{filter-append}
 use Rattle.std.proofs.lemmas.Option.{none-some, slice_get_within}
-use Rattle.job_core.specs.declared.request.Arrival.{Arrival}
-use Rattle.job_core.specs.declared.store.StoreFault.{StoreFault}
-use Rattle.job_core.specs.Contents.{AreSound, Contents, Entry, entry_of}
-use Rattle.job_core.specs.Store.{CountsFaults, IsFound, IsHonest, State, Stays, failed_after, full_after}
-use Rattle.job_core.proofs.Lists.{each_more}
+use Rattle.job_facts.specs.declared.request.Arrival.{Arrival}
+use Rattle.job_facts.specs.declared.store.StoreFault.{StoreFault}
+use Rattle.job_facts.specs.Contents.{AreSound, Contents, Entry, entry_of}
+use Rattle.job_facts.specs.Store.{CountsFaults, IsFound, IsHonest, State, Stays, failed_after, full_after}
+use Rattle.job_facts.proofs.Lists.{each_more}
 use Rattle.arrivals.specs.declared.kept.Kept.{Kept}
 use Rattle.arrivals.specs.Told.{told}
 use Rattle.arrivals.specs.Meaning.{Arrived, contents_after, is_released, reply_to, told_on}

@@ -1,14 +1,14 @@
 -- What a new number does to a store: a change of the facts, or a new mark of its client.
 use Rattle.std.specs.Prelude.{◌≡◌, ◌≤◌, ◌<◌, ℕ, List, Result, Ok, Err}
-use Rattle.job_core.specs.declared.change.Change.TheVariants.{Nothing}
-use Rattle.job_core.specs.declared.refusal.Refusal.TheVariants.{ReleaseTooFar}
-use Rattle.job_core.specs.declared.reply.Reply.{Reply}
-use Rattle.job_core.specs.declared.reply.Reply.TheVariants.{Refused, Released}
-use Rattle.job_core.specs.declared.request.Call.{Call}
-use Rattle.job_core.specs.declared.request.Call.TheVariants.{Job, Release}
-use Rattle.job_core.specs.declared.store.StoreFault.{StoreFault}
-use Rattle.job_core.specs.Contents.{Contents, Entry, IsOwed, IsOwedRelease, committed, released}
-use Rattle.job_core.specs.Sound.{Decides}
+use Rattle.job_facts.specs.declared.change.Change.TheVariants.{Nothing}
+use Rattle.job_facts.specs.declared.refusal.Refusal.TheVariants.{ReleaseTooFar}
+use Rattle.job_facts.specs.declared.reply.Reply.{Reply}
+use Rattle.job_facts.specs.declared.reply.Reply.TheVariants.{Refused, Released}
+use Rattle.job_facts.specs.declared.request.Call.{Call}
+use Rattle.job_facts.specs.declared.request.Call.TheVariants.{Job, Release}
+use Rattle.job_facts.specs.declared.store.StoreFault.{StoreFault}
+use Rattle.job_facts.specs.Contents.{Contents, Entry, IsOwed, IsOwedRelease, committed, released}
+use Rattle.job_facts.specs.Sound.{Decides}
 use Rattle.arrivals.specs.Meaning.{mark_by}
 use Rattle.reply_store.specs.declared.deciding.Effect.{Effect}
 use Rattle.reply_store.specs.declared.deciding.Effect.TheVariants.{Changes, Marks}

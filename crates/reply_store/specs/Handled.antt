@@ -1,8 +1,8 @@
 -- What the handling of an arrival does to a store.
 use Rattle.std.specs.Prelude.{◌≡◌, ◌⊎◌, ◌≤◌, false, [], ◌∷◌, Option, None, Result, IfOk, OnOk, OnErr}
-use Rattle.job_core.specs.declared.store.StoreFault.{StoreFault}
-use Rattle.job_core.specs.Contents.{Contents, entry_of}
-use Rattle.job_core.specs.Store.{IsFound, IsHonest, State}
+use Rattle.job_facts.specs.declared.store.StoreFault.{StoreFault}
+use Rattle.job_facts.specs.Contents.{Contents, entry_of}
+use Rattle.job_facts.specs.Store.{IsFound, IsHonest, State}
 use Rattle.arrivals.specs.declared.kept.Kept.{Kept}
 use Rattle.arrivals.specs.Told.{told}
 use Rattle.arrivals.specs.Meaning.{Arrived, contents_after, is_released, told_on}

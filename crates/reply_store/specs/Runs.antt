@@ -1,9 +1,9 @@
 -- What a list of arrivals does to a store.
 use Rattle.std.specs.Prelude.{◌≡◌, ◌⊎◌, ◌≤◌, ℕ, List, [], ◌∷◌, ◌++◌, map, filter, take, slice_get, Option, Some, Result, IfOk, is_ok, Bool, false}
-use Rattle.job_core.specs.declared.request.Arrival.{Arrival}
-use Rattle.job_core.specs.declared.store.StoreFault.{StoreFault}
-use Rattle.job_core.specs.Contents.{Contents}
-use Rattle.job_core.specs.Store.{IsFound, IsHonest, State, Stays, failed_after, full_after}
+use Rattle.job_facts.specs.declared.request.Arrival.{Arrival}
+use Rattle.job_facts.specs.declared.store.StoreFault.{StoreFault}
+use Rattle.job_facts.specs.Contents.{Contents}
+use Rattle.job_facts.specs.Store.{IsFound, IsHonest, State, Stays, failed_after, full_after}
 use Rattle.arrivals.specs.declared.kept.Kept.{Kept}
 use Rattle.arrivals.specs.Told.{told}
 use Rattle.arrivals.specs.Meaning.{Arrived, contents_after, reply_to, told_on}

@@ -1,12 +1,13 @@
 //! What a new number is answered, and what it does to the store.
 ghost use Rattle.std.specs.Prelude.{◌≡◌, ◌≤◌, ℕ, List};
-ghost use Rattle.job_core.specs.Contents.{Contents, mark_of};
-ghost use Rattle.job_core.specs.Requests.{IsCall};
-ghost use Rattle.job_core.specs.Store.{CountsFaults, Reads, Stays};
-ghost use Rattle.job_core.specs.declared.request.Call.TheVariants as call;
+ghost use Rattle.job_facts.specs.Contents.{Contents, mark_of};
+ghost use Rattle.job_facts.specs.Requests.{IsCall};
+ghost use Rattle.job_facts.specs.Store.{CountsFaults, Reads, Stays};
+ghost use Rattle.job_facts.specs.declared.request.Call.TheVariants as call;
 ghost use Rattle.reply_store.specs.Effects.{Decided};
 
-use job_core::{Call, Change, JobStore, Refusal, Reply, StoreFault, decide};
+use job_core::decide;
+use job_facts::{Call, Change, JobStore, Refusal, Reply, StoreFault};
 use std::alloc::Global;
 use store_data::Name;
 

@@ -7,9 +7,9 @@ ghost use Rattle.std.specs.List.{zip};
 ghost use Rattle.arrivals.specs.Commands.{HandsOutNext};
 ghost use Rattle.arrivals.specs.Meaning.{reply_by, told_again};
 ghost use Rattle.arrivals.specs.Told.{told};
-ghost use Rattle.job_core.specs.Requests.{IsArrival, IsCall};
-ghost use Rattle.job_core.specs.Contents.{Contents};
-ghost use Rattle.job_core.specs.Store.{CountsFaults, IsHonest};
+ghost use Rattle.job_facts.specs.Requests.{IsArrival, IsCall};
+ghost use Rattle.job_facts.specs.Contents.{Contents};
+ghost use Rattle.job_facts.specs.Store.{CountsFaults, IsHonest};
 ghost use Rattle.reply_store.specs.Handled.{Handles};
 ghost use Rattle.reply_store.specs.Runs.{AreLeftInTurn, AreNext, Runs, arrived};
 
@@ -19,7 +19,7 @@ mod settling;
 use crate::deciding::decide_call;
 use crate::settling::{settle, told_of};
 pub use arrivals::{Kept, body_of, name_text, status_of};
-use job_core::{Arrival, Call, JobStore, KeptReply, Refusal, Reply, StoreFault};
+use job_facts::{Arrival, Call, JobStore, KeptReply, Refusal, Reply, StoreFault};
 use std::alloc::{AllocError, Global};
 use store_data::Name;
 

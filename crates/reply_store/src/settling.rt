@@ -1,13 +1,13 @@
 //! How what was decided of a new number is kept.
 ghost use Rattle.std.specs.Prelude.{◌≡◌, IfOk};
 ghost use Rattle.arrivals.specs.Told.{body_of, status_of, told, told_of};
-ghost use Rattle.job_core.specs.Contents.{Entry};
-ghost use Rattle.job_core.specs.Store.{Commits, CountsFaults};
+ghost use Rattle.job_facts.specs.Contents.{Entry};
+ghost use Rattle.job_facts.specs.Store.{Commits, CountsFaults};
 ghost use Rattle.reply_store.specs.Effects.{IsOwedBy, after_effect, done};
 
 use crate::deciding::Effect;
 use arrivals::{Kept, body_of, status_of};
-use job_core::{JobStore, Reply, StoreFault};
+use job_facts::{JobStore, Reply, StoreFault};
 use std::alloc::{AllocError, Global};
 use store_data::Name;
 

@@ -9,14 +9,14 @@ use Rattle.std.proofs.lemmas.List.Kept.{AllPairs-filter}
 use Rattle.std.proofs.lemmas.List.Elements.{All-filter}
 use Rattle.std.proofs.lemmas.List.Sums.{count_by-le-length, length-filter, sum_by-cons, sum_by-le}
 use Rattle.std.proofs.lemmas.Map.Made.{IsDistinct-from_AllPairs, is_member-filter, length-le_from_is_member}
-use Rattle.job_core.specs.declared.facts.Lot.{Lot}
-use Rattle.job_core.specs.declared.facts.SessionState.{SessionState}
-use Rattle.job_core.specs.declared.facts.SessionState.TheVariants.{Running, Good, Spoiled}
-use Rattle.job_core.specs.Accounts.{blank_states, blank_totals, is_blank_of, is_lot_of, lots_of}
-use Rattle.job_core.specs.Facts.{Facts, Session}
-use Rattle.job_core.specs.Sound.{IsSound, charges}
-use Rattle.job_core.specs.States.{is_good, is_in, is_running, is_spoiled, lot_of, session_state}
-use Rattle.job_core.proofs.Serials.{has, has_first, has_later, length-all, serials_of}
+use Rattle.job_facts.specs.declared.facts.Lot.{Lot}
+use Rattle.job_facts.specs.declared.facts.SessionState.{SessionState}
+use Rattle.job_facts.specs.declared.facts.SessionState.TheVariants.{Running, Good, Spoiled}
+use Rattle.job_facts.specs.Accounts.{blank_states, blank_totals, is_blank_of, is_lot_of, lots_of}
+use Rattle.job_facts.specs.Facts.{Facts, Session}
+use Rattle.job_facts.specs.Sound.{IsSound, charges}
+use Rattle.job_facts.specs.States.{is_good, is_in, is_running, is_spoiled, lot_of, session_state}
+use Rattle.job_facts.proofs.Serials.{has, has_first, has_later, length-all, serials_of}
 use Rattle.reports.specs.Accounts.{AreAllCounted}
 use Rattle.reports.specs.Values.{charged}
 

@@ -1,11 +1,11 @@
 -- Each record of a batch stands in one of five ways.
 use Rattle.std.proofs.Common.{◌≡◌, ℕ, ◌+◌, cond, List, [], ◌∷◌, length, refl, arith}
 use Rattle.std.proofs.lemmas.List.Sums.{sum_by-cons}
-use Rattle.job_core.specs.declared.facts.RecordState.{RecordState}
-use Rattle.job_core.specs.declared.facts.RecordState.TheVariants.{Waiting, Running, Failed, Withdrawn, Good}
-use Rattle.job_core.specs.Accounts.{batch_totals, count_records, record_states}
-use Rattle.job_core.specs.Facts.{Facts}
-use Rattle.job_core.specs.States.{same_record_state}
+use Rattle.job_facts.specs.declared.facts.RecordState.{RecordState}
+use Rattle.job_facts.specs.declared.facts.RecordState.TheVariants.{Waiting, Running, Failed, Withdrawn, Good}
+use Rattle.job_facts.specs.Accounts.{batch_totals, count_records, record_states}
+use Rattle.job_facts.specs.Facts.{Facts}
+use Rattle.job_facts.specs.States.{same_record_state}
 use Rattle.reports.specs.Accounts.{AreAllStanding}
 
 -- 1 where a record stands so

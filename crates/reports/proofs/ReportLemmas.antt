@@ -1,16 +1,16 @@
 -- The lines of a report.
 use Rattle.std.proofs.Common.{◌≡◌, ℕ, ◌<◌, ◌^◌, List, Some, sym, ap, subst, ◌∙◌}
-use Rattle.job_core.specs.declared.rows.BatchRow.{BatchRow}
-use Rattle.job_core.specs.declared.rows.BatchTotals.{BatchTotals}
-use Rattle.job_core.specs.declared.rows.RecordLine.{RecordLine}
-use Rattle.job_core.specs.Accounts.{batch_totals, record_lines}
-use Rattle.job_core.specs.Facts.{Facts}
-use Rattle.job_core.specs.Rows.{batch_row_of}
+use Rattle.job_facts.specs.declared.rows.BatchRow.{BatchRow}
+use Rattle.job_facts.specs.declared.rows.BatchTotals.{BatchTotals}
+use Rattle.job_facts.specs.declared.rows.RecordLine.{RecordLine}
+use Rattle.job_facts.specs.Accounts.{batch_totals, record_lines}
+use Rattle.job_facts.specs.Facts.{Facts}
+use Rattle.job_facts.specs.Rows.{batch_row_of}
 use Rattle.store_data.specs.declared.row.Product.{Product}
-use Rattle.job_core.specs.declared.rows.BlankTotals.{BlankTotals}
-use Rattle.job_core.specs.Accounts.{blank_totals}
-use Rattle.job_core.specs.Sound.{IsSound}
-use Rattle.job_core.specs.States.{product_named}
+use Rattle.job_facts.specs.declared.rows.BlankTotals.{BlankTotals}
+use Rattle.job_facts.specs.Accounts.{blank_totals}
+use Rattle.job_facts.specs.Sound.{IsSound}
+use Rattle.job_facts.specs.States.{product_named}
 use Rattle.reports.specs.Accounts.{blank_account, blank_text}
 use Rattle.reports.specs.Values.{charged}
 use Rattle.reports.specs.Report.{report_text, text_with}

@@ -1,13 +1,13 @@
 -- The accounts of a batch and of a product's blanks (this project's profile): compact JSON (RFC 8259), the members in order of their names.
 use Rattle.std.specs.Prelude.{◌≡◌, ℕ, ◌+◌, List, Option, option_map}
 use Rattle.serde_json.specs.Written.{compact_text}
-use Rattle.job_core.specs.declared.rows.BatchRow.{BatchRow}
-use Rattle.job_core.specs.declared.rows.BatchTotals.{BatchTotals}
-use Rattle.job_core.specs.declared.rows.BlankTotals.{BlankTotals}
-use Rattle.job_core.specs.Accounts.{batch_totals, blank_totals}
-use Rattle.job_core.specs.Facts.{Facts}
-use Rattle.job_core.specs.Rows.{batch_row_of}
-use Rattle.job_core.specs.States.{product_named}
+use Rattle.job_facts.specs.declared.rows.BatchRow.{BatchRow}
+use Rattle.job_facts.specs.declared.rows.BatchTotals.{BatchTotals}
+use Rattle.job_facts.specs.declared.rows.BlankTotals.{BlankTotals}
+use Rattle.job_facts.specs.Accounts.{batch_totals, blank_totals}
+use Rattle.job_facts.specs.Facts.{Facts}
+use Rattle.job_facts.specs.Rows.{batch_row_of}
+use Rattle.job_facts.specs.States.{product_named}
 use Rattle.reports.specs.Values.{batch_value, blank_value, free}
 
 unfoldable pub batch_text : List ℕ → BatchRow → BatchTotals → List ℕ

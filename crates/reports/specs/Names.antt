@@ -1,7 +1,7 @@
 -- The names that accounts and reports tell (this project's profile).
 use Rattle.std.specs.Prelude.{ℕ, Bool, true, false, List, codes}
-use Rattle.job_core.specs.declared.facts.RecordState.{RecordState}
-use Rattle.job_core.specs.declared.facts.RecordState.TheVariants.{Waiting, Running, Failed, Withdrawn, Good}
+use Rattle.job_facts.specs.declared.facts.RecordState.{RecordState}
+use Rattle.job_facts.specs.declared.facts.RecordState.TheVariants.{Waiting, Running, Failed, Withdrawn, Good}
 
 abbrev pub state_name : RecordState → List ℕ
 state_name Waiting = codes "waiting"

@@ -1,12 +1,12 @@
 -- The report of a batch (this project's profile). Each line ends in LF.
 use Rattle.std.specs.Prelude.{ℕ, ◌-◌, List, ◌++◌, length, codes, decimal, Option, Some, None, option_map}
 use Rattle.std.specs.List.{flat_map, repeat}
-use Rattle.job_core.specs.declared.rows.BatchRow.{BatchRow}
-use Rattle.job_core.specs.declared.rows.BatchTotals.{BatchTotals}
-use Rattle.job_core.specs.declared.rows.RecordLine.{RecordLine}
-use Rattle.job_core.specs.Accounts.{batch_totals, record_lines}
-use Rattle.job_core.specs.Facts.{Facts}
-use Rattle.job_core.specs.Rows.{batch_row_of}
+use Rattle.job_facts.specs.declared.rows.BatchRow.{BatchRow}
+use Rattle.job_facts.specs.declared.rows.BatchTotals.{BatchTotals}
+use Rattle.job_facts.specs.declared.rows.RecordLine.{RecordLine}
+use Rattle.job_facts.specs.Accounts.{batch_totals, record_lines}
+use Rattle.job_facts.specs.Facts.{Facts}
+use Rattle.job_facts.specs.Rows.{batch_row_of}
 use Rattle.reports.specs.Names.{closed_name, state_name}
 
 -- the text, with spaces after it up to this many places

@@ -1,10 +1,10 @@
 -- What the calls answer.
 use Rattle.std.specs.Prelude.{◌≡◌, ℕ, List, Option, Some, None, Result, Ok, Err, ⊤}
 use Rattle.std.specs.Io.KnownBytes.{Appends, Keeps}
-use Rattle.job_core.specs.declared.refusal.Refusal.{Refusal}
-use Rattle.job_core.specs.declared.store.StoreFault.{StoreFault}
-use Rattle.job_core.specs.Contents.{Contents}
-use Rattle.job_core.specs.Store.{IsHonest, State}
+use Rattle.job_facts.specs.declared.refusal.Refusal.{Refusal}
+use Rattle.job_facts.specs.declared.store.StoreFault.{StoreFault}
+use Rattle.job_facts.specs.Contents.{Contents}
+use Rattle.job_facts.specs.Store.{IsHonest, State}
 use Rattle.reports.specs.declared.fault.AccountFault.{AccountFault}
 use Rattle.reports.specs.declared.fault.AccountFault.TheVariants.{Refused, Store, Write}
 use Rattle.text_io.specs.Written.{AppendsBeginning}

@@ -1,9 +1,9 @@
 -- The JSON values of accounts.
 use Rattle.std.specs.Prelude.{ℕ, ◌+◌, ◌-◌, List, codes}
 use Rattle.serde_json.specs.Data.{Data, boolean, string, object, member, no_members}
-use Rattle.job_core.specs.declared.rows.BatchRow.{BatchRow}
-use Rattle.job_core.specs.declared.rows.BatchTotals.{BatchTotals}
-use Rattle.job_core.specs.declared.rows.BlankTotals.{BlankTotals}
+use Rattle.job_facts.specs.declared.rows.BatchRow.{BatchRow}
+use Rattle.job_facts.specs.declared.rows.BatchTotals.{BatchTotals}
+use Rattle.job_facts.specs.declared.rows.BlankTotals.{BlankTotals}
 use Rattle.arrivals.specs.Values.{num}
 
 abbrev pub batch_value : List ℕ → BatchRow → BatchTotals → Data

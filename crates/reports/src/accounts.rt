@@ -5,7 +5,7 @@ ghost use Rattle.reports.specs.Accounts.{batch_text, blank_text};
 ghost use Rattle.reports.specs.Values.{batch_value, blank_value, charged};
 
 use arrivals::name_text;
-use job_core::{BatchRow, BatchTotals, BlankTotals};
+use job_facts::{BatchRow, BatchTotals, BlankTotals};
 use serde_json::{Value, json};
 use std::alloc::{AllocError, Global};
 use store_data::{Bytes, Name};

@@ -1,7 +1,7 @@
 //! Why an account or a report is not given.
 ghost use Rattle.std.specs.Prelude.{◌≡◌};
 
-use job_core::{Refusal, StoreFault};
+use job_facts::{Refusal, StoreFault};
 use std::alloc::AllocError;
 use text_io::WriteFailed;
 
@@ -28,7 +28,7 @@ impl From<StoreFault> for AccountFault {
 
 impl From<AllocError> for AccountFault {
     ghost use Rattle.reports.specs.declared.fault.AccountFault.TheVariants.{Store};
-    ghost use Rattle.job_core.specs.declared.store.StoreFault.TheVariants.{Memory};
+    ghost use Rattle.job_facts.specs.declared.store.StoreFault.TheVariants.{Memory};
 
     ghost from_gives = { λ _ fault. fault ≡ Store Memory };
 

@@ -2,10 +2,10 @@
 //! profile).
 #![tactic(auto)]
 
-ghost use Rattle.job_core.specs.Accounts.{batch_totals, blank_totals};
-ghost use Rattle.job_core.specs.Contents.{Contents};
-ghost use Rattle.job_core.specs.Store.{CountsFaults, Stays};
-ghost use Rattle.job_core.specs.declared.refusal.Refusal.TheVariants.{BatchUnknown, ProductUnknown};
+ghost use Rattle.job_facts.specs.Accounts.{batch_totals, blank_totals};
+ghost use Rattle.job_facts.specs.Contents.{Contents};
+ghost use Rattle.job_facts.specs.Store.{CountsFaults, Stays};
+ghost use Rattle.job_facts.specs.declared.refusal.Refusal.TheVariants.{BatchUnknown, ProductUnknown};
 ghost use Rattle.reports.specs.Accounts.{AreAllCounted, AreAllStanding, batch_account};
 ghost use Rattle.reports.specs.Accounts.{blank_account};
 ghost use Rattle.reports.specs.Report.{report_text};
@@ -19,7 +19,7 @@ mod report;
 
 use accounts::{batch_text, blank_text};
 pub use fault::AccountFault;
-use job_core::{JobStore, Refusal};
+use job_facts::{JobStore, Refusal};
 use report::report_text;
 use std::alloc::Global;
 use std::io::Write;

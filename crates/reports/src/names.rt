@@ -2,7 +2,8 @@
 ghost use Rattle.std.specs.Prelude.{◌≡◌};
 ghost use Rattle.reports.specs.Names.{closed_name, state_name};
 
-use job_core::RecordState;
+use job_facts::RecordState;
+
 
 /// The name of a record's state (this project's profile).
 pub(crate) fn state_name(state: RecordState) -> &'static str

@@ -4,7 +4,7 @@ ghost use Rattle.reports.specs.Report.{head_text, labelled, record_text, text_wi
 
 use crate::names::{closed_name, state_name};
 use arrivals::name_text;
-use job_core::{BatchRow, BatchTotals, RecordLine};
+use job_facts::{BatchRow, BatchTotals, RecordLine};
 use std::alloc::{AllocError, Global};
 use store_data::Name;
 

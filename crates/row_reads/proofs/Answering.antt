@@ -11,9 +11,9 @@ use Rattle.sqlite_sql.specs.declared.ops.BinaryOp.TheVariants.{Compare}
 use Rattle.sqlite_sql.specs.declared.ops.CompareOp.TheVariants.{Eq}
 use Rattle.store_data.specs.declared.row.Product.{Product}
 use Rattle.store_data.proofs.GroupLemmas.{same-bytes_eq}
-use Rattle.job_core.specs.Contents.{Mark, has_mark, mark_of}
-use Rattle.job_core.specs.Sound.{AreNamedOnce}
-use Rattle.job_core.specs.States.{product_named}
+use Rattle.job_facts.specs.Contents.{Mark, has_mark, mark_of}
+use Rattle.job_facts.specs.Sound.{AreNamedOnce}
+use Rattle.job_facts.specs.States.{product_named}
 use Rattle.step_laws.proofs.BlankSums.{named_once}
 use Rattle.sql_base.proofs.Tests.{alone, same_int, same_text}
 use Rattle.table_rows.specs.Tables.{Tables}

@@ -8,9 +8,9 @@ use Rattle.sqlite.specs.Order.{Row}
 use Rattle.sqlite.specs.State.{Shown, State}
 use Rattle.sqlite_sql.specs.declared.ops.BinaryOp.TheVariants.{Compare}
 use Rattle.sqlite_sql.specs.declared.ops.CompareOp.TheVariants.{Eq}
-use Rattle.job_core.specs.declared.facts.SessionState.{SessionState}
-use Rattle.job_core.specs.declared.facts.SessionState.TheVariants as session
-use Rattle.job_core.specs.States.{is_running}
+use Rattle.job_facts.specs.declared.facts.SessionState.{SessionState}
+use Rattle.job_facts.specs.declared.facts.SessionState.TheVariants as session
+use Rattle.job_facts.specs.States.{is_running}
 use Rattle.sql_base.proofs.Tests.{alone, same_int, same_text}
 use Rattle.table_rows.specs.Keys.{is_record_at, is_record_named, is_running_on, is_session}
 use Rattle.table_rows.specs.Tables.{PassesOnce, StoredRecord, StoredSession, Tables}

@@ -8,8 +8,8 @@ use Rattle.sqlite.specs.Order.{Row}
 use Rattle.sqlite.specs.State.{Shown, State}
 use Rattle.sqlite_sql.specs.declared.ops.BinaryOp.TheVariants.{Compare}
 use Rattle.sqlite_sql.specs.declared.ops.CompareOp.TheVariants.{Eq}
-use Rattle.job_core.specs.declared.rows.KeptReply.{KeptReply}
-use Rattle.job_core.specs.Contents.{Entry, entry_of, reply_of_entry}
+use Rattle.job_facts.specs.declared.rows.KeptReply.{KeptReply}
+use Rattle.job_facts.specs.Contents.{Entry, entry_of, reply_of_entry}
 use Rattle.sql_base.proofs.Tests.{alone, same_int, same_text}
 use Rattle.table_rows.specs.Keys.{is_reply_to}
 use Rattle.table_rows.specs.Tables.{PassesOnce, Tables}

@@ -4,9 +4,9 @@ use Rattle.sqlite.specs.declared.types.Value.{Value}
 use Rattle.sqlite.specs.declared.types.Value.TheVariants.{Blob, Text}
 use Rattle.sqlite.specs.Order.{Row, column}
 use Rattle.store_data.specs.declared.row.Product.{Product}
-use Rattle.job_core.specs.declared.rows.BatchTotals.{BatchTotals}
-use Rattle.job_core.specs.declared.rows.KeptReply.{KeptReply}
-use Rattle.job_core.specs.declared.facts.Lot.{Lot}
+use Rattle.job_facts.specs.declared.rows.BatchTotals.{BatchTotals}
+use Rattle.job_facts.specs.declared.rows.KeptReply.{KeptReply}
+use Rattle.job_facts.specs.declared.facts.Lot.{Lot}
 use Rattle.sql_rows.specs.Decoding.{flag_in, number_in}
 use Rattle.row_reads.specs.declared.batches.BatchHead.{BatchHead}
 use Rattle.row_reads.specs.declared.batches.BatchTold.{BatchTold}

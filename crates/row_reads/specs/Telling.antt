@@ -1,6 +1,6 @@
 -- What is told of a row.
 use Rattle.std.specs.Prelude.{◌<◌, ◌^◌}
-use Rattle.job_core.specs.declared.rows.BatchTotals.{BatchTotals}
+use Rattle.job_facts.specs.declared.rows.BatchTotals.{BatchTotals}
 use Rattle.table_rows.specs.Tables.{StoredBatch, StoredLot, totals_of}
 use Rattle.row_reads.specs.declared.batches.BatchHead.{BatchHead}
 use Rattle.row_reads.specs.declared.batches.BatchTold.{BatchTold}

@@ -11,7 +11,7 @@ ghost use Rattle.table_rows.specs.Keys.{is_batch, is_batch_for, is_batch_named, 
 ghost use Rattle.table_rows.specs.Tables.{PassesOnce, StoredBatch};
 
 use crate::values::{first_id, first_name, first_number, has_rows, name_at, number_at};
-use job_core::BatchTotals;
+use job_facts::BatchTotals;
 use sql_base::{int, rows_of};
 use sqlite::types::ValueRef;
 use sqlite::{Alter, Connection, Error, Row};

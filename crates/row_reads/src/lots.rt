@@ -2,7 +2,7 @@
 ghost use Rattle.std.specs.Prelude.{◌≡◌, ◌<◌, ◌^◌, false, filter, find, length, map};
 ghost use Rattle.std.specs.Prelude.{option_map, IfOk, IfSome, IsPermutation};
 ghost use Rattle.sqlite.specs.Held.{state};
-ghost use Rattle.job_core.specs.States.{any_overlaps, is_in, lot_of};
+ghost use Rattle.job_facts.specs.States.{any_overlaps, is_in, lot_of};
 ghost use Rattle.row_reads.specs.Decoding.{IsFirst, lot_in, lot_row_in};
 ghost use Rattle.row_reads.specs.Reads.{Looks, TellsRows};
 ghost use Rattle.row_reads.specs.Telling.{IsLotRow, lot_row_of};
@@ -10,7 +10,7 @@ ghost use Rattle.table_rows.specs.Keys.{is_lot_for, is_lot_named};
 ghost use Rattle.table_rows.specs.Tables.{PassesOnce, StoredLot};
 
 use crate::values::{count, name_at, number_at};
-use job_core::{Lot, any_overlaps, lot_among};
+use job_facts::{Lot, any_overlaps, lot_among};
 use sql_base::rows_of;
 use sqlite::types::ValueRef;
 use sqlite::{Alter, Connection, Error, Row};

@@ -1,8 +1,8 @@
 //! Marks are read.
 ghost use Rattle.std.specs.Prelude.{◌≡◌, ◌<◌, ◌^◌, false, map, IfOk};
 ghost use Rattle.sqlite.specs.Held.{state};
-ghost use Rattle.job_core.specs.Contents.{Mark, mark_of};
-ghost use Rattle.job_core.specs.Sound.{AreNamedOnce};
+ghost use Rattle.job_facts.specs.Contents.{Mark, mark_of};
+ghost use Rattle.job_facts.specs.Sound.{AreNamedOnce};
 ghost use Rattle.row_reads.specs.Reads.{Looks, TellsRows};
 
 use crate::values::first_number;

@@ -3,8 +3,8 @@ ghost use Rattle.std.specs.Prelude.{◌≡◌, false, length, map, IfOk, IfSome}
 ghost use Rattle.sqlite.specs.Held.{state};
 ghost use Rattle.store_data.specs.Sequence.{IsProduct};
 ghost use Rattle.store_data.specs.declared.row.Product.{Product as ProductValue};
-ghost use Rattle.job_core.specs.Sound.{AreNamedOnce};
-ghost use Rattle.job_core.specs.States.{product_named};
+ghost use Rattle.job_facts.specs.Sound.{AreNamedOnce};
+ghost use Rattle.job_facts.specs.States.{product_named};
 ghost use Rattle.row_reads.specs.Decoding.{IsFirst, product_in};
 ghost use Rattle.row_reads.specs.Reads.{Looks, TellsRows};
 

@@ -11,7 +11,7 @@ ghost use Rattle.table_rows.specs.Keys.{is_record_at, is_record_named, is_record
 ghost use Rattle.table_rows.specs.Tables.{PassesOnce};
 
 use crate::values::{name_at, number_at};
-use job_core::RecordState;
+use job_facts::RecordState;
 use sql_base::{int, rows_of};
 use sqlite::types::ValueRef;
 use sqlite::{Alter, Connection, Error, Row};

@@ -1,7 +1,7 @@
 //! Kept replies are read.
 ghost use Rattle.std.specs.Prelude.{◌≡◌, ◌<◌, ◌^◌, ℕ, false, length, map, option_map, IfOk};
 ghost use Rattle.sqlite.specs.Held.{state};
-ghost use Rattle.job_core.specs.Contents.{entry_of, reply_of_entry};
+ghost use Rattle.job_facts.specs.Contents.{entry_of, reply_of_entry};
 ghost use Rattle.row_reads.specs.Counts.{shown_count};
 ghost use Rattle.row_reads.specs.Decoding.{IsFirst, first_number, reply_in};
 ghost use Rattle.row_reads.specs.Reads.{Looks, TellsRows};
@@ -9,7 +9,7 @@ ghost use Rattle.table_rows.specs.Keys.{is_reply_to};
 ghost use Rattle.table_rows.specs.Tables.{PassesOnce};
 
 use crate::values::{bytes_at, first_number, short_at};
-use job_core::KeptReply;
+use job_facts::KeptReply;
 use sql_base::{int, rows_of};
 use sqlite::types::ValueRef;
 use sqlite::{Alter, Connection, Error, Row};

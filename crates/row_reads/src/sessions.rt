@@ -13,7 +13,7 @@ ghost use Rattle.table_rows.specs.Keys.{is_good_of, is_running_on, is_session};
 ghost use Rattle.table_rows.specs.Tables.{PassesOnce, StoredSession};
 
 use crate::values::{first_id, first_number, name_at, number_at};
-use job_core::SessionState;
+use job_facts::SessionState;
 use sql_base::{int, rows_of};
 use sqlite::types::ValueRef;
 use sqlite::{Alter, Connection, Error, Row};

@@ -5,8 +5,8 @@ use Rattle.sqlite.specs.Cast.{cast_row}
 use Rattle.sqlite.specs.Order.{Row}
 use Rattle.sqlite.specs.State.{Executes, State}
 use Rattle.store_data.specs.declared.row.Product.{Product}
-use Rattle.job_core.specs.declared.facts.Lot.{Lot}
-use Rattle.job_core.specs.Contents.{Entry, Mark}
+use Rattle.job_facts.specs.declared.facts.Lot.{Lot}
+use Rattle.job_facts.specs.Contents.{Entry, Mark}
 use Rattle.sql_base.proofs.Values.{cast_int, cast_null}
 use Rattle.sql_tables.specs.Tables.{lot_table, mark_table, product_table, remake_table, reply_table, word_table}
 use Rattle.table_rows.specs.After.{new_lot}

@@ -3,7 +3,7 @@ use Rattle.std.proofs.Common.{ℕ, [], ◌∷◌, map, take, drop, filter, not, 
 use Rattle.sqlite.specs.declared.types.Value.TheVariants.{Text}
 use Rattle.sqlite.specs.Order.{Row}
 use Rattle.sqlite.specs.State.{Executes, State}
-use Rattle.job_core.specs.Contents.{Entry, Mark, has_mark}
+use Rattle.job_facts.specs.Contents.{Entry, Mark, has_mark}
 use Rattle.sql_base.proofs.Deleting.{deleted}
 use Rattle.sql_base.proofs.Selecting.{passes, shown}
 use Rattle.sql_base.proofs.Tests.{one_test, same_most, same_text, two_tests}

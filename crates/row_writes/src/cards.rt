@@ -9,7 +9,7 @@ ghost use Rattle.table_rows.specs.After.{new_session};
 ghost use Rattle.table_rows.specs.Tables.{StoredBlank, StoredWord, with_blank, with_session};
 ghost use Rattle.table_rows.specs.Tables.{with_session_set, with_word};
 
-use job_core::SessionState;
+use job_facts::SessionState;
 use sql_base::int;
 use sqlite::types::ValueRef;
 use sqlite::{Alter, Error, Transaction};

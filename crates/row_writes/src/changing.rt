@@ -8,7 +8,7 @@ ghost use Rattle.row_writes.specs.Raw.{with_raw_set};
 ghost use Rattle.table_rows.specs.Tables.{with_closed_set, with_end_set, with_lot_set};
 ghost use Rattle.table_rows.specs.Tables.{with_record_set, with_totals_set};
 
-use job_core::{BatchTotals, RecordState};
+use job_facts::{BatchTotals, RecordState};
 use sql_base::int;
 use sqlite::types::ValueRef;
 use sqlite::{Alter, Error, Transaction};

@@ -2,14 +2,14 @@
 ghost use Rattle.std.specs.Prelude.{◌≡◌, ◌<◌, ◌^◌};
 ghost use Rattle.sqlite.specs.Held.{state};
 ghost use Rattle.sqlite.specs.State.{Survives};
-ghost use Rattle.job_core.specs.Contents.{Mark};
+ghost use Rattle.job_facts.specs.Contents.{Mark};
 ghost use Rattle.sql_rows.specs.Writes.{WritesRows};
 ghost use Rattle.table_rows.specs.After.{new_lot};
 ghost use Rattle.table_rows.specs.Kept.{kept_reply};
 ghost use Rattle.table_rows.specs.Tables.{StoredRemake, with_lot, with_mark, with_product};
 ghost use Rattle.table_rows.specs.Tables.{with_remake, with_reply};
 
-use job_core::Lot;
+use job_facts::Lot;
 use sql_base::int;
 use sqlite::types::ValueRef;
 use sqlite::{Alter, Error, Transaction};

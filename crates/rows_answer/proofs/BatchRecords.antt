@@ -5,8 +5,8 @@ use Rattle.std.specs.List.{enumerate_from, position_or_len}
 use Rattle.std.proofs.lemmas.Bool.{and_left, and_parts, eqb-true}
 use Rattle.std.proofs.lemmas.List.Elements.{All-map, filter_passes}
 use Rattle.std.proofs.lemmas.List.Kept.{AllPairs-filter}
-use Rattle.job_core.specs.Facts.{Batch, Facts}
-use Rattle.job_core.specs.States.{batch_named, first_waiting, is_waiting, record_state, records_named, records_under}
+use Rattle.job_facts.specs.Facts.{Batch, Facts}
+use Rattle.job_facts.specs.States.{batch_named, first_waiting, is_waiting, record_state, records_named, records_under}
 use Rattle.table_rows.specs.Keys.{is_record_of, is_waiting_of}
 use Rattle.table_rows.specs.Tables.{StoredBatch, StoredRecord}
 use Rattle.rows_of_facts.specs.Image.{batch_id, batches_by_id, placed_records, records_in, stored_batch, stored_batches, stored_record, stored_records}

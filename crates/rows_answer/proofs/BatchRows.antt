@@ -9,13 +9,13 @@ use Rattle.std.proofs.lemmas.List.Folds.{find_at, list_all-map}
 use Rattle.std.proofs.lemmas.List.Sums.{sum_by-cons}
 use Rattle.std.proofs.lemmas.Option.{none-some}
 use Rattle.store_data.proofs.GroupLemmas.{same-bytes_eq}
-use Rattle.job_core.specs.declared.facts.RecordState.{RecordState}
-use Rattle.job_core.specs.declared.facts.RecordState.TheVariants as rec
-use Rattle.job_core.specs.declared.rows.BatchTotals.{BatchTotals}
-use Rattle.job_core.specs.Accounts.{batch_totals, count_records, record_states, session_states}
-use Rattle.job_core.specs.Facts.{Batch, Facts, Session}
-use Rattle.job_core.specs.Sound.{IsSession, IsSound}
-use Rattle.job_core.specs.States.{batch_named, is_batch_finished, is_finished, record_state, records_named, records_under, same_record_state, session_state}
+use Rattle.job_facts.specs.declared.facts.RecordState.{RecordState}
+use Rattle.job_facts.specs.declared.facts.RecordState.TheVariants as rec
+use Rattle.job_facts.specs.declared.rows.BatchTotals.{BatchTotals}
+use Rattle.job_facts.specs.Accounts.{batch_totals, count_records, record_states, session_states}
+use Rattle.job_facts.specs.Facts.{Batch, Facts, Session}
+use Rattle.job_facts.specs.Sound.{IsSession, IsSound}
+use Rattle.job_facts.specs.States.{batch_named, is_batch_finished, is_finished, record_state, records_named, records_under, same_record_state, session_state}
 use Rattle.step_laws.proofs.BlankSums.{named_once}
 use Rattle.table_rows.specs.Keys.{is_batch, is_batch_named}
 use Rattle.table_rows.specs.Tables.{PassesOnce, totals_of}

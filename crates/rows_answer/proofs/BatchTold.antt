@@ -7,14 +7,14 @@ use Rattle.store_data.specs.declared.row.Row.{Row}
 use Rattle.store_data.specs.Groups.{first_appearances, grouped}
 use Rattle.batch_import.specs.Batch.{records_of_rows}
 use Rattle.batch_import.proofs.OutlineLemmas.{keys_of_numbered}
-use Rattle.job_core.specs.declared.rows.BatchRow.{BatchRow}
-use Rattle.job_core.specs.declared.rows.BatchSize.{BatchSize}
-use Rattle.job_core.specs.declared.rows.BatchTotals.{BatchTotals}
-use Rattle.job_core.specs.Accounts.{batch_totals, record_states}
-use Rattle.job_core.specs.Facts.{Batch, Facts}
-use Rattle.job_core.specs.Rows.{batch_has, batch_row, batch_row_of, batch_size, batch_size_of, has_bytes}
-use Rattle.job_core.specs.Sound.{IsSound}
-use Rattle.job_core.specs.States.{batch_named, is_closed, record_state, records_named, records_of, rows_of}
+use Rattle.job_facts.specs.declared.rows.BatchRow.{BatchRow}
+use Rattle.job_facts.specs.declared.rows.BatchSize.{BatchSize}
+use Rattle.job_facts.specs.declared.rows.BatchTotals.{BatchTotals}
+use Rattle.job_facts.specs.Accounts.{batch_totals, record_states}
+use Rattle.job_facts.specs.Facts.{Batch, Facts}
+use Rattle.job_facts.specs.Rows.{batch_has, batch_row, batch_row_of, batch_size, batch_size_of, has_bytes}
+use Rattle.job_facts.specs.Sound.{IsSound}
+use Rattle.job_facts.specs.States.{batch_named, is_closed, record_state, records_named, records_of, rows_of}
 use Rattle.table_rows.specs.Keys.{is_batch_named, is_batch_with}
 use Rattle.table_rows.specs.Tables.{StoredBatch}
 use Rattle.rows_of_facts.specs.Image.{batch_id, stored_batch, stored_batches, stored_groupings}

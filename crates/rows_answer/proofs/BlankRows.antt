@@ -9,11 +9,11 @@ use Rattle.std.proofs.lemmas.List.Folds.{list_any-append}
 use Rattle.std.proofs.lemmas.Simd.{map-map}
 use Rattle.store_data.proofs.FaultLemmas.{list_any-map}
 use Rattle.store_data.proofs.GroupLemmas.{bytes_eq-same}
-use Rattle.job_core.specs.declared.facts.Lot.{Lot}
-use Rattle.job_core.specs.Facts.{Facts, Session}
-use Rattle.job_core.specs.Sound.{IsSound, charges}
-use Rattle.job_core.specs.States.{any_overlaps, is_charged, is_in, lot_named, lot_of}
-use Rattle.job_core.proofs.Lists.{mapped}
+use Rattle.job_facts.specs.declared.facts.Lot.{Lot}
+use Rattle.job_facts.specs.Facts.{Facts, Session}
+use Rattle.job_facts.specs.Sound.{IsSound, charges}
+use Rattle.job_facts.specs.States.{any_overlaps, is_charged, is_in, lot_named, lot_of}
+use Rattle.job_facts.proofs.Lists.{mapped}
 use Rattle.step_laws.specs.Sums.{discarded_in}
 use Rattle.step_laws.proofs.BlankSums.{apart_once, named_once}
 use Rattle.table_rows.specs.Keys.{is_blank, is_lot_across, is_lot_around, is_lot_named}

@@ -4,13 +4,13 @@ use Rattle.std.specs.Prelude.{count_by}
 use Rattle.std.specs.List.{list_any}
 use Rattle.std.proofs.lemmas.Bool.{cases_Bool}
 use Rattle.std.proofs.lemmas.List.Sums.{sum_by-cons}
-use Rattle.job_core.specs.declared.facts.RecordState.{RecordState}
-use Rattle.job_core.specs.declared.facts.RecordState.TheVariants as rec
-use Rattle.job_core.specs.declared.facts.SessionState.{SessionState}
-use Rattle.job_core.specs.declared.facts.SessionState.TheVariants as session
-use Rattle.job_core.specs.Sound.{IsSoundRecord, has_card}
-use Rattle.job_core.specs.States.{is_good, is_running, is_spoiled, same_record_state, same_session_state, state_by}
-use Rattle.job_core.proofs.Lists.{count_by_any, count_by_none}
+use Rattle.job_facts.specs.declared.facts.RecordState.{RecordState}
+use Rattle.job_facts.specs.declared.facts.RecordState.TheVariants as rec
+use Rattle.job_facts.specs.declared.facts.SessionState.{SessionState}
+use Rattle.job_facts.specs.declared.facts.SessionState.TheVariants as session
+use Rattle.job_facts.specs.Sound.{IsSoundRecord, has_card}
+use Rattle.job_facts.specs.States.{is_good, is_running, is_spoiled, same_record_state, same_session_state, state_by}
+use Rattle.job_facts.proofs.Lists.{count_by_any, count_by_none}
 use Rattle.step_laws.proofs.BlankSums.{one}
 use Rattle.rows_answer.specs.Telling.{cards}
 

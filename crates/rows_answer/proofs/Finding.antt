@@ -12,7 +12,7 @@ use Rattle.std.proofs.lemmas.List.Folds.{find-append, list_any_none}
 use Rattle.std.proofs.lemmas.List.Kept.{AllPairs-cons}
 use Rattle.std.proofs.lemmas.List.Sums.{sum_by-cons}
 use Rattle.store_data.proofs.FaultLemmas.{All-from_map}
-use Rattle.job_core.proofs.Lists.{find-All}
+use Rattle.job_facts.proofs.Lists.{find-All}
 use Rattle.table_rows.specs.Tables.{PassesOnce}
 use Rattle.table_rows.proofs.Found.{filter_none, find_none}
 use Rattle.rows_of_facts.proofs.Lists.{All-joined, All-numbered}

@@ -16,10 +16,10 @@ use Rattle.store_data.specs.Sequence.{Plan, plan_of}
 use Rattle.store_data.proofs.FaultLemmas.{list_any-map}
 use Rattle.store_data.proofs.GroupLemmas.{bytes_eq-same, list_any-first_appearances, same-bytes_eq, with_the_key-none}
 use Rattle.store_data.proofs.SummaryLemmas.{filter-map}
-use Rattle.job_core.specs.Facts.{Batch, Facts}
-use Rattle.job_core.specs.Sound.{IsRecord}
-use Rattle.job_core.specs.States.{batch_named, plan_for, product_named, records_named, records_of, rows_of, rows_of_record}
-use Rattle.job_core.proofs.Lists.{map_same}
+use Rattle.job_facts.specs.Facts.{Batch, Facts}
+use Rattle.job_facts.specs.Sound.{IsRecord}
+use Rattle.job_facts.specs.States.{batch_named, plan_for, product_named, records_named, records_of, rows_of, rows_of_record}
+use Rattle.job_facts.proofs.Lists.{map_same}
 use Rattle.table_rows.specs.Keys.{is_grouping_at, is_grouping_of, is_record_named}
 use Rattle.table_rows.specs.Tables.{StoredBatch, StoredGrouping, StoredRecord}
 use Rattle.table_rows.proofs.Found.{filter_alike}

@@ -7,7 +7,7 @@ use Rattle.std.proofs.lemmas.List.Elements.{All-weaker}
 use Rattle.std.proofs.lemmas.List.Sums.{sum_by-cons}
 use Rattle.std.proofs.lemmas.Option.{same_Some}
 use Rattle.std.proofs.lemmas.List.Folds.{list_any_none}
-use Rattle.job_core.proofs.Lists.{count_by_none, find-All}
+use Rattle.job_facts.proofs.Lists.{count_by_none, find-All}
 use Rattle.step_laws.proofs.Permuted.{at_most_one, count_moved, find_moved}
 use Rattle.table_rows.proofs.Found.{find_none}
 use Rattle.rows_answer.proofs.Finding.{none_counted}

@@ -12,13 +12,13 @@ use Rattle.std.proofs.lemmas.List.Sums.{position_or_len_is}
 use Rattle.std.proofs.lemmas.Option.{same_Some}
 use Rattle.std.proofs.lemmas.Simd.{map-map}
 use Rattle.store_data.proofs.GroupLemmas.{bytes_eq-same, same-bytes_eq}
-use Rattle.job_core.specs.declared.rows.RecordLine.{RecordLine}
-use Rattle.job_core.specs.Accounts.{record_line, record_lines, sessions_of}
-use Rattle.job_core.specs.Facts.{Batch, Facts, Session}
-use Rattle.job_core.specs.Sound.{IsSession, IsSound}
-use Rattle.job_core.specs.States.{batch_named, is_good, is_spoiled, is_withdrawn, record_state, records_named, records_under, remakes_of, session_state, states_of}
-use Rattle.job_core.proofs.Lists.{map_same}
-use Rattle.job_core.proofs.SoundFacts.{is_for}
+use Rattle.job_facts.specs.declared.rows.RecordLine.{RecordLine}
+use Rattle.job_facts.specs.Accounts.{record_line, record_lines, sessions_of}
+use Rattle.job_facts.specs.Facts.{Batch, Facts, Session}
+use Rattle.job_facts.specs.Sound.{IsSession, IsSound}
+use Rattle.job_facts.specs.States.{batch_named, is_good, is_spoiled, is_withdrawn, record_state, records_named, records_under, remakes_of, session_state, states_of}
+use Rattle.job_facts.proofs.Lists.{map_same}
+use Rattle.job_facts.proofs.SoundFacts.{is_for}
 use Rattle.step_laws.proofs.BlankSums.{bytes_eq_either}
 use Rattle.table_rows.specs.Keys.{is_good_of, is_record_of}
 use Rattle.table_rows.specs.Tables.{StoredRecord, StoredSession}

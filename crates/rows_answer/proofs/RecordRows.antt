@@ -14,11 +14,11 @@ use Rattle.store_data.specs.declared.row.Product.{Product}
 use Rattle.store_data.specs.declared.row.Row.{Row}
 use Rattle.store_data.proofs.GroupLemmas.{Distinct, Distinct-first_appearances, same-bytes_eq}
 use Rattle.store_data.proofs.IsPlanLemmas.{All-from_list_any}
-use Rattle.job_core.specs.declared.facts.RecordState.{RecordState}
-use Rattle.job_core.specs.Facts.{Batch, Facts}
-use Rattle.job_core.specs.Sound.{IsRecord}
-use Rattle.job_core.specs.States.{batch_named, is_spoiled, record_state, record_state_of, records_named, records_of, records_under, remakes_of, rows_of, states_of}
-use Rattle.job_core.proofs.Lists.{mapped}
+use Rattle.job_facts.specs.declared.facts.RecordState.{RecordState}
+use Rattle.job_facts.specs.Facts.{Batch, Facts}
+use Rattle.job_facts.specs.Sound.{IsRecord}
+use Rattle.job_facts.specs.States.{batch_named, is_spoiled, record_state, record_state_of, records_named, records_of, records_under, remakes_of, rows_of, states_of}
+use Rattle.job_facts.proofs.Lists.{mapped}
 use Rattle.step_laws.proofs.BlankSums.{bytes_eq_either}
 use Rattle.table_rows.specs.Keys.{is_batch_named, is_record_at, is_record_named}
 use Rattle.table_rows.specs.Tables.{PassesOnce, StoredBatch, StoredRecord}

@@ -3,8 +3,8 @@ use Rattle.std.proofs.Common.{◌≡◌, ℕ, ◌==◌, true, false, List, get_o
 use Rattle.std.specs.Prelude.{bytes_eq}
 use Rattle.std.proofs.lemmas.Bool.{and_from, and_parts, both_ways, eq-eqb, eqb-true, false_from_ne_true}
 use Rattle.store_data.proofs.GroupLemmas.{bytes_eq-same, same-bytes_eq}
-use Rattle.job_core.specs.Contents.{AreSound, Contents, Entry, Mark, has_mark, is_of_number}
-use Rattle.job_core.specs.Sound.{AreNamedOnce}
+use Rattle.job_facts.specs.Contents.{AreSound, Contents, Entry, Mark, has_mark, is_of_number}
+use Rattle.job_facts.specs.Sound.{AreNamedOnce}
 use Rattle.table_rows.specs.Keys.{is_reply_to}
 use Rattle.table_rows.specs.Tables.{PassesOnce}
 use Rattle.rows_of_facts.specs.Image.{image}

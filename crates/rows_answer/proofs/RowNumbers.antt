@@ -5,7 +5,7 @@ use Rattle.std.proofs.lemmas.List.{length-map}
 use Rattle.std.proofs.lemmas.List.Elements.{All-map}
 use Rattle.std.proofs.lemmas.List.FromFn.{get_or-enumerate_from, length-enumerate_from}
 use Rattle.std.proofs.lemmas.Simd.{map-map}
-use Rattle.job_core.specs.Facts.{Facts}
+use Rattle.job_facts.specs.Facts.{Facts}
 use Rattle.table_rows.specs.Tables.{StoredBatch, StoredSession}
 use Rattle.rows_of_facts.specs.Image.{batches_by_id, sessions_by_id, stored_batch, stored_batches, stored_lot, stored_lots, stored_session, stored_sessions}
 

@@ -3,11 +3,11 @@ use Rattle.std.proofs.Common.{◌≡◌, ℕ, zero, suc, ◌+◌, Bool, true, fa
 use Rattle.std.specs.Prelude.{bytes_eq, find, option_and_then, option_map, slice_get}
 use Rattle.std.specs.List.{enumerate_from}
 use Rattle.std.proofs.lemmas.Option.{none-some, same_Some}
-use Rattle.job_core.specs.declared.rows.SessionRow.{SessionRow}
-use Rattle.job_core.specs.Facts.{Facts, Session}
-use Rattle.job_core.specs.Rows.{session_row, session_row_of}
-use Rattle.job_core.specs.Sound.{IsSession, IsSound, runs_on}
-use Rattle.job_core.specs.States.{is_running, numbered, records_named, running_session, session_numbered, session_state}
+use Rattle.job_facts.specs.declared.rows.SessionRow.{SessionRow}
+use Rattle.job_facts.specs.Facts.{Facts, Session}
+use Rattle.job_facts.specs.Rows.{session_row, session_row_of}
+use Rattle.job_facts.specs.Sound.{IsSession, IsSound, runs_on}
+use Rattle.job_facts.specs.States.{is_running, numbered, records_named, running_session, session_numbered, session_state}
 use Rattle.step_laws.proofs.Numbered.{session_sound}
 use Rattle.table_rows.specs.Keys.{is_batch, is_record_at, is_running_on, is_session}
 use Rattle.table_rows.specs.Tables.{PassesOnce, StoredBatch, StoredRecord, StoredSession}

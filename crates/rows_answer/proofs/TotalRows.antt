@@ -10,17 +10,17 @@ use Rattle.std.proofs.lemmas.List.Sums.{sum_by-cons}
 use Rattle.store_data.proofs.GroupLemmas.{same-bytes_eq}
 use Rattle.store_data.proofs.PieceLemmas.{sum_by-agree}
 use Rattle.store_data.proofs.SummaryLemmas.{filter-map}
-use Rattle.job_core.specs.declared.facts.Lot.{Lot}
-use Rattle.job_core.specs.declared.facts.RecordState.{RecordState}
-use Rattle.job_core.specs.declared.facts.RecordState.TheVariants as rec
-use Rattle.job_core.specs.declared.facts.SessionState.{SessionState}
-use Rattle.job_core.specs.declared.facts.SessionState.TheVariants as session
-use Rattle.job_core.specs.Accounts.{batch_totals, blank_totals, count_records, count_sessions, lots_of, record_states, session_states}
-use Rattle.job_core.specs.Facts.{Batch, Facts, Session}
-use Rattle.job_core.specs.Sound.{IsSession, IsSound}
-use Rattle.job_core.specs.States.{batch_named, is_withdrawn, record_state, records_named, records_under, remakes_of, same_record_state, same_session_state, session_state, states_of}
-use Rattle.job_core.proofs.Lists.{count_by_any, count_by_none}
-use Rattle.job_core.proofs.SoundFacts.{is_for}
+use Rattle.job_facts.specs.declared.facts.Lot.{Lot}
+use Rattle.job_facts.specs.declared.facts.RecordState.{RecordState}
+use Rattle.job_facts.specs.declared.facts.RecordState.TheVariants as rec
+use Rattle.job_facts.specs.declared.facts.SessionState.{SessionState}
+use Rattle.job_facts.specs.declared.facts.SessionState.TheVariants as session
+use Rattle.job_facts.specs.Accounts.{batch_totals, blank_totals, count_records, count_sessions, lots_of, record_states, session_states}
+use Rattle.job_facts.specs.Facts.{Batch, Facts, Session}
+use Rattle.job_facts.specs.Sound.{IsSession, IsSound}
+use Rattle.job_facts.specs.States.{batch_named, is_withdrawn, record_state, records_named, records_under, remakes_of, same_record_state, same_session_state, session_state, states_of}
+use Rattle.job_facts.proofs.Lists.{count_by_any, count_by_none}
+use Rattle.job_facts.proofs.SoundFacts.{is_for}
 use Rattle.step_laws.specs.Sums.{AreBlankSums, batches_of}
 use Rattle.step_laws.proofs.BlankSums.{blank_sums, by_keys, count_beside, one, sum_by_nothing}
 use Rattle.step_laws.proofs.GoodCards.{count_among}

@@ -3,15 +3,15 @@ use Rattle.std.specs.Prelude.{◌+◌, ◌==◌, ◌&&◌, ℕ, Bool, true, fals
 use Rattle.store_data.specs.declared.row.Product.{Product}
 use Rattle.store_data.specs.declared.row.Row.{Row}
 use Rattle.store_data.specs.Sequence.{Plan, plan_of}
-use Rattle.job_core.specs.declared.facts.RecordState.{RecordState}
-use Rattle.job_core.specs.declared.facts.RecordState.TheVariants as rec
-use Rattle.job_core.specs.declared.rows.BatchRow.{BatchRow}
-use Rattle.job_core.specs.declared.rows.BatchSize.{BatchSize}
-use Rattle.job_core.specs.declared.rows.BatchTotals.{BatchTotals}
-use Rattle.job_core.specs.declared.rows.BlankTotals.{BlankTotals}
-use Rattle.job_core.specs.declared.rows.RecordLine.{RecordLine}
-use Rattle.job_core.specs.declared.rows.SessionRow.{SessionRow}
-use Rattle.job_core.specs.States.{product_named}
+use Rattle.job_facts.specs.declared.facts.RecordState.{RecordState}
+use Rattle.job_facts.specs.declared.facts.RecordState.TheVariants as rec
+use Rattle.job_facts.specs.declared.rows.BatchRow.{BatchRow}
+use Rattle.job_facts.specs.declared.rows.BatchSize.{BatchSize}
+use Rattle.job_facts.specs.declared.rows.BatchTotals.{BatchTotals}
+use Rattle.job_facts.specs.declared.rows.BlankTotals.{BlankTotals}
+use Rattle.job_facts.specs.declared.rows.RecordLine.{RecordLine}
+use Rattle.job_facts.specs.declared.rows.SessionRow.{SessionRow}
+use Rattle.job_facts.specs.States.{product_named}
 use Rattle.table_rows.specs.declared.before.RecordPlace.{RecordPlace}
 use Rattle.table_rows.specs.Keys.{is_batch, is_batch_named, is_good_of, is_grouping_at, is_grouping_of, is_record_at, is_record_named, is_record_of, is_session, is_waiting_of}
 use Rattle.table_rows.specs.Tables.{StoredBatch, StoredGrouping, StoredLot, StoredRecord, StoredSession, totals_of}

@@ -1,8 +1,8 @@
 //! The accounts of a batch's records and of a product's blanks.
 ghost use Rattle.std.specs.Prelude.{◌≡◌, ℕ, List, filter};
-ghost use Rattle.job_core.specs.Accounts.{blank_totals, record_lines};
-ghost use Rattle.job_core.specs.Facts.{Facts};
-ghost use Rattle.job_core.specs.Sound.{IsSound};
+ghost use Rattle.job_facts.specs.Accounts.{blank_totals, record_lines};
+ghost use Rattle.job_facts.specs.Facts.{Facts};
+ghost use Rattle.job_facts.specs.Sound.{IsSound};
 ghost use Rattle.table_rows.specs.Keys.{is_batch_for, is_lot_for};
 ghost use Rattle.rows_answer.specs.Telling.{blanks_of, lines_in};
 ghost use Rattle.rows_of_facts.specs.Image.{stored_batches, stored_lots, stored_records};

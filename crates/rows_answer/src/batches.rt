@@ -1,11 +1,11 @@
 //! Batches by name and by id, and how they stand.
 ghost use Rattle.std.specs.Prelude.{◌≡◌, ℕ, List, Some, find, option_map};
 ghost use Rattle.std.specs.List.{list_any};
-ghost use Rattle.job_core.specs.Accounts.{batch_totals};
-ghost use Rattle.job_core.specs.Facts.{Batch, Facts};
-ghost use Rattle.job_core.specs.Rows.{batch_has, batch_row_of, batch_size_of};
-ghost use Rattle.job_core.specs.Sound.{IsSound};
-ghost use Rattle.job_core.specs.States.{batch_named, is_batch_finished};
+ghost use Rattle.job_facts.specs.Accounts.{batch_totals};
+ghost use Rattle.job_facts.specs.Facts.{Batch, Facts};
+ghost use Rattle.job_facts.specs.Rows.{batch_has, batch_row_of, batch_size_of};
+ghost use Rattle.job_facts.specs.Sound.{IsSound};
+ghost use Rattle.job_facts.specs.States.{batch_named, is_batch_finished};
 ghost use Rattle.rows_answer.specs.Telling.{batch_of_row, has_raw_in, is_over_in, size_of};
 ghost use Rattle.rows_answer.specs.Telling.{totals_in};
 ghost use Rattle.rows_of_facts.specs.Image.{batch_id, stored_batch, stored_batches};

@@ -1,10 +1,10 @@
 //! Blanks by serial, and lots by name and by range.
 ghost use Rattle.std.specs.Prelude.{◌≡◌, ℕ, List, Some, find, is_some, map, option_map};
 ghost use Rattle.std.specs.List.{list_any};
-ghost use Rattle.job_core.specs.declared.facts.Lot.{Lot as LotValue};
-ghost use Rattle.job_core.specs.Facts.{Facts};
-ghost use Rattle.job_core.specs.Sound.{IsSound};
-ghost use Rattle.job_core.specs.States.{any_overlaps, is_charged, lot_named, lot_of};
+ghost use Rattle.job_facts.specs.declared.facts.Lot.{Lot as LotValue};
+ghost use Rattle.job_facts.specs.Facts.{Facts};
+ghost use Rattle.job_facts.specs.Sound.{IsSound};
+ghost use Rattle.job_facts.specs.States.{any_overlaps, is_charged, lot_named, lot_of};
 ghost use Rattle.rows_of_facts.specs.Image.{stored_blanks, stored_lot, stored_lots};
 ghost use Rattle.step_laws.specs.Sums.{discarded_in};
 ghost use Rattle.table_rows.specs.Keys.{is_blank, is_lot_across, is_lot_around, is_lot_named};

@@ -3,10 +3,10 @@ ghost use Rattle.std.specs.Prelude.{◌≡◌, ◌<◌, ℕ, List, length, map, 
 ghost use Rattle.std.specs.Prelude.{bytes_eq};
 ghost use Rattle.std.specs.List.{enumerate_from};
 ghost use Rattle.store_data.specs.declared.row.Row.{Row};
-ghost use Rattle.job_core.specs.Facts.{Batch, Facts};
-ghost use Rattle.job_core.specs.Sound.{IsRecord};
-ghost use Rattle.job_core.specs.States.{batch_named, plan_for, records_named, rows_of};
-ghost use Rattle.job_core.specs.States.{rows_of_record};
+ghost use Rattle.job_facts.specs.Facts.{Batch, Facts};
+ghost use Rattle.job_facts.specs.Sound.{IsRecord};
+ghost use Rattle.job_facts.specs.States.{batch_named, plan_for, records_named, rows_of};
+ghost use Rattle.job_facts.specs.States.{rows_of_record};
 ghost use Rattle.rows_answer.specs.Telling.{plan_in, row_of};
 ghost use Rattle.rows_of_facts.specs.Image.{batch_id, place_in, stored_batches, stored_grouping};
 ghost use Rattle.rows_of_facts.specs.Image.{stored_groupings, stored_records};

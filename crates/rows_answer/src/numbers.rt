@@ -1,7 +1,7 @@
 //! How many rows there are.
 ghost use Rattle.std.specs.Prelude.{◌≡◌, ◌≤◌, All, length, map};
 ghost use Rattle.std.specs.List.{range_with_len};
-ghost use Rattle.job_core.specs.Facts.{Facts};
+ghost use Rattle.job_facts.specs.Facts.{Facts};
 ghost use Rattle.rows_of_facts.specs.Image.{stored_batches, stored_lots, stored_sessions};
 ghost use Rattle.table_rows.specs.Tables.{StoredBatch, StoredSession};
 

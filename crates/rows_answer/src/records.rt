@@ -2,11 +2,11 @@
 ghost use Rattle.std.specs.Prelude.{◌≡◌, ◌<◌, ℕ, List, map, filter, find, AllPairs, Some, None};
 ghost use Rattle.std.specs.Prelude.{bytes_eq, if◌then◌else◌, option_map};
 ghost use Rattle.std.specs.List.{enumerate_from, list_any};
-ghost use Rattle.job_core.specs.declared.facts.RecordState.{RecordState as RecordStateValue};
-ghost use Rattle.job_core.specs.Facts.{Batch, Facts};
-ghost use Rattle.job_core.specs.Sound.{IsRecord};
-ghost use Rattle.job_core.specs.States.{batch_named, first_waiting, record_state_of};
-ghost use Rattle.job_core.specs.States.{records_named};
+ghost use Rattle.job_facts.specs.declared.facts.RecordState.{RecordState as RecordStateValue};
+ghost use Rattle.job_facts.specs.Facts.{Batch, Facts};
+ghost use Rattle.job_facts.specs.Sound.{IsRecord};
+ghost use Rattle.job_facts.specs.States.{batch_named, first_waiting, record_state_of};
+ghost use Rattle.job_facts.specs.States.{records_named};
 ghost use Rattle.rows_answer.specs.Telling.{place_of, record_row, waiting_in};
 ghost use Rattle.rows_of_facts.specs.Before.{IsPlaceOf};
 ghost use Rattle.rows_of_facts.specs.Image.{batch_id, place_in, stored_batches, stored_record};

@@ -1,9 +1,9 @@
 //! Sessions by number and by machine.
 ghost use Rattle.std.specs.Prelude.{◌≡◌, ℕ, List, Some, find, option_map};
-ghost use Rattle.job_core.specs.Facts.{Facts, Session};
-ghost use Rattle.job_core.specs.Rows.{session_row_of};
-ghost use Rattle.job_core.specs.Sound.{IsSound};
-ghost use Rattle.job_core.specs.States.{running_session, session_numbered};
+ghost use Rattle.job_facts.specs.Facts.{Facts, Session};
+ghost use Rattle.job_facts.specs.Rows.{session_row_of};
+ghost use Rattle.job_facts.specs.Sound.{IsSound};
+ghost use Rattle.job_facts.specs.States.{running_session, session_numbered};
 ghost use Rattle.rows_answer.specs.Telling.{place_of, session_in};
 ghost use Rattle.rows_of_facts.specs.Before.{IsPlaceOfSession};
 ghost use Rattle.rows_of_facts.specs.Image.{stored_batches, stored_records, stored_session};

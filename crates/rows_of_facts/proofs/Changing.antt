@@ -1,8 +1,8 @@
 -- The rows after any change.
-use Rattle.job_core.specs.declared.change.Change.{Change}
-use Rattle.job_core.specs.declared.change.Change.TheVariants as change
-use Rattle.job_core.specs.Contents.{Contents}
-use Rattle.job_core.specs.Sound.{IsSound, IsSoundChange, changed}
+use Rattle.job_facts.specs.declared.change.Change.{Change}
+use Rattle.job_facts.specs.declared.change.Change.TheVariants as change
+use Rattle.job_facts.specs.Contents.{Contents}
+use Rattle.job_facts.specs.Sound.{IsSound, IsSoundChange, changed}
 use Rattle.table_rows.specs.After.{rows_after}
 use Rattle.table_rows.specs.Tables.{HaveSameRows}
 use Rattle.table_rows.specs.declared.before.Before.{Before}

@@ -5,13 +5,13 @@ use Rattle.std.proofs.Math.Bool.{or-false}
 use Rattle.std.proofs.lemmas.Bool.{cases_Bool, or_right}
 use Rattle.std.proofs.lemmas.List.Folds.{list_any-append}
 use Rattle.std.proofs.lemmas.Simd.{map-map}
-use Rattle.job_core.specs.declared.change.Change.TheVariants as change
-use Rattle.job_core.specs.Accounts.{batch_totals}
-use Rattle.job_core.specs.Contents.{Contents}
-use Rattle.job_core.specs.Facts.{Batch, Facts, with_close}
-use Rattle.job_core.specs.Sound.{IsSound, IsSoundChange, changed}
-use Rattle.job_core.specs.States.{is_closed}
-use Rattle.job_core.proofs.Lists.{map_same}
+use Rattle.job_facts.specs.declared.change.Change.TheVariants as change
+use Rattle.job_facts.specs.Accounts.{batch_totals}
+use Rattle.job_facts.specs.Contents.{Contents}
+use Rattle.job_facts.specs.Facts.{Batch, Facts, with_close}
+use Rattle.job_facts.specs.Sound.{IsSound, IsSoundChange, changed}
+use Rattle.job_facts.specs.States.{is_closed}
+use Rattle.job_facts.proofs.Lists.{map_same}
 use Rattle.step_laws.specs.Later.{KnowsMore}
 use Rattle.step_laws.specs.Records.{StandsSame}
 use Rattle.step_laws.proofs.ChangeStands.{others_same}

@@ -1,12 +1,12 @@
 -- The rows after the end of a session.
 use Rattle.std.proofs.Common.{◌≡◌, ℕ, ◌+◌, false, List, refl, sym, subst}
-use Rattle.job_core.specs.declared.change.Change.TheVariants as change
-use Rattle.job_core.specs.declared.facts.RecordState.TheVariants as rec
-use Rattle.job_core.specs.declared.facts.SessionState.TheVariants as session
-use Rattle.job_core.specs.Contents.{Contents}
-use Rattle.job_core.specs.Facts.{Facts, Session, ended, with_end}
-use Rattle.job_core.specs.Sound.{IsSound, IsSoundChange, changed}
-use Rattle.job_core.specs.States.{is_record, record_state, session_state}
+use Rattle.job_facts.specs.declared.change.Change.TheVariants as change
+use Rattle.job_facts.specs.declared.facts.RecordState.TheVariants as rec
+use Rattle.job_facts.specs.declared.facts.SessionState.TheVariants as session
+use Rattle.job_facts.specs.Contents.{Contents}
+use Rattle.job_facts.specs.Facts.{Facts, Session, ended, with_end}
+use Rattle.job_facts.specs.Sound.{IsSound, IsSoundChange, changed}
+use Rattle.job_facts.specs.States.{is_record, record_state, session_state}
 use Rattle.step_laws.specs.Records.{StandsSame}
 use Rattle.step_laws.proofs.ChangeStands.{record_of_there, touched_stands, touched_stood}
 use Rattle.step_laws.proofs.RecordStands.{named}

@@ -17,16 +17,16 @@ use Rattle.store_data.specs.declared.row.Row.{Row}
 use Rattle.store_data.proofs.CommandLemmas.{enumerate_from-append}
 use Rattle.store_data.proofs.GroupLemmas.{bytes_eq-same, same-bytes_eq}
 use Rattle.batch_import.specs.Batch.{batch_of}
-use Rattle.job_core.specs.declared.change.Change.TheVariants as change
-use Rattle.job_core.specs.declared.facts.RecordState.{RecordState}
-use Rattle.job_core.specs.declared.facts.RecordState.TheVariants as rec
-use Rattle.job_core.specs.Accounts.{batch_totals, record_states, session_states}
-use Rattle.job_core.specs.Contents.{Contents}
-use Rattle.job_core.specs.Facts.{Batch, Facts, RecordName, Session, with_batch}
-use Rattle.job_core.specs.Sound.{IsRecord, IsSession, IsSound, IsSoundChange, changed}
-use Rattle.job_core.specs.States.{batch_named, is_closed, is_record, is_withdrawn, product_named, record_state, records_named, records_of, records_under, remakes_of, rows_of, rows_or_none, rows_under, same_record_state, session_cursor, session_state, state_by, states_of}
-use Rattle.job_core.proofs.Lists.{count_by_none, find-All, map_same}
-use Rattle.job_core.proofs.SoundFacts.{is_for, states_are}
+use Rattle.job_facts.specs.declared.change.Change.TheVariants as change
+use Rattle.job_facts.specs.declared.facts.RecordState.{RecordState}
+use Rattle.job_facts.specs.declared.facts.RecordState.TheVariants as rec
+use Rattle.job_facts.specs.Accounts.{batch_totals, record_states, session_states}
+use Rattle.job_facts.specs.Contents.{Contents}
+use Rattle.job_facts.specs.Facts.{Batch, Facts, RecordName, Session, with_batch}
+use Rattle.job_facts.specs.Sound.{IsRecord, IsSession, IsSound, IsSoundChange, changed}
+use Rattle.job_facts.specs.States.{batch_named, is_closed, is_record, is_withdrawn, product_named, record_state, records_named, records_of, records_under, remakes_of, rows_of, rows_or_none, rows_under, same_record_state, session_cursor, session_state, state_by, states_of}
+use Rattle.job_facts.proofs.Lists.{count_by_none, find-All, map_same}
+use Rattle.job_facts.proofs.SoundFacts.{is_for, states_are}
 use Rattle.step_laws.specs.Later.{KnowsMore}
 use Rattle.step_laws.specs.Records.{StandsSame}
 use Rattle.step_laws.proofs.BlankSums.{named_once}

@@ -6,8 +6,8 @@ use Rattle.std.proofs.lemmas.Bool.Decides.{nat_tests}
 use Rattle.std.proofs.lemmas.List.Elements.{filter-append}
 use Rattle.std.proofs.lemmas.List.Sums.{length-filter}
 use Rattle.step_laws.proofs.Permuted.{count_moved, find_moved}
-use Rattle.job_core.specs.Facts.{Batch, Facts, Session}
-use Rattle.job_core.specs.States.{records_of}
+use Rattle.job_facts.specs.Facts.{Batch, Facts, Session}
+use Rattle.job_facts.specs.States.{records_of}
 use Rattle.table_rows.specs.Tables.{StoredBatch, StoredRecord, StoredSession, StoredWord}
 use Rattle.rows_of_facts.specs.Image.{records_in, stored_batch, stored_batches, stored_record, stored_records, stored_session, stored_sessions, stored_words, words_in}
 

@@ -8,13 +8,13 @@ use Rattle.std.proofs.lemmas.List.Folds.{list_any_none}
 use Rattle.std.proofs.lemmas.List.Sums.{sum_by_push}
 use Rattle.std.proofs.lemmas.Simd.{map-map}
 use Rattle.store_data.proofs.GroupLemmas.{bytes_eq-same}
-use Rattle.job_core.specs.declared.change.Change.TheVariants as change
-use Rattle.job_core.specs.declared.facts.Lot.{Lot}
-use Rattle.job_core.specs.Contents.{Contents}
-use Rattle.job_core.specs.Facts.{Facts, Session, with_discard, with_lot}
-use Rattle.job_core.specs.Sound.{AreApart, IsOfLot, IsSession, IsSound, IsSoundChange, changed}
-use Rattle.job_core.specs.States.{is_in, lot_named, lot_of}
-use Rattle.job_core.proofs.Lists.{All-right, count_by_none, find-All, find_kept, map_same}
+use Rattle.job_facts.specs.declared.change.Change.TheVariants as change
+use Rattle.job_facts.specs.declared.facts.Lot.{Lot}
+use Rattle.job_facts.specs.Contents.{Contents}
+use Rattle.job_facts.specs.Facts.{Facts, Session, with_discard, with_lot}
+use Rattle.job_facts.specs.Sound.{AreApart, IsOfLot, IsSession, IsSound, IsSoundChange, changed}
+use Rattle.job_facts.specs.States.{is_in, lot_named, lot_of}
+use Rattle.job_facts.proofs.Lists.{All-right, count_by_none, find-All, find_kept, map_same}
 use Rattle.step_laws.specs.Later.{KnowsMore}
 use Rattle.step_laws.specs.Records.{StandsSame}
 use Rattle.step_laws.specs.Sums.{discarded_in}

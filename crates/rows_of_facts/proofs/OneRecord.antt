@@ -10,14 +10,14 @@ use Rattle.store_data.proofs.GroupLemmas.{Distinct, Distinct-first_appearances, 
 use Rattle.store_data.proofs.IsPlanLemmas.{All-from_list_any}
 use Rattle.store_data.specs.declared.row.Product.{Product}
 use Rattle.store_data.specs.declared.row.Row.{Row}
-use Rattle.job_core.specs.declared.facts.RecordState.{RecordState}
-use Rattle.job_core.specs.declared.facts.SessionState.{SessionState}
-use Rattle.job_core.specs.declared.rows.BatchTotals.{BatchTotals}
-use Rattle.job_core.specs.Accounts.{batch_totals, record_states, session_states}
-use Rattle.job_core.specs.Facts.{Batch, Facts, RecordName, Session}
-use Rattle.job_core.specs.Sound.{IsRecord, IsSound}
-use Rattle.job_core.specs.States.{batch_named, is_closed, is_record, is_spoiled, record_state, records_named, records_of, records_under, remakes_of, rows_of, states_of}
-use Rattle.job_core.proofs.Lists.{map_same}
+use Rattle.job_facts.specs.declared.facts.RecordState.{RecordState}
+use Rattle.job_facts.specs.declared.facts.SessionState.{SessionState}
+use Rattle.job_facts.specs.declared.rows.BatchTotals.{BatchTotals}
+use Rattle.job_facts.specs.Accounts.{batch_totals, record_states, session_states}
+use Rattle.job_facts.specs.Facts.{Batch, Facts, RecordName, Session}
+use Rattle.job_facts.specs.Sound.{IsRecord, IsSound}
+use Rattle.job_facts.specs.States.{batch_named, is_closed, is_record, is_spoiled, record_state, records_named, records_of, records_under, remakes_of, rows_of, states_of}
+use Rattle.job_facts.proofs.Lists.{map_same}
 use Rattle.step_laws.specs.Records.{StandsSame}
 use Rattle.step_laws.proofs.BlankSums.{bytes_eq_either, named_once}
 use Rattle.step_laws.proofs.RecordStands.{named}

@@ -8,12 +8,12 @@ use Rattle.std.proofs.lemmas.List.{map-append}
 use Rattle.std.proofs.lemmas.Option.{none-some, same_Some}
 use Rattle.store_data.proofs.CommandLemmas.{enumerate_from-append}
 use Rattle.store_data.proofs.GroupLemmas.{bytes_eq-same}
-use Rattle.job_core.specs.declared.facts.SessionState.{SessionState}
-use Rattle.job_core.specs.Accounts.{session_states}
-use Rattle.job_core.specs.Facts.{Facts, Session, at_session}
-use Rattle.job_core.specs.States.{plan_for, session_cursor, session_numbered, session_state, states_of}
-use Rattle.job_core.proofs.Lists.{map_filter-at}
-use Rattle.job_core.proofs.SoundFacts.{is_for}
+use Rattle.job_facts.specs.declared.facts.SessionState.{SessionState}
+use Rattle.job_facts.specs.Accounts.{session_states}
+use Rattle.job_facts.specs.Facts.{Facts, Session, at_session}
+use Rattle.job_facts.specs.States.{plan_for, session_cursor, session_numbered, session_state, states_of}
+use Rattle.job_facts.proofs.Lists.{map_filter-at}
+use Rattle.job_facts.proofs.SoundFacts.{is_for}
 use Rattle.step_laws.specs.Records.{StandsSame}
 use Rattle.step_laws.proofs.GoodCards.{for_own}
 use Rattle.step_laws.proofs.RecordStands.{record_same, states_around}

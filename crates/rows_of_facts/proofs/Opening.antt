@@ -12,18 +12,18 @@ use Rattle.store_data.specs.Sequence.{Plan, commands_of}
 use Rattle.store_data.proofs.CommandLemmas.{enumerate_from-append}
 use Rattle.store_data.proofs.CursorLemmas.{first_there_of}
 use Rattle.store_data.proofs.GroupLemmas.{bytes_eq-same}
-use Rattle.job_core.specs.declared.change.Change.TheVariants as change
-use Rattle.job_core.specs.declared.facts.RecordState.TheVariants as rec
-use Rattle.job_core.specs.declared.facts.SessionState.{SessionState}
-use Rattle.job_core.specs.declared.facts.SessionState.TheVariants as session
-use Rattle.job_core.specs.Accounts.{batch_totals, record_states, session_states}
-use Rattle.job_core.specs.Contents.{Contents}
-use Rattle.job_core.specs.Facts.{Facts, Session, new_session, with_session}
-use Rattle.job_core.specs.Sound.{IsRecord, IsSound, IsSoundChange, changed}
-use Rattle.job_core.specs.States.{going, is_record, is_spoiled, plan_for, record_state, session_cursor, session_state, states_of}
-use Rattle.job_core.proofs.Lists.{count_by-at}
-use Rattle.job_core.proofs.PlanLemmas.{plan_there}
-use Rattle.job_core.proofs.SoundFacts.{is_for, states_are}
+use Rattle.job_facts.specs.declared.change.Change.TheVariants as change
+use Rattle.job_facts.specs.declared.facts.RecordState.TheVariants as rec
+use Rattle.job_facts.specs.declared.facts.SessionState.{SessionState}
+use Rattle.job_facts.specs.declared.facts.SessionState.TheVariants as session
+use Rattle.job_facts.specs.Accounts.{batch_totals, record_states, session_states}
+use Rattle.job_facts.specs.Contents.{Contents}
+use Rattle.job_facts.specs.Facts.{Facts, Session, new_session, with_session}
+use Rattle.job_facts.specs.Sound.{IsRecord, IsSound, IsSoundChange, changed}
+use Rattle.job_facts.specs.States.{going, is_record, is_spoiled, plan_for, record_state, session_cursor, session_state, states_of}
+use Rattle.job_facts.proofs.Lists.{count_by-at}
+use Rattle.job_facts.proofs.PlanLemmas.{plan_there}
+use Rattle.job_facts.proofs.SoundFacts.{is_for, states_are}
 use Rattle.step_laws.specs.Records.{StandsSame}
 use Rattle.step_laws.proofs.ChangeStands.{others_same, told_state, touched_stands}
 use Rattle.step_laws.proofs.GoodCards.{for_own}

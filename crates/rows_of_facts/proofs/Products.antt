@@ -1,10 +1,10 @@
 -- The rows after a reply, and after a product was added.
 use Rattle.std.proofs.Common.{◌≡◌, ℕ, List, refl}
 use Rattle.store_data.specs.declared.row.Product.{Product}
-use Rattle.job_core.specs.declared.change.Change.TheVariants as change
-use Rattle.job_core.specs.Contents.{Contents, Entry, committed}
-use Rattle.job_core.specs.Facts.{Facts, with_product}
-use Rattle.job_core.specs.Sound.{IsSound, IsSoundChange, changed}
+use Rattle.job_facts.specs.declared.change.Change.TheVariants as change
+use Rattle.job_facts.specs.Contents.{Contents, Entry, committed}
+use Rattle.job_facts.specs.Facts.{Facts, with_product}
+use Rattle.job_facts.specs.Sound.{IsSound, IsSoundChange, changed}
 use Rattle.step_laws.specs.Records.{StandsSame}
 use Rattle.step_laws.proofs.ChangeStands.{others_same}
 use Rattle.step_laws.proofs.Kept.{product_knows}

@@ -5,7 +5,7 @@ use Rattle.std.proofs.lemmas.Bool.{both_ways, cases_Bool, false_from_ne_true, lt
 use Rattle.std.proofs.lemmas.Bool.Decides.{nat_tests}
 use Rattle.std.proofs.lemmas.List.Elements.{All-weaker, filter-append}
 use Rattle.store_data.proofs.GroupLemmas.{bytes_eq-same, same-bytes_eq}
-use Rattle.job_core.specs.Contents.{AreSound, Contents, Entry, IsOwedRelease, Mark, above, has_mark, is_above, mark_of, released, with_mark}
+use Rattle.job_facts.specs.Contents.{AreSound, Contents, Entry, IsOwedRelease, Mark, above, has_mark, is_above, mark_of, released, with_mark}
 use Rattle.table_rows.specs.After.{rows_after_release}
 use Rattle.table_rows.specs.Tables.{HaveSameRows, is_released}
 use Rattle.table_rows.proofs.Found.{filter_alike}

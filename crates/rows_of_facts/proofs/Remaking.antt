@@ -7,14 +7,14 @@ use Rattle.std.proofs.lemmas.List.FromFn.{map-range_with_len_more}
 use Rattle.std.proofs.lemmas.List.Sums.{sum_by_push}
 use Rattle.store_data.proofs.GroupLemmas.{bytes_eq-same, same-bytes_eq}
 use Rattle.store_data.specs.declared.row.Product.{Product}
-use Rattle.job_core.specs.declared.change.Change.TheVariants as change
-use Rattle.job_core.specs.declared.facts.RecordState.{RecordState}
-use Rattle.job_core.specs.declared.facts.RecordState.TheVariants as rec
-use Rattle.job_core.specs.Accounts.{batch_totals, record_states, session_states}
-use Rattle.job_core.specs.Contents.{Contents}
-use Rattle.job_core.specs.Facts.{Batch, Facts, RecordName, with_remake}
-use Rattle.job_core.specs.Sound.{IsRecord, IsSound, IsSoundChange, changed}
-use Rattle.job_core.specs.States.{batch_named, is_record, is_spoiled, plan_for, record_state, records_named, records_of, records_under, remakes_of, session_state, states_of}
+use Rattle.job_facts.specs.declared.change.Change.TheVariants as change
+use Rattle.job_facts.specs.declared.facts.RecordState.{RecordState}
+use Rattle.job_facts.specs.declared.facts.RecordState.TheVariants as rec
+use Rattle.job_facts.specs.Accounts.{batch_totals, record_states, session_states}
+use Rattle.job_facts.specs.Contents.{Contents}
+use Rattle.job_facts.specs.Facts.{Batch, Facts, RecordName, with_remake}
+use Rattle.job_facts.specs.Sound.{IsRecord, IsSound, IsSoundChange, changed}
+use Rattle.job_facts.specs.States.{batch_named, is_record, is_spoiled, plan_for, record_state, records_named, records_of, records_under, remakes_of, session_state, states_of}
 use Rattle.step_laws.specs.Records.{StandsSame}
 use Rattle.step_laws.proofs.ChangeStands.{others_same, told_state, touched_stands}
 use Rattle.step_laws.proofs.RecordStands.{named, same_states}

@@ -7,10 +7,10 @@ use Rattle.std.proofs.lemmas.List.{length_push, map-append}
 use Rattle.std.proofs.lemmas.List.Sorted.{IsPermutation-middle}
 use Rattle.store_data.proofs.CommandLemmas.{enumerate_from-append}
 use Rattle.store_data.specs.declared.cursor.Cursor.{Cursor}
-use Rattle.job_core.specs.declared.facts.SessionState.{SessionState}
-use Rattle.job_core.specs.declared.facts.SessionState.TheVariants as session
-use Rattle.job_core.specs.Facts.{Facts, Session, at_session, ended, with_end, with_word, worded}
-use Rattle.job_core.specs.States.{session_cursor, session_numbered, session_state}
+use Rattle.job_facts.specs.declared.facts.SessionState.{SessionState}
+use Rattle.job_facts.specs.declared.facts.SessionState.TheVariants as session
+use Rattle.job_facts.specs.Facts.{Facts, Session, at_session, ended, with_end, with_word, worded}
+use Rattle.job_facts.specs.States.{session_cursor, session_numbered, session_state}
 use Rattle.table_rows.specs.Tables.{StoredSession, StoredWord, end_set, session_set}
 use Rattle.rows_of_facts.specs.Image.{stored_session, stored_sessions, stored_words, words_in}
 use Rattle.rows_of_facts.proofs.OneSession.{rows_changed, split_numbered}

@@ -8,16 +8,16 @@ use Rattle.store_data.specs.Groups.{first_appearances}
 use Rattle.store_data.specs.Sequence.{Plan, commands_of}
 use Rattle.store_data.specs.declared.cursor.Cursor.{Cursor}
 use Rattle.store_data.specs.declared.row.Row.{Row}
-use Rattle.job_core.specs.declared.facts.RecordState.{RecordState}
-use Rattle.job_core.specs.declared.facts.RecordState.TheVariants as rec
-use Rattle.job_core.specs.declared.facts.SessionState.{SessionState}
-use Rattle.job_core.specs.declared.facts.SessionState.TheVariants as session
-use Rattle.job_core.specs.declared.rows.BatchTotals.{BatchTotals}
-use Rattle.job_core.specs.Accounts.{batch_totals, count_records, count_sessions, record_states, session_states}
-use Rattle.job_core.specs.Facts.{Batch, Facts, Session}
-use Rattle.job_core.specs.Sound.{IsBatch, IsSession, IsSound}
-use Rattle.job_core.specs.States.{batch_named, going, is_closed, product_named, record_state, records_named, records_of, records_under, rows_of, rows_under, session_cursor, session_state}
-use Rattle.job_core.proofs.Lists.{find-All, map_same}
+use Rattle.job_facts.specs.declared.facts.RecordState.{RecordState}
+use Rattle.job_facts.specs.declared.facts.RecordState.TheVariants as rec
+use Rattle.job_facts.specs.declared.facts.SessionState.{SessionState}
+use Rattle.job_facts.specs.declared.facts.SessionState.TheVariants as session
+use Rattle.job_facts.specs.declared.rows.BatchTotals.{BatchTotals}
+use Rattle.job_facts.specs.Accounts.{batch_totals, count_records, count_sessions, record_states, session_states}
+use Rattle.job_facts.specs.Facts.{Batch, Facts, Session}
+use Rattle.job_facts.specs.Sound.{IsBatch, IsSession, IsSound}
+use Rattle.job_facts.specs.States.{batch_named, going, is_closed, product_named, record_state, records_named, records_of, records_under, rows_of, rows_under, session_cursor, session_state}
+use Rattle.job_facts.proofs.Lists.{find-All, map_same}
 use Rattle.step_laws.specs.Later.{KnowsMore}
 use Rattle.step_laws.specs.Records.{StandsSame}
 use Rattle.step_laws.proofs.Kept.{plan_kept, product_kept, state_kept}

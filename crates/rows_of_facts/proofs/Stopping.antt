@@ -2,15 +2,15 @@
 use Rattle.std.proofs.Common.{◌≡◌, ℕ, ◌+◌, false, List, Some, sym, ap, subst, ◌∙◌, arith}
 use Rattle.std.specs.Prelude.{count_by}
 use Rattle.std.proofs.lemmas.Option.{same_Some}
-use Rattle.job_core.specs.declared.change.Change.{Change}
-use Rattle.job_core.specs.declared.facts.RecordState.TheVariants as rec
-use Rattle.job_core.specs.declared.facts.SessionState.{SessionState}
-use Rattle.job_core.specs.declared.facts.SessionState.TheVariants as session
-use Rattle.job_core.specs.Accounts.{batch_totals, record_states, session_states}
-use Rattle.job_core.specs.Facts.{Facts, Session, at_session}
-use Rattle.job_core.specs.Sound.{IsRecord, IsSound, TellsBefore, changed}
-use Rattle.job_core.specs.States.{is_record, is_spoiled, record_state, session_numbered, session_state, states_of}
-use Rattle.job_core.proofs.Lists.{count_by-at}
+use Rattle.job_facts.specs.declared.change.Change.{Change}
+use Rattle.job_facts.specs.declared.facts.RecordState.TheVariants as rec
+use Rattle.job_facts.specs.declared.facts.SessionState.{SessionState}
+use Rattle.job_facts.specs.declared.facts.SessionState.TheVariants as session
+use Rattle.job_facts.specs.Accounts.{batch_totals, record_states, session_states}
+use Rattle.job_facts.specs.Facts.{Facts, Session, at_session}
+use Rattle.job_facts.specs.Sound.{IsRecord, IsSound, TellsBefore, changed}
+use Rattle.job_facts.specs.States.{is_record, is_spoiled, record_state, session_numbered, session_state, states_of}
+use Rattle.job_facts.proofs.Lists.{count_by-at}
 use Rattle.step_laws.specs.Records.{StandsSame, is_told, record_of_session, touches}
 use Rattle.step_laws.proofs.ChangeStands.{others_same, record_of_there}
 use Rattle.step_laws.proofs.Numbered.{session_sound}

@@ -3,14 +3,14 @@ use Rattle.std.proofs.Common.{◌≡◌, ℕ, ◌+◌, ◌-◌, Bool, true, fals
 use Rattle.std.specs.Prelude.{count_by}
 use Rattle.std.proofs.lemmas.List.{length-append}
 use Rattle.std.proofs.lemmas.List.Sums.{sum_by-append}
-use Rattle.job_core.specs.declared.facts.RecordState.{RecordState}
-use Rattle.job_core.specs.declared.facts.RecordState.TheVariants as rec
-use Rattle.job_core.specs.declared.facts.SessionState.{SessionState}
-use Rattle.job_core.specs.declared.facts.SessionState.TheVariants as session
-use Rattle.job_core.specs.declared.rows.BatchTotals.{BatchTotals}
-use Rattle.job_core.specs.Accounts.{count_records}
-use Rattle.job_core.specs.States.{is_spoiled, same_record_state}
-use Rattle.job_core.proofs.Lists.{count_by-at}
+use Rattle.job_facts.specs.declared.facts.RecordState.{RecordState}
+use Rattle.job_facts.specs.declared.facts.RecordState.TheVariants as rec
+use Rattle.job_facts.specs.declared.facts.SessionState.{SessionState}
+use Rattle.job_facts.specs.declared.facts.SessionState.TheVariants as session
+use Rattle.job_facts.specs.declared.rows.BatchTotals.{BatchTotals}
+use Rattle.job_facts.specs.Accounts.{count_records}
+use Rattle.job_facts.specs.States.{is_spoiled, same_record_state}
+use Rattle.job_facts.proofs.Lists.{count_by-at}
 use Rattle.table_rows.specs.After.{less, more, one_opened, one_spoiled}
 use Rattle.rows_of_facts.proofs.Staying.{totals_by}
 

@@ -1,9 +1,9 @@
 -- What is told of a record that a change touches, and the rows that no such change moves.
 use Rattle.std.proofs.Common.{◌≡◌, ℕ, List, refl, ap, ◌∙◌}
 use Rattle.std.specs.Prelude.{count_by}
-use Rattle.job_core.specs.Accounts.{batch_totals}
-use Rattle.job_core.specs.Facts.{Facts, RecordName, Session}
-use Rattle.job_core.specs.States.{is_spoiled, plan_for, records_named, remakes_of, session_cursor, session_state, states_of}
+use Rattle.job_facts.specs.Accounts.{batch_totals}
+use Rattle.job_facts.specs.Facts.{Facts, RecordName, Session}
+use Rattle.job_facts.specs.States.{is_spoiled, plan_for, records_named, remakes_of, session_cursor, session_state, states_of}
 use Rattle.table_rows.specs.declared.before.RecordPlace.{RecordPlace}
 use Rattle.rows_of_facts.specs.Before.{IsPlaceOf}
 use Rattle.rows_of_facts.specs.Image.{batch_id, place_in, stored_blanks, stored_groupings, stored_lots, stored_remakes, stored_sessions, stored_words}

@@ -3,21 +3,21 @@ use Rattle.std.proofs.Common.{◌≡◌, ℕ, ◌+◌, false, List, ◌∷◌, m
 use Rattle.std.specs.Prelude.{bytes_eq, count_by, option_map}
 use Rattle.std.proofs.lemmas.Option.{same_Some}
 use Rattle.store_data.specs.declared.cursor.Cursor.{Cursor}
-use Rattle.job_core.specs.declared.change.Change.{Change}
-use Rattle.job_core.specs.declared.change.Change.TheVariants as change
-use Rattle.job_core.specs.declared.facts.RecordState.{RecordState}
-use Rattle.job_core.specs.declared.facts.RecordState.TheVariants as rec
-use Rattle.job_core.specs.declared.facts.SessionState.{SessionState}
-use Rattle.job_core.specs.declared.facts.SessionState.TheVariants as session
-use Rattle.job_core.specs.declared.rows.BatchTotals.{BatchTotals}
-use Rattle.job_core.specs.declared.rows.SessionRow.{SessionRow}
-use Rattle.job_core.specs.Accounts.{batch_totals, session_states}
-use Rattle.job_core.specs.Contents.{Contents, Entry, Mark}
-use Rattle.job_core.specs.Facts.{Facts, Session, with_word, worded}
-use Rattle.job_core.specs.Rows.{session_row}
-use Rattle.job_core.specs.Sound.{IsSound, IsSoundChange, changed}
-use Rattle.job_core.specs.States.{is_record, is_spoiled, plan_for, record_state, remakes_of, session_cursor, session_state, states_of}
-use Rattle.job_core.proofs.SessionLemmas.{session_changed}
+use Rattle.job_facts.specs.declared.change.Change.{Change}
+use Rattle.job_facts.specs.declared.change.Change.TheVariants as change
+use Rattle.job_facts.specs.declared.facts.RecordState.{RecordState}
+use Rattle.job_facts.specs.declared.facts.RecordState.TheVariants as rec
+use Rattle.job_facts.specs.declared.facts.SessionState.{SessionState}
+use Rattle.job_facts.specs.declared.facts.SessionState.TheVariants as session
+use Rattle.job_facts.specs.declared.rows.BatchTotals.{BatchTotals}
+use Rattle.job_facts.specs.declared.rows.SessionRow.{SessionRow}
+use Rattle.job_facts.specs.Accounts.{batch_totals, session_states}
+use Rattle.job_facts.specs.Contents.{Contents, Entry, Mark}
+use Rattle.job_facts.specs.Facts.{Facts, Session, with_word, worded}
+use Rattle.job_facts.specs.Rows.{session_row}
+use Rattle.job_facts.specs.Sound.{IsSound, IsSoundChange, changed}
+use Rattle.job_facts.specs.States.{is_record, is_spoiled, plan_for, record_state, remakes_of, session_cursor, session_state, states_of}
+use Rattle.job_facts.proofs.SessionLemmas.{session_changed}
 use Rattle.step_laws.specs.Later.{KnowsMore}
 use Rattle.step_laws.specs.Records.{StandsSame}
 use Rattle.step_laws.proofs.ChangeStands.{record_of_there, touched_stands, touched_stood}

@@ -8,11 +8,11 @@ use Rattle.store_data.specs.Cursor.{application_cursors, cursors_of}
 use Rattle.store_data.specs.Groups.{grouped}
 use Rattle.store_data.specs.Ranks.{by_rank, ranks}
 use Rattle.store_data.specs.Sequence.{applications_of, piece_count, segments_of}
-use Rattle.job_core.specs.declared.facts.RecordState.TheVariants as rec
-use Rattle.job_core.specs.declared.facts.SessionState.TheVariants as session
-use Rattle.job_core.specs.Accounts.{batch_totals, record_states, session_states}
-use Rattle.job_core.specs.Facts.{Batch, Facts}
-use Rattle.job_core.specs.States.{plan_for, record_state, records_of, rows_of, session_cursor, session_state, states_of}
+use Rattle.job_facts.specs.declared.facts.RecordState.TheVariants as rec
+use Rattle.job_facts.specs.declared.facts.SessionState.TheVariants as session
+use Rattle.job_facts.specs.Accounts.{batch_totals, record_states, session_states}
+use Rattle.job_facts.specs.Facts.{Batch, Facts}
+use Rattle.job_facts.specs.States.{plan_for, record_state, records_of, rows_of, session_cursor, session_state, states_of}
 use Rattle.table_rows.specs.Tables.{StoredBatch}
 use Rattle.rows_of_facts.specs.Image.{stored_batches, stored_blanks, stored_groupings, stored_lots, stored_records, stored_remakes, stored_sessions, stored_words}
 

@@ -3,11 +3,11 @@
 use Rattle.std.specs.Prelude.{◌+◌, ℕ, Bool, true, false, List, [], ◌++◌, map, flat_map, count_by, bytes_eq, Option, Some, None, length}
 use Rattle.std.specs.List.{enumerate_from, position_or_len, range_with_len}
 use Rattle.store_data.specs.declared.row.Row.{Row}
-use Rattle.job_core.specs.declared.facts.Lot.{Lot}
-use Rattle.job_core.specs.Accounts.{batch_totals}
-use Rattle.job_core.specs.Contents.{Contents}
-use Rattle.job_core.specs.Facts.{Batch, Facts, Session}
-use Rattle.job_core.specs.States.{is_closed, is_spoiled, lot_of, record_state, records_named, records_of, remakes_of, rows_of, session_cursor, session_state, states_of}
+use Rattle.job_facts.specs.declared.facts.Lot.{Lot}
+use Rattle.job_facts.specs.Accounts.{batch_totals}
+use Rattle.job_facts.specs.Contents.{Contents}
+use Rattle.job_facts.specs.Facts.{Batch, Facts, Session}
+use Rattle.job_facts.specs.States.{is_closed, is_spoiled, lot_of, record_state, records_named, records_of, remakes_of, rows_of, session_cursor, session_state, states_of}
 use Rattle.step_laws.specs.Sums.{discarded_in}
 use Rattle.table_rows.specs.Tables.{StoredBatch, StoredBlank, StoredGrouping, StoredLot, StoredRecord, StoredRemake, StoredSession, StoredWord, Tables}
 

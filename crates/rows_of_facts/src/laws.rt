@@ -1,8 +1,8 @@
 //! The rows of the next contents. Each function does nothing; who calls it has its law.
-ghost use Rattle.job_core.specs.declared.change.Change.{Change};
-ghost use Rattle.job_core.specs.declared.change.Change.TheVariants as change;
-ghost use Rattle.job_core.specs.Contents.{Contents, Entry, committed};
-ghost use Rattle.job_core.specs.Sound.{IsSound, IsSoundChange, changed};
+ghost use Rattle.job_facts.specs.declared.change.Change.{Change};
+ghost use Rattle.job_facts.specs.declared.change.Change.TheVariants as change;
+ghost use Rattle.job_facts.specs.Contents.{Contents, Entry, committed};
+ghost use Rattle.job_facts.specs.Sound.{IsSound, IsSoundChange, changed};
 ghost use Rattle.rows_of_facts.specs.Before.{IsBefore};
 ghost use Rattle.rows_of_facts.specs.Image.{image};
 ghost use Rattle.table_rows.specs.declared.before.Before.{Before};

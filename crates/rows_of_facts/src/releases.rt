@@ -1,6 +1,6 @@
 //! The rows after a release. The function does nothing; who calls it has its law.
 ghost use Rattle.std.specs.Prelude.{ℕ};
-ghost use Rattle.job_core.specs.Contents.{AreSound, Contents, Entry, IsOwedRelease, released};
+ghost use Rattle.job_facts.specs.Contents.{AreSound, Contents, Entry, IsOwedRelease, released};
 ghost use Rattle.rows_of_facts.specs.Image.{image};
 ghost use Rattle.table_rows.specs.After.{rows_after_release as rows_released};
 ghost use Rattle.table_rows.specs.Tables.{HaveSameRows};

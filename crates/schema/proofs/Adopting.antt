@@ -3,8 +3,8 @@ use Rattle.std.proofs.Common.{◌≡◌, ◌⊎◌, Option, None, Some, inl, inr
 use Rattle.sqlite.specs.Effect.{Database}
 use Rattle.sqlite.specs.Tree.{Trees}
 use Rattle.sqlite.specs.State.{HasCleanDisk, State, Survives}
-use Rattle.job_core.specs.Contents.{AreSound, Contents}
-use Rattle.job_core.specs.Store.{IsFound}
+use Rattle.job_facts.specs.Contents.{AreSound, Contents}
+use Rattle.job_facts.specs.Store.{IsFound}
 use Rattle.table_rows.specs.Tables.{HaveSameRows, Tables}
 use Rattle.rows_of_facts.specs.Image.{image}
 use Rattle.sql_base.specs.Ends.{IsLeft}

@@ -2,9 +2,9 @@
 use Rattle.std.proofs.Common.{◌≡◌, ◌⊎◌, Option, inl, inr, refl, sym, subst, IsTrue}
 use Rattle.sqlite.specs.Effect.{Database}
 use Rattle.sqlite.specs.State.{State}
-use Rattle.job_core.specs.Contents.{AreSound, Contents, no_contents}
-use Rattle.job_core.specs.Store.{IsFound}
-use Rattle.job_core.proofs.NextContents.{nothing_sound}
+use Rattle.job_facts.specs.Contents.{AreSound, Contents, no_contents}
+use Rattle.job_facts.specs.Store.{IsFound}
+use Rattle.job_facts.proofs.NextContents.{nothing_sound}
 use Rattle.table_rows.specs.Tables.{no_rows}
 use Rattle.rows_of_facts.specs.Image.{image, stored_batches, stored_blanks, stored_groupings, stored_lots, stored_records, stored_remakes, stored_sessions, stored_words}
 use Rattle.sql_base.specs.Columns.{no_schema}

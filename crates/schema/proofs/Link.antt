@@ -4,9 +4,9 @@ use Rattle.sqlite.specs.Effect.{Database}
 use Rattle.sqlite.specs.Tree.{Trees}
 use Rattle.sqlite.specs.State.{HasCleanDisk, State, Survives}
 use Rattle.sqlite.specs.declared.error.Error.{Error}
-use Rattle.job_core.specs.declared.store.StoreFault.{StoreFault}
-use Rattle.job_core.specs.Contents.{AreSame, AreSound, Contents}
-use Rattle.job_core.specs.Store.{Commits, IsFound, Reads, Stays}
+use Rattle.job_facts.specs.declared.store.StoreFault.{StoreFault}
+use Rattle.job_facts.specs.Contents.{AreSame, AreSound, Contents}
+use Rattle.job_facts.specs.Store.{Commits, IsFound, Reads, Stays}
 use Rattle.table_rows.specs.Tables.{HaveSameRows, Tables}
 use Rattle.rows_of_facts.specs.Image.{image}
 use Rattle.sql_base.specs.Ends.{Ends, IsKept, IsLeft}

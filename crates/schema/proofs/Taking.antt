@@ -5,10 +5,10 @@ use Rattle.sqlite.specs.Effect.{Database}
 use Rattle.sqlite.specs.State.{HasCleanDisk, State, Survives}
 use Rattle.sqlite.specs.declared.error.Error.{Error}
 use Rattle.sqlite.proofs.StateLemmas.{survives_then, survives_weaker}
-use Rattle.job_core.specs.declared.change.Change.{Change}
-use Rattle.job_core.specs.declared.change.Change.TheVariants as change
-use Rattle.job_core.specs.Contents.{AreSound, Contents, Entry, IsOwed, IsOwedRelease, committed, released}
-use Rattle.job_core.specs.Sound.{IsSound, IsSoundChange, changed}
+use Rattle.job_facts.specs.declared.change.Change.{Change}
+use Rattle.job_facts.specs.declared.change.Change.TheVariants as change
+use Rattle.job_facts.specs.Contents.{AreSound, Contents, Entry, IsOwed, IsOwedRelease, committed, released}
+use Rattle.job_facts.specs.Sound.{IsSound, IsSoundChange, changed}
 use Rattle.table_rows.specs.After.{rows_after, rows_after_release}
 use Rattle.table_rows.specs.Tables.{HaveSameRows, Tables, with_reply}
 use Rattle.table_rows.specs.declared.before.Before.{Before}

@@ -10,8 +10,8 @@ use Rattle.sqlite.specs.View.{IsClean}
 use Rattle.sqlite.specs.WalReads.{AreClean}
 use Rattle.sqlite.specs.declared.FileStore.{FileStore}
 use Rattle.sqlite.specs.declared.error.Error.{Error}
-use Rattle.job_core.specs.declared.store.StoreFault.{StoreFault}
-use Rattle.job_core.specs.Contents.{Contents}
+use Rattle.job_facts.specs.declared.store.StoreFault.{StoreFault}
+use Rattle.job_facts.specs.Contents.{Contents}
 use Rattle.rows_of_facts.specs.Image.{image}
 use Rattle.sql_rows.specs.Image.{IsImage}
 use Rattle.schema.specs.Link.{fault_for, link}

@@ -7,10 +7,10 @@ use Rattle.sqlite.specs.declared.error.Error.{Error}
 use Rattle.sqlite.specs.declared.error.Error.TheVariants.{SqliteFailure}
 use Rattle.sqlite.specs.declared.error.ErrorCode.TheVariants.{DiskFull, OutOfMemory}
 use Rattle.sqlite_trees.specs.View.{doubt}
-use Rattle.job_core.specs.declared.store.StoreFault.{StoreFault}
-use Rattle.job_core.specs.declared.store.StoreFault.TheVariants.{Device, Full, Memory}
-use Rattle.job_core.specs.Contents.{AreSound, Contents}
-use Rattle.job_core.specs.Store.{State}
+use Rattle.job_facts.specs.declared.store.StoreFault.{StoreFault}
+use Rattle.job_facts.specs.declared.store.StoreFault.TheVariants.{Device, Full, Memory}
+use Rattle.job_facts.specs.Contents.{AreSound, Contents}
+use Rattle.job_facts.specs.Store.{State}
 use Rattle.rows_of_facts.specs.Image.{image}
 use Rattle.sql_rows.specs.Image.{IsImage}
 use Rattle.sql_tables.specs.Tables.{our_schema}

@@ -1,7 +1,7 @@
 -- What a store over SQLite is made of, and what it stands for.
 use Rattle.sqlite.specs.Held.{Held, state}
 use Rattle.sqlite.specs.Store.{Ghosts}
-use Rattle.job_core.specs.Store.{State}
+use Rattle.job_facts.specs.Store.{State}
 use Rattle.schema.specs.declared.store.SqlStore.{SqlStore}
 use Rattle.schema.specs.Link.{link}
 

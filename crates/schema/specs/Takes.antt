@@ -1,6 +1,6 @@
 -- What a commit makes of a database that has the rows of some contents.
 use Rattle.sqlite.specs.Effect.{Database}
-use Rattle.job_core.specs.Contents.{AreSound, Contents}
+use Rattle.job_facts.specs.Contents.{AreSound, Contents}
 use Rattle.rows_of_facts.specs.Image.{image}
 use Rattle.sql_rows.specs.Image.{IsImage}
 

@@ -1,8 +1,7 @@
 //! The tables of a database are closed, and adopted again.
 use crate::opening::OpenFault;
 use crate::store::SqlStore;
-use job_core::StoreFault;
-use reopening::Reopen;
+use job_facts::{Reopen, StoreFault};
 use sqlite::Alter;
 use std::alloc::Global;
 use table_reads::our_rows_are_an_image;

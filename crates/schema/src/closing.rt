@@ -4,8 +4,7 @@ ghost use Rattle.schema.specs.Closing.{FailsToFinish, LeavesWholeFile};
 
 use crate::faults::fault_of;
 use crate::store::SqlStore;
-use job_core::StoreFault;
-use reopening::{FaultCounts, ServerStore};
+use job_facts::{FaultCounts, ServerStore, StoreFault};
 use sqlite::{Connection, FileStore, MemStore};
 use sqlite_disk::Disk;
 

@@ -1,9 +1,9 @@
 //! What a store says of an error, and how often it said so.
 ghost use Rattle.std.specs.Prelude.{◌≡◌};
-ghost use Rattle.job_core.specs.Store.{failed_after, full_after};
+ghost use Rattle.job_facts.specs.Store.{failed_after, full_after};
 ghost use Rattle.schema.specs.Link.{IsTold, fault_for};
 
-use job_core::StoreFault;
+use job_facts::StoreFault;
 use sqlite::{Error, ErrorCode};
 
 /// How often a store answered that its device failed, and that it is full.

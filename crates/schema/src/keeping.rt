@@ -2,12 +2,12 @@
 ghost use Rattle.std.specs.Prelude.{◌≡◌, ◌<◌, ◌^◌, false, OnErr, OnOk};
 ghost use Rattle.sqlite.specs.Held.{state};
 ghost use Rattle.sqlite.specs.State.{HasCleanDisk, Survives};
-ghost use Rattle.job_core.specs.Contents.{IsOwed, IsOwedRelease, committed, released};
+ghost use Rattle.job_facts.specs.Contents.{IsOwed, IsOwedRelease, committed, released};
 ghost use Rattle.sql_base.specs.Ends.{Ends, IsKept, IsLeft};
 ghost use Rattle.schema.specs.Takes.{Takes};
 ghost use Rattle.table_rows.specs.Kept.{kept_reply};
 
-use job_core::Change;
+use job_facts::Change;
 use rows_of_facts::{rows_after_change, rows_after_release, rows_with_reply};
 use sqlite::{Alter, Connection, Error};
 use std::alloc::Global;

@@ -6,11 +6,7 @@ ghost use Rattle.schema.specs.Link.{link};
 use crate::faults::Counts;
 use crate::keeping::{keep, release};
 use facts_of_rows::same_rows_same_contents;
-use job_core::{
-    BatchRow, BatchSize, BatchTotals, BlankTotals, Change, JobStore, KeptReply, Lot, RecordLine,
-    RecordState, SegmentRow, SessionRow, StoreFault,
-};
-use reopening::FaultCounts;
+use job_facts::{BatchRow, BatchSize, BatchTotals, BlankTotals, Change, FaultCounts, JobStore, KeptReply, Lot, RecordLine, RecordState, SegmentRow, SessionRow, StoreFault};
 use sqlite::{Alter, Connection, Error};
 use std::alloc::Global;
 use store_data::{Name, Product};
@@ -29,8 +25,8 @@ pub struct SqlStore<S: Alter> {
 
 impl<S: Alter> SqlStore<S> {
     ghost use Rattle.std.specs.Prelude.{length};
-    ghost use Rattle.job_core.specs.Store.{CountsFaults, Reads, Stays};
-    ghost use Rattle.reopening.specs.Reopening.{counts_of};
+    ghost use Rattle.job_facts.specs.Store.{CountsFaults, Reads, Stays};
+    ghost use Rattle.job_facts.specs.Reopening.{counts_of};
     ghost use Rattle.schema.specs.Stores.{connection, stands_for};
 
     /// Ends a store, and gives its connection back.

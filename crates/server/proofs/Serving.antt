@@ -5,9 +5,9 @@ use Rattle.std.specs.Io.KnownBytes.{Appends}
 use Rattle.std.proofs.lemmas.List.{map_push}
 use Rattle.std.proofs.lemmas.List.Elements.{All-push, All-nil}
 use Rattle.std.proofs.lemmas.Option.{none-some}
-use Rattle.job_core.specs.Contents.{Contents}
-use Rattle.job_core.specs.Store.{State, IsHonest}
-use Rattle.job_core.proofs.Lists.{each_more}
+use Rattle.job_facts.specs.Contents.{Contents}
+use Rattle.job_facts.specs.Store.{State, IsHonest}
+use Rattle.job_facts.proofs.Lists.{each_more}
 use Rattle.arrivals.specs.Meaning.{contents_after}
 use Rattle.reply_store.specs.Runs.{Tried, arrived, decided, AreLeftInTurn, Leaves}
 use Rattle.asks.specs.declared.ask.Asked.TheVariants as asked

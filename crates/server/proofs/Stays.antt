@@ -1,10 +1,10 @@
 -- A connection that changes nothing.
 use Rattle.std.proofs.Common.{◌≡◌, ℕ, Bool, false, List, Err, refl, sym, subst, ◌∙◌, inl, inr, ⊎_elim, arith}
 use Rattle.std.proofs.lemmas.Bool.{false≢true}
-use Rattle.job_core.specs.declared.store.StoreFault.{StoreFault}
-use Rattle.job_core.specs.declared.store.StoreFault.TheVariants.{Memory}
-use Rattle.job_core.specs.Contents.{Contents}
-use Rattle.job_core.specs.Store.{State, Stays}
+use Rattle.job_facts.specs.declared.store.StoreFault.{StoreFault}
+use Rattle.job_facts.specs.declared.store.StoreFault.TheVariants.{Memory}
+use Rattle.job_facts.specs.Contents.{Contents}
+use Rattle.job_facts.specs.Store.{State, Stays}
 use Rattle.reply_store.specs.Handled.{Handles}
 use Rattle.arrivals.specs.Meaning.{Arrived}
 use Rattle.reply_store.specs.Runs.{arrived}

@@ -1,9 +1,9 @@
 -- What connections bring, get, and do to the store.
 use Rattle.std.specs.Prelude.{◌≡◌, ◌⊎◌, ℕ, Bool, true, false, All, List, [], ◌∷◌, ◌++◌, map, take, drop, slice_get, Option, Some, IfSome, unwrap_or, Result, is_ok, ⊤}
 use Rattle.std.specs.List.{flat_map}
-use Rattle.job_core.specs.declared.store.StoreFault.{StoreFault}
-use Rattle.job_core.specs.Contents.{Contents, no_contents}
-use Rattle.job_core.specs.Store.{State, IsHonest, Stays}
+use Rattle.job_facts.specs.declared.store.StoreFault.{StoreFault}
+use Rattle.job_facts.specs.Contents.{Contents, no_contents}
+use Rattle.job_facts.specs.Store.{State, IsHonest, Stays}
 use Rattle.arrivals.specs.declared.kept.Kept.{Kept}
 use Rattle.arrivals.specs.Meaning.{contents_after, reply_to}
 use Rattle.arrivals.specs.Commands.{HandsOutNext}

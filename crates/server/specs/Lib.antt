@@ -1,4 +1,4 @@
-pub use Rattle.job_core.specs.Store
+pub use Rattle.job_facts.specs.Store
 pub use Rattle.reply_store.specs.Runs
 pub use Rattle.asks.specs.Meant
 pub mod Replies

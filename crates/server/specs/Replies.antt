@@ -1,10 +1,10 @@
 -- What connections are answered (this project's profile).
 use Rattle.std.specs.Prelude.{◌≡◌, ℕ, true, false, List, [], ◌++◌, Option, Some, None}
-use Rattle.job_core.specs.declared.refusal.Refusal.{Refusal as Rule}
-use Rattle.job_core.specs.declared.refusal.Refusal.TheVariants as rule
-use Rattle.job_core.specs.declared.reply.Reply.TheVariants as reply
-use Rattle.job_core.specs.Facts.{Facts}
-use Rattle.job_core.specs.Contents.{Contents}
+use Rattle.job_facts.specs.declared.refusal.Refusal.{Refusal as Rule}
+use Rattle.job_facts.specs.declared.refusal.Refusal.TheVariants as rule
+use Rattle.job_facts.specs.declared.reply.Reply.TheVariants as reply
+use Rattle.job_facts.specs.Facts.{Facts}
+use Rattle.job_facts.specs.Contents.{Contents}
 use Rattle.arrivals.specs.Told.{Told, told_of}
 use Rattle.arrivals.specs.Meaning.{told_on}
 use Rattle.reply_store.specs.Runs.{arrived}

@@ -1,7 +1,7 @@
 -- What a message does, once its head has passed its tests.
 use Rattle.std.specs.Prelude.{◌⊎◌, ℕ, List}
-use Rattle.job_core.specs.Contents.{Contents}
-use Rattle.job_core.specs.Store.{State, IsHonest}
+use Rattle.job_facts.specs.Contents.{Contents}
+use Rattle.job_facts.specs.Store.{State, IsHonest}
 use Rattle.server.specs.declared.served.Served.{Served}
 use Rattle.asks.specs.Meant.{AsksNothing, Meant}
 use Rattle.server.specs.Replies.{IsAnswer, IsUnavailable}

@@ -1,11 +1,11 @@
 //! What is told of a batch, or of a product's blanks.
 ghost use Rattle.std.specs.Prelude.{◌≡◌, IfOk};
-ghost use Rattle.job_core.specs.Store.{Reads, Stays};
-ghost use Rattle.job_core.specs.declared.refusal.Refusal.TheVariants.{BatchUnknown};
+ghost use Rattle.job_facts.specs.Store.{Reads, Stays};
+ghost use Rattle.job_facts.specs.declared.refusal.Refusal.TheVariants.{BatchUnknown};
 ghost use Rattle.reports.specs.Report.{report_text};
 ghost use Rattle.reports.specs.Told.{TellsText};
 ghost use Rattle.arrivals.specs.Told.{told_of};
-ghost use Rattle.job_core.specs.declared.reply.Reply.TheVariants.{Refused};
+ghost use Rattle.job_facts.specs.declared.reply.Reply.TheVariants.{Refused};
 ghost use Rattle.server.specs.Replies.{account_kind, account_of, account_text, told_text};
 ghost use Rattle.server.specs.Replies.{unknown_of};
 ghost use Rattle.server.specs.Answers.{answer_text};
@@ -13,7 +13,7 @@ ghost use Rattle.server.specs.Answers.{answer_text};
 use arrivals::{body_of, status_of};
 use asks::Wanted;
 use heads::Content;
-use job_core::{JobStore, Refusal, Reply, StoreFault};
+use job_facts::{JobStore, Refusal, Reply, StoreFault};
 use reports::{AccountFault, batch_counts, blank_counts, close_report};
 use std::alloc::{AllocError, Global};
 use store_data::{Bytes, Name};

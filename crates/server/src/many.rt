@@ -4,7 +4,7 @@ ghost use Rattle.server.specs.Exchanges.{Exchange, Moves, ServesAll};
 
 use crate::connections::{Connections, NextFault};
 use crate::one::serve_one;
-use job_core::JobStore;
+use job_facts::JobStore;
 use reply_store::left_in_turn;
 use std::alloc::Global;
 

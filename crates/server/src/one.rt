@@ -1,9 +1,9 @@
 //! One connection.
 ghost use Rattle.std.specs.Prelude.{◌≡◌, ℕ, List};
 ghost use Rattle.std.specs.Io.KnownBytes.{Appends};
-ghost use Rattle.job_core.specs.Requests.{IsArrival};
+ghost use Rattle.job_facts.specs.Requests.{IsArrival};
 ghost use Rattle.arrivals.specs.Meaning.{reply_to};
-ghost use Rattle.job_core.specs.Contents.{Contents};
+ghost use Rattle.job_facts.specs.Contents.{Contents};
 ghost use Rattle.arrivals.specs.Commands.{HandsOutNext};
 ghost use Rattle.reply_store.specs.Handled.{Handles};
 ghost use Rattle.reply_store.specs.Runs.{arrived};
@@ -21,7 +21,7 @@ use crate::reply::{refuse, tell};
 use crate::served::{End, Served};
 use asks::{Asked, Meaning, Wanted, read_meaning};
 use heads::{ByteSource, Content, FixedReply};
-use job_core::{Arrival, JobStore, StoreFault};
+use job_facts::{Arrival, JobStore, StoreFault};
 use reply_store::{Kept, handle};
 use std::alloc::Global;
 use std::io::Write;

@@ -5,12 +5,12 @@ use Rattle.std.specs.Io.KnownBytes.{Appends}
 use Rattle.std.proofs.KnownBytes.{Keeps-refl}
 use Rattle.std.proofs.lemmas.Bool.{false≢true}
 use Rattle.std.proofs.lemmas.Option.{none-some}
-use Rattle.job_core.specs.declared.store.StoreFault.{StoreFault}
-use Rattle.job_core.specs.Store.{State, Stays}
+use Rattle.job_facts.specs.declared.store.StoreFault.{StoreFault}
+use Rattle.job_facts.specs.Store.{State, Stays}
 use Rattle.reply_store.specs.Runs.{AreLeftInTurn}
 use Rattle.heads.specs.Messages.{Tells}
-use Rattle.reopening.specs.Reopening.{counts_of}
-use Rattle.reopening.specs.declared.server_store.FaultCounts.{FaultCounts}
+use Rattle.job_facts.specs.Reopening.{counts_of}
+use Rattle.job_facts.specs.declared.server_store.FaultCounts.{FaultCounts}
 use Rattle.server.specs.Exchanges.{Exchange, Moves, Opens, Queue, Serves, ServesAll, moved}
 use Rattle.server.proofs.Serving.{moves_more, moves_none, serves_more, serves_none}
 use Rattle.event_lines.specs.Notes.{NotesAll}

@@ -3,7 +3,7 @@ use Rattle.std.proofs.Common.{◌≡◌, ◌<◌, ℕ, List, Option, inl, inr, s
 use Rattle.std.specs.Prelude.{Result, Ok, Err, IfErr, OnErr, OnOk}
 use Rattle.std.specs.Io.KnownBytes.{Appends}
 use Rattle.std.proofs.KnownBytes.{Appends-kept, Appends-trans}
-use Rattle.job_core.specs.declared.store.StoreFault.{StoreFault}
+use Rattle.job_facts.specs.declared.store.StoreFault.{StoreFault}
 use Rattle.server.specs.declared.connections.NextFault.{NextFault}
 use Rattle.server.specs.declared.connections.NextFault.TheVariants as next
 use Rattle.server_lines.specs.declared.lines.ServeStop.{ServeStop}

@@ -1,8 +1,8 @@
 -- The event lines at a server's start and at its end (this project's profile).
 use Rattle.std.specs.Prelude.{◌≡◌, ℕ, List, [], ◌∷◌, ◌++◌, length, codes, if◌then◌else◌, Option, Some, None, IfSome, OnOk, Result, Ok, Err}
-use Rattle.job_core.specs.declared.store.StoreFault.{StoreFault}
-use Rattle.job_core.specs.Contents.{Contents}
-use Rattle.job_core.specs.Store.{IsHonest, State}
+use Rattle.job_facts.specs.declared.store.StoreFault.{StoreFault}
+use Rattle.job_facts.specs.Contents.{Contents}
+use Rattle.job_facts.specs.Store.{IsHonest, State}
 use Rattle.event_lines.specs.Lines.{number_pair, pair, quoted_pair}
 use Rattle.event_lines.specs.Notes.{NotesAll}
 use Rattle.event_lines.specs.declared.level.Level.{Level}

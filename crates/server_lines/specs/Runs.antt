@@ -1,9 +1,9 @@
 -- What is observed of a server's connections, and the event lines of a whole run.
 use Rattle.std.specs.Prelude.{◌≡◌, ℕ, Bool, false, List, [], ◌∷◌, ◌++◌, length, Option, is_some, OnOk, Result, Err, ⊤}
-use Rattle.job_core.specs.declared.store.StoreFault.{StoreFault}
-use Rattle.job_core.specs.Store.{State}
-use Rattle.reopening.specs.Reopening.{counts_of}
-use Rattle.reopening.specs.declared.server_store.FaultCounts.{FaultCounts}
+use Rattle.job_facts.specs.declared.store.StoreFault.{StoreFault}
+use Rattle.job_facts.specs.Store.{State}
+use Rattle.job_facts.specs.Reopening.{counts_of}
+use Rattle.job_facts.specs.declared.server_store.FaultCounts.{FaultCounts}
 use Rattle.server.specs.Exchanges.{Exchange, Moves, Queue, ServesAll}
 use Rattle.event_lines.specs.Notes.{NotesAll}
 use Rattle.event_lines.specs.declared.level.Level.{Level}

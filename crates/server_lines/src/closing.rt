@@ -6,8 +6,7 @@ ghost use Rattle.server_lines.specs.Openings.{closing_line, closing_lines};
 
 use connection_lines::{fault_word, note_line};
 use event_lines::{EventLine, EventLog};
-use job_core::StoreFault;
-use reopening::ServerStore;
+use job_facts::{ServerStore, StoreFault};
 use std::alloc::{AllocError, Global};
 use std::io::Write;
 

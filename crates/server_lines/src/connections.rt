@@ -9,7 +9,7 @@ ghost use Rattle.server_lines.specs.ServerLines.{of_next};
 use crate::lines::ServeStop;
 use connection_lines::{note_connection, serve_observed};
 use event_lines::EventLog;
-use reopening::ServerStore;
+use job_facts::ServerStore;
 use reply_store::left_in_turn;
 use server::Connections;
 use std::alloc::Global;

@@ -4,7 +4,7 @@ ghost use Rattle.server_lines.specs.ServerLines.{WritesLine, listening_text, num
 ghost use Rattle.server_lines.specs.ServerLines.{served_text};
 ghost use Rattle.server_lines.specs.declared.lines.ServeStop.TheVariants.{Memory, Write};
 
-use job_core::StoreFault;
+use job_facts::StoreFault;
 use server::NextFault;
 use std::alloc::{AllocError, Global};
 use std::io;

@@ -1,6 +1,6 @@
 //! The event line at a server's start: which file was opened, and how much it holds.
 ghost use Rattle.std.specs.Prelude.{◌≡◌, ◌++◌, IfOk};
-ghost use Rattle.job_core.specs.Store.{Stays};
+ghost use Rattle.job_facts.specs.Store.{Stays};
 ghost use Rattle.event_lines.specs.Notes.{NotesAll};
 ghost use Rattle.event_lines.specs.Views.{text_of};
 ghost use Rattle.server_lines.specs.Openings.{AreHoldings, count_pair, opening_line, opening_lines};
@@ -8,7 +8,7 @@ ghost use Rattle.server_lines.specs.declared.opening.Holdings.{Holdings as Holdi
 
 use connection_lines::note_line;
 use event_lines::{EventLine, EventLog};
-use reopening::ServerStore;
+use job_facts::ServerStore;
 use std::alloc::{AllocError, Global};
 use std::io::Write;
 

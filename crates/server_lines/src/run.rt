@@ -1,6 +1,6 @@
 //! A server from its first line to its last.
 ghost use Rattle.std.specs.Prelude.{◌≡◌, IfErr, List, OnOk, Result, is_some, length};
-ghost use Rattle.job_core.specs.declared.store.StoreFault.{StoreFault as StoreFaultValue};
+ghost use Rattle.job_facts.specs.declared.store.StoreFault.{StoreFault as StoreFaultValue};
 ghost use Rattle.server.specs.Exchanges.{Exchange, Moves, ServesAll};
 ghost use Rattle.connection_lines.specs.declared.observation.Observation.{Observation as Observed};
 ghost use Rattle.server_lines.specs.Openings.{NotesClose};
@@ -12,7 +12,7 @@ use crate::connections::{Run, serve_connections};
 use crate::lines::{ServeStop, write_listening, write_served};
 use crate::opening::{Opened, note_opening};
 use event_lines::EventLog;
-use reopening::ServerStore;
+use job_facts::ServerStore;
 use reply_store::left_in_turn;
 use server::{Connections, NextFault};
 use std::alloc::Global;

@@ -11,7 +11,7 @@ use crate::sent::{Boot, Packet, Returned};
 use crate::texts::{act_line, packet_line, text_line};
 use crate::turn::Turn;
 use feeder::Feeder;
-use job_core::Reply;
+use job_facts::Reply;
 use std::alloc::{AllocError, Global};
 use std::marker::Model;
 use store_data::{Bytes, Name};

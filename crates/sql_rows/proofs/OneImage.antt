@@ -7,10 +7,10 @@ use Rattle.sqlite.specs.Order.{Row}
 use Rattle.store_data.specs.declared.row.Enc.{Enc}
 use Rattle.store_data.specs.declared.row.Enc.TheVariants as enc
 use Rattle.store_data.specs.declared.row.Product.{Product}
-use Rattle.job_core.specs.declared.facts.RecordState.{RecordState}
-use Rattle.job_core.specs.declared.facts.RecordState.TheVariants as rec
-use Rattle.job_core.specs.declared.facts.SessionState.{SessionState}
-use Rattle.job_core.specs.declared.facts.SessionState.TheVariants as session
+use Rattle.job_facts.specs.declared.facts.RecordState.{RecordState}
+use Rattle.job_facts.specs.declared.facts.RecordState.TheVariants as rec
+use Rattle.job_facts.specs.declared.facts.SessionState.{SessionState}
+use Rattle.job_facts.specs.declared.facts.SessionState.TheVariants as session
 use Rattle.table_rows.specs.Tables.{HaveSameRows, StoredBatch, StoredBlank, StoredGrouping, StoredRecord, StoredSession, Tables}
 use Rattle.sql_rows.specs.Decoding.{batch_of, blank_of, enc_of_code, flag_in, grouping_of, lot_of, mark_of, product_of, record_of, record_state_of_code, remake_of, reply_of, session_of, session_state_of_code, word_of}
 use Rattle.sql_rows.specs.Encoding.{batch_row, blank_row, enc_code, flag, grouping_row, lot_row, mark_row, number, product_row, record_code, record_row, remake_row, reply_row, session_code, session_row, word_row}

@@ -2,14 +2,14 @@
 use Rattle.std.proofs.Common.{◌≡◌, ◌&&◌, ℕ, List, length, map, sym, ◌∙◌}
 use Rattle.std.specs.Prelude.{bytes_eq, count_by, filter, find, option_map}
 use Rattle.std.proofs.lemmas.List.Sorted.{length_permutation, sum_by-IsPermutation}
-use Rattle.job_core.specs.declared.facts.Lot.{Lot}
-use Rattle.job_core.specs.declared.facts.RecordState.TheVariants as rec
-use Rattle.job_core.specs.declared.facts.SessionState.TheVariants as session
-use Rattle.job_core.specs.Accounts.{batch_totals, blank_states, blank_totals, count_records, count_sessions, is_blank_of, is_lot_of, lots_of, record_lines, record_states, session_states}
-use Rattle.job_core.specs.Contents.{AreSameFacts}
-use Rattle.job_core.specs.Facts.{Facts, Session}
-use Rattle.job_core.specs.Sound.{IsSound}
-use Rattle.job_core.specs.States.{is_good}
+use Rattle.job_facts.specs.declared.facts.Lot.{Lot}
+use Rattle.job_facts.specs.declared.facts.RecordState.TheVariants as rec
+use Rattle.job_facts.specs.declared.facts.SessionState.TheVariants as session
+use Rattle.job_facts.specs.Accounts.{batch_totals, blank_states, blank_totals, count_records, count_sessions, is_blank_of, is_lot_of, lots_of, record_lines, record_states, session_states}
+use Rattle.job_facts.specs.Contents.{AreSameFacts}
+use Rattle.job_facts.specs.Facts.{Facts, Session}
+use Rattle.job_facts.specs.Sound.{IsSound}
+use Rattle.job_facts.specs.States.{is_good}
 use Rattle.step_laws.specs.Alike.{HaveSameAccounts}
 use Rattle.step_laws.proofs.AlikeReads as reads
 use Rattle.step_laws.proofs.Permuted.{IsPermutation-filter, count_moved}

@@ -7,20 +7,20 @@ use Rattle.store_data.specs.declared.row.Row.{Row}
 use Rattle.batch_import.specs.declared.fault.RowFault.{RowFault}
 use Rattle.batch_import.specs.Batch.{batch_of, records_of_rows}
 use Rattle.store_data.specs.Sequence.{Command}
-use Rattle.job_core.specs.declared.facts.Lot.{Lot}
-use Rattle.job_core.specs.declared.facts.RecordState.{RecordState}
-use Rattle.job_core.specs.declared.facts.RecordState.TheVariants as rec
-use Rattle.job_core.specs.declared.refusal.Refusal.{Refusal}
-use Rattle.job_core.specs.declared.reply.Made.TheVariants.{Known}
-use Rattle.job_core.specs.declared.reply.Reply.{Reply}
-use Rattle.job_core.specs.declared.reply.Reply.TheVariants as reply
-use Rattle.job_core.specs.declared.request.Request.{Request}
-use Rattle.job_core.specs.declared.request.Request.TheVariants as request
-use Rattle.job_core.specs.Contents.{AreSameFacts}
-use Rattle.job_core.specs.Facts.{Batch, Facts, Session, at_session, ended, new_session, worded, with_batch, with_close, with_discard, with_end, with_lot, with_product, with_remake, with_withdrawal}
-use Rattle.job_core.specs.Sound.{IsSound}
-use Rattle.job_core.specs.States.{any_overlaps, batch_named, command_bytes, first_waiting, goes_at, is_batch_finished, is_charged, is_closed, is_running, lot_named, lot_of, product_named, record_state_of, running_session, session_numbered, session_state}
-use Rattle.job_core.specs.Steps.{Outcome, by_option, in_batch, in_record, in_session, new_batch, new_lot, opened, refused, remade, same_batch, same_lot, same_product, step, step_answer, step_close, step_discard, step_import, step_lot, step_open, step_product, step_reset, take_word, taken_in, withdrawn}
+use Rattle.job_facts.specs.declared.facts.Lot.{Lot}
+use Rattle.job_facts.specs.declared.facts.RecordState.{RecordState}
+use Rattle.job_facts.specs.declared.facts.RecordState.TheVariants as rec
+use Rattle.job_facts.specs.declared.refusal.Refusal.{Refusal}
+use Rattle.job_facts.specs.declared.reply.Made.TheVariants.{Known}
+use Rattle.job_facts.specs.declared.reply.Reply.{Reply}
+use Rattle.job_facts.specs.declared.reply.Reply.TheVariants as reply
+use Rattle.job_facts.specs.declared.request.Request.{Request}
+use Rattle.job_facts.specs.declared.request.Request.TheVariants as request
+use Rattle.job_facts.specs.Contents.{AreSameFacts}
+use Rattle.job_facts.specs.Facts.{Batch, Facts, Session, at_session, ended, new_session, worded, with_batch, with_close, with_discard, with_end, with_lot, with_product, with_remake, with_withdrawal}
+use Rattle.job_facts.specs.Sound.{IsSound}
+use Rattle.job_facts.specs.States.{any_overlaps, batch_named, command_bytes, first_waiting, goes_at, is_batch_finished, is_charged, is_closed, is_running, lot_named, lot_of, product_named, record_state_of, running_session, session_numbered, session_state}
+use Rattle.job_facts.specs.Steps.{Outcome, by_option, in_batch, in_record, in_session, new_batch, new_lot, opened, refused, remade, same_batch, same_lot, same_product, step, step_answer, step_close, step_discard, step_import, step_lot, step_open, step_product, step_reset, take_word, taken_in, withdrawn}
 use Rattle.step_laws.specs.Alike.{AreAlike}
 use Rattle.step_laws.proofs.AlikeReads as reads
 

@@ -7,13 +7,13 @@ use Rattle.std.proofs.lemmas.List.Elements.{All-head, All-tail, All-weaker}
 use Rattle.std.proofs.lemmas.List.Sums.{sum_by-cons}
 use Rattle.store_data.proofs.GroupLemmas.{bytes_eq-same, same-bytes_eq}
 use Rattle.store_data.proofs.PieceLemmas.{sum_by-agree}
-use Rattle.job_core.specs.declared.facts.Lot.{Lot}
-use Rattle.job_core.specs.declared.facts.SessionState.{SessionState}
-use Rattle.job_core.specs.declared.facts.SessionState.TheVariants as session
-use Rattle.job_core.specs.Accounts.{blank_states, blank_totals, count_sessions, is_blank_of, is_lot_of, lots_of, session_states}
-use Rattle.job_core.specs.Facts.{Batch, Facts, Session}
-use Rattle.job_core.specs.Sound.{AreApart, AreNamedOnce, IsSession, IsSound}
-use Rattle.job_core.specs.States.{is_in, lot_of, same_session_state, session_state}
+use Rattle.job_facts.specs.declared.facts.Lot.{Lot}
+use Rattle.job_facts.specs.declared.facts.SessionState.{SessionState}
+use Rattle.job_facts.specs.declared.facts.SessionState.TheVariants as session
+use Rattle.job_facts.specs.Accounts.{blank_states, blank_totals, count_sessions, is_blank_of, is_lot_of, lots_of, session_states}
+use Rattle.job_facts.specs.Facts.{Batch, Facts, Session}
+use Rattle.job_facts.specs.Sound.{AreApart, AreNamedOnce, IsSession, IsSound}
+use Rattle.job_facts.specs.States.{is_in, lot_of, same_session_state, session_state}
 use Rattle.step_laws.specs.Sums.{AreBlankSums, batches_of, discarded_in, sessions_by_batch}
 use Rattle.step_laws.proofs.GoodCards.{count_among}
 

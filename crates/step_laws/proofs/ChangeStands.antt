@@ -3,19 +3,19 @@ use Rattle.std.proofs.Common.{◌≡◌, ℕ, true, false, List, Some, ◌⊎◌
 use Rattle.std.specs.Prelude.{bytes_eq, option_map}
 use Rattle.std.specs.List.{list_any}
 use Rattle.std.proofs.lemmas.Option.{cond_some, none-some, same_Some}
-use Rattle.job_core.specs.declared.change.Change.{Change}
-use Rattle.job_core.specs.declared.change.Change.TheVariants as change
-use Rattle.job_core.specs.declared.facts.RecordState.{RecordState}
-use Rattle.job_core.specs.declared.facts.RecordState.TheVariants as rec
-use Rattle.job_core.specs.declared.facts.SessionState.{SessionState}
-use Rattle.job_core.specs.declared.facts.SessionState.TheVariants as session
-use Rattle.job_core.specs.declared.rows.SessionRow.{SessionRow}
-use Rattle.job_core.specs.Facts.{Facts, RecordName, Session, ended, new_session, with_remake, with_withdrawal, with_word, worded}
-use Rattle.job_core.specs.Rows.{session_row, session_row_of}
-use Rattle.job_core.specs.Sound.{IsRecord, IsSound, TellsAfter, TellsBefore, changed}
-use Rattle.job_core.specs.States.{is_withdrawn, record_state, record_state_of, records_named, remakes_of, session_numbered, session_state, states_of}
-use Rattle.job_core.proofs.SessionLemmas.{session_changed, session_split}
-use Rattle.job_core.proofs.SoundFacts.{is_for}
+use Rattle.job_facts.specs.declared.change.Change.{Change}
+use Rattle.job_facts.specs.declared.change.Change.TheVariants as change
+use Rattle.job_facts.specs.declared.facts.RecordState.{RecordState}
+use Rattle.job_facts.specs.declared.facts.RecordState.TheVariants as rec
+use Rattle.job_facts.specs.declared.facts.SessionState.{SessionState}
+use Rattle.job_facts.specs.declared.facts.SessionState.TheVariants as session
+use Rattle.job_facts.specs.declared.rows.SessionRow.{SessionRow}
+use Rattle.job_facts.specs.Facts.{Facts, RecordName, Session, ended, new_session, with_remake, with_withdrawal, with_word, worded}
+use Rattle.job_facts.specs.Rows.{session_row, session_row_of}
+use Rattle.job_facts.specs.Sound.{IsRecord, IsSound, TellsAfter, TellsBefore, changed}
+use Rattle.job_facts.specs.States.{is_withdrawn, record_state, record_state_of, records_named, remakes_of, session_numbered, session_state, states_of}
+use Rattle.job_facts.proofs.SessionLemmas.{session_changed, session_split}
+use Rattle.job_facts.proofs.SoundFacts.{is_for}
 use Rattle.step_laws.specs.Records.{OthersStandSame, StandsSame, TouchedStands, is_told, record_by, record_of_session, stands_after, stood_before}
 use Rattle.step_laws.proofs.Kept.{batch_knows, lot_knows, product_knows, state_same}
 use Rattle.step_laws.proofs.RecordStands.{changed_states, named, opened_states, record_same, remakes_elsewhere, same_states, states_known, withdrawn_elsewhere}

@@ -13,11 +13,11 @@ use Rattle.store_data.specs.Sequence.{Command, IsPlan, application_commands, app
 use Rattle.store_data.proofs.ByteLemmas.{AreBytes as AllBytes, IsByteCommand, IsByteRow, coded_bytes, plan_bytes}
 use Rattle.store_data.proofs.GroupLemmas.{bytes_eq-same, list_any-first_appearances, same-bytes_eq}
 use Rattle.batch_import.proofs.RangedRows.{IsTyped, batch_typed}
-use Rattle.job_core.specs.Facts.{Batch, Facts}
-use Rattle.job_core.specs.Sound.{IsBatch, IsName, IsRecord, IsSound}
-use Rattle.job_core.specs.States.{batch_named, command_at, command_bytes, commands_for, commands_under, plan_for, product_named, records_of, records_under, rows_of, rows_of_record, rows_or_none, rows_under}
-use Rattle.job_core.proofs.Lists.{find-All}
-use Rattle.job_core.proofs.PlanLemmas.{plan_there, some_row}
+use Rattle.job_facts.specs.Facts.{Batch, Facts}
+use Rattle.job_facts.specs.Sound.{IsBatch, IsName, IsRecord, IsSound}
+use Rattle.job_facts.specs.States.{batch_named, command_at, command_bytes, commands_for, commands_under, plan_for, product_named, records_of, records_under, rows_of, rows_of_record, rows_or_none, rows_under}
+use Rattle.job_facts.proofs.Lists.{find-All}
+use Rattle.job_facts.proofs.PlanLemmas.{plan_there, some_row}
 use Rattle.step_laws.specs.Ranges.{AreBytes}
 
 abbrev rec_of : Row → List ℕ

@@ -9,7 +9,7 @@ use Rattle.store_data.specs.declared.cursor.Cursor.{Cursor}
 use Rattle.store_data.specs.declared.cursor.SegmentView.{SegmentView}
 use Rattle.store_data.specs.Cursor.{IsCursor, PlacedSegment, application_cursors, cursor_at, cursors_of, is_tolerant_last_at, segment_at, select_cursor, shown}
 use Rattle.store_data.specs.Sequence.{Command, IsPlan, Plan, commands_of, goes_on, sequence}
-use Rattle.job_core.specs.States.{goes_at, is_tolerant, last_stops_from}
+use Rattle.job_facts.specs.States.{goes_at, is_tolerant, last_stops_from}
 use Rattle.store_data.proofs.CursorLemmas.{fits_there, length-cursors_of, segment_before, tolerance_there, length-sequence, slice_get-middle}
 
 module _ (plan : Plan) (is : IsPlan plan) where

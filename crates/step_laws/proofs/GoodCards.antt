@@ -8,16 +8,16 @@ use Rattle.std.proofs.lemmas.List.Sums.{sum_by-cons}
 use Rattle.std.proofs.lemmas.Option.{get_or_from_slice_get, none-some, same_Some, slice_get-map, slice_get_within}
 use Rattle.store_data.specs.Sequence.{Command}
 use Rattle.store_data.proofs.GroupLemmas.{bytes_eq-same}
-use Rattle.job_core.specs.declared.facts.RecordState.TheVariants as rec
-use Rattle.job_core.specs.declared.facts.SessionState.{SessionState}
-use Rattle.job_core.specs.declared.facts.SessionState.TheVariants as session
-use Rattle.job_core.specs.Facts.{Facts, Session}
-use Rattle.job_core.specs.Sound.{AreWords, IsSound, charges, has_card}
-use Rattle.job_core.specs.States.{commands_for, goes_at, is_good, is_running, is_spoiled, is_withdrawn, last_stops, record_state, remakes_of, session_numbered, session_state, states_of}
-use Rattle.job_core.proofs.Lists.{slice_get-append_left}
-use Rattle.job_core.proofs.SessionLemmas.{last_goes}
-use Rattle.job_core.proofs.SoundFacts.{is_for}
-use Rattle.job_core.proofs.SoundSessions.{running_parts}
+use Rattle.job_facts.specs.declared.facts.RecordState.TheVariants as rec
+use Rattle.job_facts.specs.declared.facts.SessionState.{SessionState}
+use Rattle.job_facts.specs.declared.facts.SessionState.TheVariants as session
+use Rattle.job_facts.specs.Facts.{Facts, Session}
+use Rattle.job_facts.specs.Sound.{AreWords, IsSound, charges, has_card}
+use Rattle.job_facts.specs.States.{commands_for, goes_at, is_good, is_running, is_spoiled, is_withdrawn, last_stops, record_state, remakes_of, session_numbered, session_state, states_of}
+use Rattle.job_facts.proofs.Lists.{slice_get-append_left}
+use Rattle.job_facts.proofs.SessionLemmas.{last_goes}
+use Rattle.job_facts.proofs.SoundFacts.{is_for}
+use Rattle.job_facts.proofs.SoundSessions.{running_parts}
 use Rattle.step_laws.specs.Later.{Later}
 use Rattle.step_laws.specs.Records.{WordsGo}
 use Rattle.step_laws.proofs.Numbered.{session_sound}

@@ -3,13 +3,13 @@ use Rattle.std.proofs.Common.{◌≡◌, ◌≤◌, ◌<◌, ◌+◌, ℕ, true,
 use Rattle.std.proofs.lemmas.Bool.{false≢true}
 use Rattle.std.proofs.lemmas.List.{length_push}
 use Rattle.std.proofs.lemmas.Option.{same_Some}
-use Rattle.job_core.specs.declared.request.Request.{Request}
-use Rattle.job_core.specs.declared.request.Request.TheVariants as request
-use Rattle.job_core.specs.Facts.{Facts, Session, at_session, ended, new_session, with_session, worded}
-use Rattle.job_core.specs.Sound.{IsSound}
-use Rattle.job_core.specs.States.{commands_for, session_numbered, session_state}
-use Rattle.job_core.specs.Steps.{step}
-use Rattle.job_core.proofs.SessionLemmas.{session_changed}
+use Rattle.job_facts.specs.declared.request.Request.{Request}
+use Rattle.job_facts.specs.declared.request.Request.TheVariants as request
+use Rattle.job_facts.specs.Facts.{Facts, Session, at_session, ended, new_session, with_session, worded}
+use Rattle.job_facts.specs.Sound.{IsSound}
+use Rattle.job_facts.specs.States.{commands_for, session_numbered, session_state}
+use Rattle.job_facts.specs.Steps.{step}
+use Rattle.job_facts.proofs.SessionLemmas.{session_changed}
 use Rattle.step_laws.specs.Later.{AnswersWithin, IsLaterSession, IsMore, KnowsMore, Later, OtherSessionsStay, TakesInTurn, WordsWithin, is_on_session}
 use Rattle.step_laws.proofs.Kept.{commands_kept, commands_same, no_more, one_more, state_kept, state_same, step_knows}
 use Rattle.step_laws.proofs.Numbered.{at_or_other, length_changed, numbered_changed, numbered_other, numbered_push, numbered_pushed, session_sound}

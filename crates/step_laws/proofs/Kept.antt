@@ -4,13 +4,13 @@ use Rattle.std.specs.Prelude.{bytes_eq, option_and_then, option_map}
 use Rattle.store_data.specs.declared.row.Product.{Product}
 use Rattle.store_data.specs.declared.row.Row.{Row}
 use Rattle.store_data.specs.Sequence.{Plan, plan_of}
-use Rattle.job_core.specs.declared.facts.Lot.{Lot}
-use Rattle.job_core.specs.Facts.{Batch, Facts, Session, at_session, ended, new_session, with_batch, with_close, with_discard, with_lot, with_product, with_remake, with_withdrawal, worded}
-use Rattle.job_core.specs.Sound.{IsBatch, IsSession, IsSound}
-use Rattle.job_core.specs.States.{batch_named, commands_for, commands_under, plan_for, product_named, rows_of, rows_of_record, rows_under, session_state, state_with}
-use Rattle.job_core.specs.Steps.{step}
-use Rattle.job_core.specs.declared.request.Request.{Request}
-use Rattle.job_core.proofs.Lists.{find-All, find_kept}
+use Rattle.job_facts.specs.declared.facts.Lot.{Lot}
+use Rattle.job_facts.specs.Facts.{Batch, Facts, Session, at_session, ended, new_session, with_batch, with_close, with_discard, with_lot, with_product, with_remake, with_withdrawal, worded}
+use Rattle.job_facts.specs.Sound.{IsBatch, IsSession, IsSound}
+use Rattle.job_facts.specs.States.{batch_named, commands_for, commands_under, plan_for, product_named, rows_of, rows_of_record, rows_under, session_state, state_with}
+use Rattle.job_facts.specs.Steps.{step}
+use Rattle.job_facts.specs.declared.request.Request.{Request}
+use Rattle.job_facts.proofs.Lists.{find-All, find_kept}
 use Rattle.step_laws.specs.Later.{IsMore, KnowsMore}
 use Rattle.step_laws.proofs.StepCases.{facts_by, named_batch}
 

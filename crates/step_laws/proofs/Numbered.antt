@@ -3,11 +3,11 @@ use Rattle.std.proofs.Common.{◌≡◌, ◌≢◌, ◌⊎◌, ◌+◌, ◌≤�
 use Rattle.std.specs.Prelude.{slice_get}
 use Rattle.std.proofs.lemmas.Bool.{cases_lt}
 use Rattle.std.proofs.lemmas.Option.{get_or_from_slice_get, none-some, same_Some, slice_get_within}
-use Rattle.job_core.specs.Facts.{Facts, Session, at_session}
-use Rattle.job_core.specs.Sound.{IsSession, IsSound}
-use Rattle.job_core.specs.States.{session_numbered}
-use Rattle.job_core.proofs.Lists.{slice_get-append_left}
-use Rattle.job_core.proofs.SessionLemmas.{session_changed}
+use Rattle.job_facts.specs.Facts.{Facts, Session, at_session}
+use Rattle.job_facts.specs.Sound.{IsSession, IsSound}
+use Rattle.job_facts.specs.States.{session_numbered}
+use Rattle.job_facts.proofs.Lists.{slice_get-append_left}
+use Rattle.job_facts.proofs.SessionLemmas.{session_changed}
 
 -- a session of sound facts is sound
 pub session_sound : (f : Facts) (s : ℕ) (x : Session) → IsSound f → session_numbered f.sessions s ≡ Some x → IsSession f x

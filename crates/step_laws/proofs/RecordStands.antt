@@ -8,17 +8,17 @@ use Rattle.std.proofs.lemmas.List.Elements.{All-filter, All-weaker}
 use Rattle.std.proofs.lemmas.List.Folds.{list_any-append, list_any_none}
 use Rattle.std.proofs.lemmas.List.Sums.{sum_by_push}
 use Rattle.store_data.proofs.IsPlanLemmas.{All-from_list_any}
-use Rattle.job_core.specs.declared.facts.SessionState.{SessionState}
-use Rattle.job_core.specs.declared.facts.SessionState.TheVariants as session
-use Rattle.job_core.specs.declared.request.Request.{Request}
-use Rattle.job_core.specs.declared.reply.Reply.{Reply}
-use Rattle.job_core.specs.Facts.{Facts, RecordName, Session, at_session, ended, new_session, with_remake, with_session, with_withdrawal, with_word, worded}
-use Rattle.job_core.specs.Sound.{IsSession, IsSound, IsSoundRecord, has_card}
-use Rattle.job_core.specs.States.{goes_at, commands_for, is_good, is_record, is_running, is_spoiled, is_withdrawn, plan_for, record_state, remakes_of, session_numbered, session_state, state_by, states_of}
-use Rattle.job_core.specs.Steps.{Outcome, step}
-use Rattle.job_core.proofs.Lists.{count_by-at, count_by_any, list_any-there, map_filter-at, map_same}
-use Rattle.job_core.proofs.SessionLemmas.{session_changed, session_split}
-use Rattle.job_core.proofs.SoundFacts.{is_for, states_among, states_are}
+use Rattle.job_facts.specs.declared.facts.SessionState.{SessionState}
+use Rattle.job_facts.specs.declared.facts.SessionState.TheVariants as session
+use Rattle.job_facts.specs.declared.request.Request.{Request}
+use Rattle.job_facts.specs.declared.reply.Reply.{Reply}
+use Rattle.job_facts.specs.Facts.{Facts, RecordName, Session, at_session, ended, new_session, with_remake, with_session, with_withdrawal, with_word, worded}
+use Rattle.job_facts.specs.Sound.{IsSession, IsSound, IsSoundRecord, has_card}
+use Rattle.job_facts.specs.States.{goes_at, commands_for, is_good, is_record, is_running, is_spoiled, is_withdrawn, plan_for, record_state, remakes_of, session_numbered, session_state, state_by, states_of}
+use Rattle.job_facts.specs.Steps.{Outcome, step}
+use Rattle.job_facts.proofs.Lists.{count_by-at, count_by_any, list_any-there, map_filter-at, map_same}
+use Rattle.job_facts.proofs.SessionLemmas.{session_changed, session_split}
+use Rattle.job_facts.proofs.SoundFacts.{is_for, states_among, states_are}
 use Rattle.step_laws.specs.Later.{KnowsMore}
 use Rattle.step_laws.specs.Records.{OtherRecordsStand, is_told, record_by, record_of_session}
 use Rattle.step_laws.proofs.Kept.{state_kept, step_knows}

@@ -12,24 +12,24 @@ use Rattle.store_data.specs.declared.row.Product.{Product}
 use Rattle.store_data.specs.declared.row.Row.{Row}
 use Rattle.store_data.proofs.GroupLemmas.{bytes_eq-same}
 use Rattle.batch_import.specs.Batch.{batch_of, records_of_rows}
-use Rattle.job_core.specs.declared.facts.Lot.{Lot}
-use Rattle.job_core.specs.declared.facts.RecordState.{RecordState}
-use Rattle.job_core.specs.declared.facts.RecordState.TheVariants as rec
-use Rattle.job_core.specs.declared.facts.SessionState.{SessionState}
-use Rattle.job_core.specs.declared.facts.SessionState.TheVariants as session
-use Rattle.job_core.specs.declared.reply.Reply.{Reply}
-use Rattle.job_core.specs.declared.request.Request.{Request}
-use Rattle.job_core.specs.declared.request.Request.TheVariants as request
-use Rattle.job_core.specs.Facts.{Batch, Facts, Session, at_session, ended, new_session, with_end, with_remake, with_session, with_withdrawal, with_word, worded}
-use Rattle.job_core.specs.Sound.{IsRecord, IsSound, IsSoundRecord, has_card, runs_on}
-use Rattle.job_core.specs.States.{command_bytes, commands_for, first_waiting, goes_at, is_charged, is_record, is_running, is_spoiled, is_waiting, is_withdrawn, last_stops, product_named, record_state, record_state_of, records_named, remakes_of, rows_of, rows_or_none, rows_under, running_session, session_state, state_by, states_of}
-use Rattle.job_core.specs.Steps.{opened, step, take_word}
-use Rattle.job_core.proofs.Lists.{found_among, list_any-there}
-use Rattle.job_core.proofs.RecordLemmas.{open_parts, record_opened}
-use Rattle.job_core.proofs.RunningLemmas.{waiting_there, last_stops_push}
-use Rattle.job_core.proofs.SessionLemmas.{session_changed, session_split}
-use Rattle.job_core.proofs.SoundFacts.{is_for, states_are}
-use Rattle.job_core.proofs.SoundSessions.{running_numbered, running_parts}
+use Rattle.job_facts.specs.declared.facts.Lot.{Lot}
+use Rattle.job_facts.specs.declared.facts.RecordState.{RecordState}
+use Rattle.job_facts.specs.declared.facts.RecordState.TheVariants as rec
+use Rattle.job_facts.specs.declared.facts.SessionState.{SessionState}
+use Rattle.job_facts.specs.declared.facts.SessionState.TheVariants as session
+use Rattle.job_facts.specs.declared.reply.Reply.{Reply}
+use Rattle.job_facts.specs.declared.request.Request.{Request}
+use Rattle.job_facts.specs.declared.request.Request.TheVariants as request
+use Rattle.job_facts.specs.Facts.{Batch, Facts, Session, at_session, ended, new_session, with_end, with_remake, with_session, with_withdrawal, with_word, worded}
+use Rattle.job_facts.specs.Sound.{IsRecord, IsSound, IsSoundRecord, has_card, runs_on}
+use Rattle.job_facts.specs.States.{command_bytes, commands_for, first_waiting, goes_at, is_charged, is_record, is_running, is_spoiled, is_waiting, is_withdrawn, last_stops, product_named, record_state, record_state_of, records_named, remakes_of, rows_of, rows_or_none, rows_under, running_session, session_state, state_by, states_of}
+use Rattle.job_facts.specs.Steps.{opened, step, take_word}
+use Rattle.job_facts.proofs.Lists.{found_among, list_any-there}
+use Rattle.job_facts.proofs.RecordLemmas.{open_parts, record_opened}
+use Rattle.job_facts.proofs.RunningLemmas.{waiting_there, last_stops_push}
+use Rattle.job_facts.proofs.SessionLemmas.{session_changed, session_split}
+use Rattle.job_facts.proofs.SoundFacts.{is_for, states_are}
+use Rattle.job_facts.proofs.SoundSessions.{running_numbered, running_parts}
 use Rattle.step_laws.specs.Records.{record_by}
 use Rattle.step_laws.specs.Replies.{IsGivenUp, IsSessionOf, MayBeTold, Says}
 use Rattle.step_laws.proofs.Commands.{commands_some}

@@ -7,14 +7,14 @@ use Rattle.store_data.specs.declared.row.Row.{Row}
 use Rattle.store_data.proofs.IsPlanLemmas.{length-grouped}
 use Rattle.batch_import.specs.Batch.{records_of_rows}
 use Rattle.batch_import.proofs.RangedRows.{batch_fault_row, batch_typed}
-use Rattle.job_core.specs.declared.reply.Reply.{Reply}
-use Rattle.job_core.specs.declared.request.Request.{Request}
-use Rattle.job_core.specs.Facts.{Batch, Facts, Session}
-use Rattle.job_core.specs.Sound.{IsBatch, IsSound}
-use Rattle.job_core.specs.States.{batch_named, commands_for, goes_at, product_named, rows_of, rows_or_none, rows_under, running_session, session_numbered}
-use Rattle.job_core.specs.Steps.{Outcome, step}
-use Rattle.job_core.proofs.Lists.{find-All}
-use Rattle.job_core.proofs.RunningLemmas.{waiting_there}
+use Rattle.job_facts.specs.declared.reply.Reply.{Reply}
+use Rattle.job_facts.specs.declared.request.Request.{Request}
+use Rattle.job_facts.specs.Facts.{Batch, Facts, Session}
+use Rattle.job_facts.specs.Sound.{IsBatch, IsSound}
+use Rattle.job_facts.specs.States.{batch_named, commands_for, goes_at, product_named, rows_of, rows_or_none, rows_under, running_session, session_numbered}
+use Rattle.job_facts.specs.Steps.{Outcome, step}
+use Rattle.job_facts.proofs.Lists.{find-All}
+use Rattle.job_facts.proofs.RunningLemmas.{waiting_there}
 use Rattle.step_laws.specs.Ranges.{IsRanged, IsRangedReply}
 use Rattle.step_laws.proofs.Commands.{command_at_bytes, record_named}
 use Rattle.step_laws.proofs.Numbered.{numbered_within, session_sound}

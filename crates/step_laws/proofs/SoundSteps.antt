@@ -10,15 +10,15 @@ use Rattle.std.proofs.lemmas.List.Elements.{All-head, All-tail, All-weaker}
 use Rattle.std.proofs.lemmas.List.Sums.{sum_by-le}
 use Rattle.std.proofs.lemmas.Map.Made.{IsDistinct-from_AllPairs, length-le_from_is_member}
 use Rattle.batch_import.proofs.RangedRows.{batch_typed}
-use Rattle.job_core.specs.declared.facts.Lot.{Lot}
-use Rattle.job_core.specs.declared.request.Request.{Request}
-use Rattle.job_core.specs.Facts.{Facts, Session}
-use Rattle.job_core.specs.Sound.{IsLot, IsName, IsSound, charges}
-use Rattle.job_core.specs.States.{is_in, lot_of}
-use Rattle.job_core.specs.Steps.{step}
-use Rattle.job_core.proofs.SoundFacts.{sound_batch, sound_close, sound_discard, sound_lot, sound_product, sound_remake, sound_withdraw}
-use Rattle.job_core.proofs.SoundSessions.{sound_end, sound_open, sound_word}
-use Rattle.job_core.proofs.Serials.{has, has_first, has_later, length-all, serials_of}
+use Rattle.job_facts.specs.declared.facts.Lot.{Lot}
+use Rattle.job_facts.specs.declared.request.Request.{Request}
+use Rattle.job_facts.specs.Facts.{Facts, Session}
+use Rattle.job_facts.specs.Sound.{IsLot, IsName, IsSound, charges}
+use Rattle.job_facts.specs.States.{is_in, lot_of}
+use Rattle.job_facts.specs.Steps.{step}
+use Rattle.job_facts.proofs.SoundFacts.{sound_batch, sound_close, sound_discard, sound_lot, sound_product, sound_remake, sound_withdraw}
+use Rattle.job_facts.proofs.SoundSessions.{sound_end, sound_open, sound_word}
+use Rattle.job_facts.proofs.Serials.{has, has_first, has_later, length-all, serials_of}
 use Rattle.step_laws.specs.Ranges.{IsRanged}
 use Rattle.step_laws.proofs.StepCases.{facts_by, named_batch}
 

@@ -7,20 +7,20 @@ use Rattle.store_data.specs.declared.row.Row.{Row}
 use Rattle.store_data.proofs.GroupLemmas.{same-bytes_eq}
 use Rattle.batch_import.specs.declared.fault.RowFault.{RowFault}
 use Rattle.batch_import.specs.Batch.{batch_of, records_of_rows}
-use Rattle.job_core.specs.declared.facts.Lot.{Lot}
-use Rattle.job_core.specs.declared.facts.RecordState.{RecordState}
-use Rattle.job_core.specs.declared.facts.RecordState.TheVariants as rec
-use Rattle.job_core.specs.declared.facts.SessionState.{SessionState}
-use Rattle.job_core.specs.declared.facts.SessionState.TheVariants as session
-use Rattle.job_core.specs.declared.refusal.Refusal.{Refusal}
-use Rattle.job_core.specs.declared.reply.Made.TheVariants.{Created, Known}
-use Rattle.job_core.specs.declared.reply.Reply.TheVariants as reply
-use Rattle.job_core.specs.declared.request.Request.{Request}
-use Rattle.job_core.specs.declared.request.Request.TheVariants as request
-use Rattle.job_core.specs.Facts.{Batch, Facts, Session, at_session, ended, worded, with_batch, with_close, with_discard, with_end, with_lot, with_product, with_remake, with_withdrawal, new_session, with_session, with_word}
-use Rattle.job_core.specs.States.{any_overlaps, batch_named, first_waiting, is_batch_finished, is_charged, is_closed, is_running, lot_named, lot_of, product_named, record_state_of, rows_of, running_session, session_numbered, session_state}
-use Rattle.job_core.proofs.SoundSessions.{running_numbered}
-use Rattle.job_core.specs.Steps.{Outcome, by_option, in_batch, in_session, known_batch, opened, remade, same_batch, same_lot, same_product, step, step_answer, step_discard, step_import, step_lot, step_open, step_product, step_reset, take_word, taken_in, withdrawn}
+use Rattle.job_facts.specs.declared.facts.Lot.{Lot}
+use Rattle.job_facts.specs.declared.facts.RecordState.{RecordState}
+use Rattle.job_facts.specs.declared.facts.RecordState.TheVariants as rec
+use Rattle.job_facts.specs.declared.facts.SessionState.{SessionState}
+use Rattle.job_facts.specs.declared.facts.SessionState.TheVariants as session
+use Rattle.job_facts.specs.declared.refusal.Refusal.{Refusal}
+use Rattle.job_facts.specs.declared.reply.Made.TheVariants.{Created, Known}
+use Rattle.job_facts.specs.declared.reply.Reply.TheVariants as reply
+use Rattle.job_facts.specs.declared.request.Request.{Request}
+use Rattle.job_facts.specs.declared.request.Request.TheVariants as request
+use Rattle.job_facts.specs.Facts.{Batch, Facts, Session, at_session, ended, worded, with_batch, with_close, with_discard, with_end, with_lot, with_product, with_remake, with_withdrawal, new_session, with_session, with_word}
+use Rattle.job_facts.specs.States.{any_overlaps, batch_named, first_waiting, is_batch_finished, is_charged, is_closed, is_running, lot_named, lot_of, product_named, record_state_of, rows_of, running_session, session_numbered, session_state}
+use Rattle.job_facts.proofs.SoundSessions.{running_numbered}
+use Rattle.job_facts.specs.Steps.{Outcome, by_option, in_batch, in_session, known_batch, opened, remade, same_batch, same_lot, same_product, step, step_answer, step_discard, step_import, step_lot, step_open, step_product, step_reset, take_word, taken_in, withdrawn}
 
 -- a batch under its name
 abbrev pub named_batch : List ℕ → List ℕ → List ℕ → Batch

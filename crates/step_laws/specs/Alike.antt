@@ -1,9 +1,9 @@
 -- Outcomes and accounts that tell the same.
 use Rattle.std.specs.Prelude.{◌≡◌, ℕ, List}
-use Rattle.job_core.specs.Accounts.{batch_totals, blank_totals, record_lines}
-use Rattle.job_core.specs.Contents.{AreSameFacts}
-use Rattle.job_core.specs.Facts.{Facts}
-use Rattle.job_core.specs.Steps.{Outcome}
+use Rattle.job_facts.specs.Accounts.{batch_totals, blank_totals, record_lines}
+use Rattle.job_facts.specs.Contents.{AreSameFacts}
+use Rattle.job_facts.specs.Facts.{Facts}
+use Rattle.job_facts.specs.Steps.{Outcome}
 
 -- one reply, and the same facts, in whatever order sets stand
 pub record AreAlike (x y : Outcome) : Type 0 where

@@ -1,10 +1,10 @@
 -- Later facts: what was known stays known, and a session only grows.
 use Rattle.std.specs.Prelude.{◌≡◌, ◌≢◌, ◌⊎◌, ◌≤◌, ◌<◌, ◌↔◌, ℕ, Bool, true, false, List, [], ◌∷◌, ◌++◌, length, Some, ⊤}
-use Rattle.job_core.specs.declared.facts.SessionState.TheVariants as session
-use Rattle.job_core.specs.declared.request.Request.{Request}
-use Rattle.job_core.specs.declared.request.Request.TheVariants as request
-use Rattle.job_core.specs.Facts.{Facts, Session}
-use Rattle.job_core.specs.States.{commands_for, session_numbered, session_state}
+use Rattle.job_facts.specs.declared.facts.SessionState.TheVariants as session
+use Rattle.job_facts.specs.declared.request.Request.{Request}
+use Rattle.job_facts.specs.declared.request.Request.TheVariants as request
+use Rattle.job_facts.specs.Facts.{Facts, Session}
+use Rattle.job_facts.specs.States.{commands_for, session_numbered, session_state}
 
 -- ---- all but the sessions
 

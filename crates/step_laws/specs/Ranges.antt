@@ -1,12 +1,12 @@
 -- Requests and replies in their ranges, for laws on all values: what a type says in code is a premise here (this project's profile).
 use Rattle.std.specs.Prelude.{◌≤◌, ◌<◌, ◌^◌, ℕ, List, slice_index, ⊤}
 use Rattle.store_data.specs.Sequence.{IsProduct}
-use Rattle.job_core.specs.declared.reply.Reply.{Reply}
-use Rattle.job_core.specs.declared.reply.Reply.TheVariants as reply
-use Rattle.job_core.specs.declared.request.Request.{Request}
-use Rattle.job_core.specs.declared.request.Request.TheVariants as request
-use Rattle.job_core.specs.Requests.{IsLotRange}
-use Rattle.job_core.specs.Sound.{IsName}
+use Rattle.job_facts.specs.declared.reply.Reply.{Reply}
+use Rattle.job_facts.specs.declared.reply.Reply.TheVariants as reply
+use Rattle.job_facts.specs.declared.request.Request.{Request}
+use Rattle.job_facts.specs.declared.request.Request.TheVariants as request
+use Rattle.job_facts.specs.Requests.{IsLotRange}
+use Rattle.job_facts.specs.Sound.{IsName}
 
 -- its names are names, and its numbers lie in their ranges
 abbrev pub IsRanged : Request → Type 0

@@ -1,16 +1,16 @@
 -- What the sessions of a record say of it, and of which record a reply and a change tell.
 use Rattle.std.specs.Prelude.{◌≡◌, ℕ, Bool, false, List, slice_get, IsTrue, Option, Some, None, option_map}
-use Rattle.job_core.specs.declared.change.Change.{Change}
-use Rattle.job_core.specs.declared.change.Change.TheVariants as change
-use Rattle.job_core.specs.declared.facts.RecordState.{RecordState}
-use Rattle.job_core.specs.declared.facts.RecordState.TheVariants as rec
-use Rattle.job_core.specs.declared.facts.SessionState.{SessionState}
-use Rattle.job_core.specs.declared.facts.SessionState.TheVariants as session
-use Rattle.job_core.specs.declared.reply.Reply.{Reply}
-use Rattle.job_core.specs.declared.reply.Reply.TheVariants as reply
-use Rattle.job_core.specs.Facts.{Facts, RecordName, Session}
-use Rattle.job_core.specs.Sound.{changed}
-use Rattle.job_core.specs.States.{commands_for, goes_at, is_record, is_withdrawn, record_state, remakes_of, session_numbered, states_of}
+use Rattle.job_facts.specs.declared.change.Change.{Change}
+use Rattle.job_facts.specs.declared.change.Change.TheVariants as change
+use Rattle.job_facts.specs.declared.facts.RecordState.{RecordState}
+use Rattle.job_facts.specs.declared.facts.RecordState.TheVariants as rec
+use Rattle.job_facts.specs.declared.facts.SessionState.{SessionState}
+use Rattle.job_facts.specs.declared.facts.SessionState.TheVariants as session
+use Rattle.job_facts.specs.declared.reply.Reply.{Reply}
+use Rattle.job_facts.specs.declared.reply.Reply.TheVariants as reply
+use Rattle.job_facts.specs.Facts.{Facts, RecordName, Session}
+use Rattle.job_facts.specs.Sound.{changed}
+use Rattle.job_facts.specs.States.{commands_for, goes_at, is_record, is_withdrawn, record_state, remakes_of, session_numbered, states_of}
 
 -- each of a session's words goes
 abbrev pub WordsGo : Facts → Session → Type 0

@@ -1,17 +1,17 @@
 -- What a reply of the plain machine says: of the request that it answers, and of the facts.
 use Rattle.std.specs.Prelude.{◌≡◌, ◌+◌, ℕ, zero, suc, false, List, length, Some, None, IsSome, IsTrue, ⊤}
 use Rattle.batch_import.specs.Batch.{records_of_rows}
-use Rattle.job_core.specs.declared.facts.RecordState.TheVariants as rec
-use Rattle.job_core.specs.declared.facts.SessionState.{SessionState}
-use Rattle.job_core.specs.declared.facts.SessionState.TheVariants as session
-use Rattle.job_core.specs.declared.reply.Made.{Made}
-use Rattle.job_core.specs.declared.reply.Made.TheVariants.{Created, Known}
-use Rattle.job_core.specs.declared.reply.Reply.{Reply}
-use Rattle.job_core.specs.declared.reply.Reply.TheVariants as reply
-use Rattle.job_core.specs.declared.request.Request.{Request}
-use Rattle.job_core.specs.declared.request.Request.TheVariants as request
-use Rattle.job_core.specs.Facts.{Batch, Facts, Session, new_session}
-use Rattle.job_core.specs.States.{batch_named, command_at, is_charged, is_closed, lot_named, product_named, record_state, record_state_of, rows_of, running_session, session_numbered, session_state}
+use Rattle.job_facts.specs.declared.facts.RecordState.TheVariants as rec
+use Rattle.job_facts.specs.declared.facts.SessionState.{SessionState}
+use Rattle.job_facts.specs.declared.facts.SessionState.TheVariants as session
+use Rattle.job_facts.specs.declared.reply.Made.{Made}
+use Rattle.job_facts.specs.declared.reply.Made.TheVariants.{Created, Known}
+use Rattle.job_facts.specs.declared.reply.Reply.{Reply}
+use Rattle.job_facts.specs.declared.reply.Reply.TheVariants as reply
+use Rattle.job_facts.specs.declared.request.Request.{Request}
+use Rattle.job_facts.specs.declared.request.Request.TheVariants as request
+use Rattle.job_facts.specs.Facts.{Batch, Facts, Session, new_session}
+use Rattle.job_facts.specs.States.{batch_named, command_at, is_charged, is_closed, lot_named, product_named, record_state, record_state_of, rows_of, running_session, session_numbered, session_state}
 use Rattle.step_laws.specs.Records.{record_by}
 
 -- ---- to which request it may be told

@@ -1,11 +1,11 @@
 -- A product's blanks, counted by the batches that used them and by the lots in which they lie.
 use Rattle.std.specs.Prelude.{◌≡◌, ℕ, List, filter, count_by, sum_by, bytes_eq}
-use Rattle.job_core.specs.declared.facts.Lot.{Lot}
-use Rattle.job_core.specs.declared.facts.SessionState.{SessionState}
-use Rattle.job_core.specs.declared.facts.SessionState.TheVariants as session
-use Rattle.job_core.specs.Accounts.{blank_totals, count_sessions, lots_of, session_states}
-use Rattle.job_core.specs.Facts.{Batch, Facts}
-use Rattle.job_core.specs.States.{is_in}
+use Rattle.job_facts.specs.declared.facts.Lot.{Lot}
+use Rattle.job_facts.specs.declared.facts.SessionState.{SessionState}
+use Rattle.job_facts.specs.declared.facts.SessionState.TheVariants as session
+use Rattle.job_facts.specs.Accounts.{blank_totals, count_sessions, lots_of, session_states}
+use Rattle.job_facts.specs.Facts.{Batch, Facts}
+use Rattle.job_facts.specs.States.{is_in}
 
 -- the batches of a product
 abbrev pub batches_of : Facts → List ℕ → List Batch

@@ -1,11 +1,11 @@
 //! Good cards: each is good for good, and alone for its record.
 ghost use Rattle.std.specs.Prelude.{◌≡◌, ◌<◌, ℕ, List, Some, length};
-ghost use Rattle.job_core.specs.declared.facts.RecordState.TheVariants as rec;
-ghost use Rattle.job_core.specs.declared.facts.SessionState.TheVariants as session;
-ghost use Rattle.job_core.specs.Facts.{Facts, Session};
-ghost use Rattle.job_core.specs.Sound.{IsSound};
-ghost use Rattle.job_core.specs.States.{commands_for, record_state, session_numbered};
-ghost use Rattle.job_core.specs.States.{session_state};
+ghost use Rattle.job_facts.specs.declared.facts.RecordState.TheVariants as rec;
+ghost use Rattle.job_facts.specs.declared.facts.SessionState.TheVariants as session;
+ghost use Rattle.job_facts.specs.Facts.{Facts, Session};
+ghost use Rattle.job_facts.specs.Sound.{IsSound};
+ghost use Rattle.job_facts.specs.States.{commands_for, record_state, session_numbered};
+ghost use Rattle.job_facts.specs.States.{session_state};
 ghost use Rattle.step_laws.specs.Later.{Later};
 ghost use Rattle.step_laws.specs.Records.{WordsGo};
 

@@ -1,10 +1,10 @@
 //! What becomes of records.
 ghost use Rattle.std.specs.Prelude.{ℕ, List};
-ghost use Rattle.job_core.specs.declared.change.Change.{Change as ChangeValue};
-ghost use Rattle.job_core.specs.declared.request.Request.{Request as RequestValue};
-ghost use Rattle.job_core.specs.Facts.{Facts};
-ghost use Rattle.job_core.specs.Sound.{IsSound, IsSoundChange, changed};
-ghost use Rattle.job_core.specs.Steps.{step};
+ghost use Rattle.job_facts.specs.declared.change.Change.{Change as ChangeValue};
+ghost use Rattle.job_facts.specs.declared.request.Request.{Request as RequestValue};
+ghost use Rattle.job_facts.specs.Facts.{Facts};
+ghost use Rattle.job_facts.specs.Sound.{IsSound, IsSoundChange, changed};
+ghost use Rattle.job_facts.specs.Steps.{step};
 ghost use Rattle.step_laws.specs.Records.{OtherRecordsStand, OthersStandSame, TouchedStands};
 ghost use Rattle.step_laws.specs.Records.{stands_after, stood_before};
 

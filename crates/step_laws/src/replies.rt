@@ -1,9 +1,9 @@
 //! What a reply says.
 ghost use Rattle.std.specs.Prelude.{ℕ, List};
-ghost use Rattle.job_core.specs.declared.request.Request.{Request as RequestValue};
-ghost use Rattle.job_core.specs.Facts.{Facts};
-ghost use Rattle.job_core.specs.Sound.{IsSound};
-ghost use Rattle.job_core.specs.Steps.{step};
+ghost use Rattle.job_facts.specs.declared.request.Request.{Request as RequestValue};
+ghost use Rattle.job_facts.specs.Facts.{Facts};
+ghost use Rattle.job_facts.specs.Sound.{IsSound};
+ghost use Rattle.job_facts.specs.Steps.{step};
 ghost use Rattle.step_laws.specs.Ranges.{IsRanged, IsRangedReply};
 ghost use Rattle.step_laws.specs.Replies.{MayBeTold, Says};
 

@@ -1,10 +1,10 @@
 //! What holds of all facts that requests have made.
 ghost use Rattle.std.specs.Prelude.{◌≤◌, ℕ, List, length};
-ghost use Rattle.job_core.specs.declared.request.Request.{Request as RequestValue};
-ghost use Rattle.job_core.specs.Contents.{AreSameFacts};
-ghost use Rattle.job_core.specs.Facts.{Facts};
-ghost use Rattle.job_core.specs.Sound.{IsName, IsSound};
-ghost use Rattle.job_core.specs.Steps.{step};
+ghost use Rattle.job_facts.specs.declared.request.Request.{Request as RequestValue};
+ghost use Rattle.job_facts.specs.Contents.{AreSameFacts};
+ghost use Rattle.job_facts.specs.Facts.{Facts};
+ghost use Rattle.job_facts.specs.Sound.{IsName, IsSound};
+ghost use Rattle.job_facts.specs.Steps.{step};
 ghost use Rattle.step_laws.specs.Alike.{AreAlike, HaveSameAccounts};
 ghost use Rattle.step_laws.specs.Ranges.{IsRanged};
 

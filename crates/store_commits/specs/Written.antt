@@ -1,5 +1,5 @@
 -- The rows after what is written with a reply.
-use Rattle.job_core.specs.Contents.{Entry}
+use Rattle.job_facts.specs.Contents.{Entry}
 use Rattle.table_rows.specs.After.{rows_after, rows_after_release}
 use Rattle.table_rows.specs.Tables.{Tables, with_reply}
 use Rattle.store_commits.specs.declared.writing.Writing.{Writing}

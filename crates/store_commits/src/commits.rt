@@ -12,7 +12,7 @@ ghost use Rattle.store_commits.specs.Written.{rows_written};
 
 use crate::writing::Writing;
 use change_writes::{write_change, write_release};
-use job_core::Change;
+use job_facts::Change;
 use row_writes::add_reply;
 use sqlite::{Alter, Connection, Error, Transaction};
 use std::alloc::Global;

@@ -1,5 +1,5 @@
 //! What is written together with a reply.
-use job_core::Change;
+use job_facts::Change;
 use table_rows::Before;
 
 /// What is written together with a reply.

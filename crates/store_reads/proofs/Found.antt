@@ -1,8 +1,8 @@
 -- What the rows are that were found, by what is told of them.
 use Rattle.std.proofs.Common.{◌≡◌, ℕ, List, Option, Some, None, refl, sym, ap, subst, ◌∙◌}
 use Rattle.std.specs.Prelude.{find, option_map}
-use Rattle.job_core.specs.declared.rows.SessionRow.{SessionRow}
-use Rattle.job_core.proofs.Lists.{mapped, unmapped}
+use Rattle.job_facts.specs.declared.rows.SessionRow.{SessionRow}
+use Rattle.job_facts.proofs.Lists.{mapped, unmapped}
 use Rattle.row_reads.specs.declared.records.RecordAt.{RecordAt}
 use Rattle.row_reads.specs.declared.sessions.SessionAt.{SessionAt}
 use Rattle.row_reads.specs.CardDecoding.{record_at, session_at}

@@ -1,11 +1,11 @@
 -- What is told before a change of what it touches.
 use Rattle.std.proofs.Common.{◌≡◌, ℕ, List, Some, sym, subst}
 use Rattle.std.specs.Prelude.{find, option_map}
-use Rattle.job_core.specs.declared.facts.Lot.{Lot}
-use Rattle.job_core.specs.declared.rows.SessionRow.{SessionRow}
-use Rattle.job_core.specs.Facts.{Facts}
-use Rattle.job_core.specs.Rows.{session_row, session_row_of}
-use Rattle.job_core.specs.States.{lot_named, session_numbered}
+use Rattle.job_facts.specs.declared.facts.Lot.{Lot}
+use Rattle.job_facts.specs.declared.rows.SessionRow.{SessionRow}
+use Rattle.job_facts.specs.Facts.{Facts}
+use Rattle.job_facts.specs.Rows.{session_row, session_row_of}
+use Rattle.job_facts.specs.States.{lot_named, session_numbered}
 use Rattle.table_rows.specs.declared.before.RecordPlace.{RecordPlace}
 use Rattle.table_rows.specs.Keys.{is_batch_named, is_lot_named, is_record_named}
 use Rattle.table_rows.specs.Tables.{StoredBatch, StoredLot, StoredRecord}

@@ -10,8 +10,8 @@ use Rattle.std.proofs.lemmas.List.Elements.{filter-append}
 use Rattle.std.proofs.lemmas.List.Folds.{find-append}
 use Rattle.std.proofs.lemmas.List.Sums.{sum_by-cons, sum_by_push}
 use Rattle.std.proofs.lemmas.Option.{none-some}
-use Rattle.job_core.specs.Facts.{Batch, Facts}
-use Rattle.job_core.proofs.Lists.{unmapped}
+use Rattle.job_facts.specs.Facts.{Batch, Facts}
+use Rattle.job_facts.proofs.Lists.{unmapped}
 use Rattle.row_reads.specs.declared.records.RecordAt.{RecordAt}
 use Rattle.row_reads.specs.declared.sessions.GoodCard.{GoodCard}
 use Rattle.row_reads.specs.CardDecoding.{good_at, place_of, record_at}

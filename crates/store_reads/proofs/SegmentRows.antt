@@ -7,11 +7,11 @@ use Rattle.store_data.specs.declared.row.Row.{Row}
 use Rattle.store_data.specs.Cursor.{segment_at}
 use Rattle.store_data.specs.Groups.{grouped}
 use Rattle.store_data.specs.Sequence.{Plan, applications_of, plan_of}
-use Rattle.job_core.specs.declared.rows.SegmentRow.{SegmentRow}
-use Rattle.job_core.specs.Facts.{Facts}
-use Rattle.job_core.specs.Rows.{segment_row, segment_row_of}
-use Rattle.job_core.specs.States.{plan_for, product_named}
-use Rattle.job_core.proofs.Lists.{unmapped}
+use Rattle.job_facts.specs.declared.rows.SegmentRow.{SegmentRow}
+use Rattle.job_facts.specs.Facts.{Facts}
+use Rattle.job_facts.specs.Rows.{segment_row, segment_row_of}
+use Rattle.job_facts.specs.States.{plan_for, product_named}
+use Rattle.job_facts.proofs.Lists.{unmapped}
 use Rattle.row_reads.specs.declared.batches.BatchTold.{BatchTold}
 use Rattle.row_reads.specs.declared.groupings.GroupingAt.{GroupingAt}
 use Rattle.row_reads.specs.declared.records.RecordAt.{RecordAt}

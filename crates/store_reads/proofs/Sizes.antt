@@ -2,7 +2,7 @@
 use Rattle.std.proofs.Common.{◌≡◌, ℕ, List, length, Option, Some, None, refl, sym}
 use Rattle.std.specs.Prelude.{filter, option_map}
 use Rattle.std.proofs.lemmas.Option.{none-some, same_Some}
-use Rattle.job_core.specs.declared.rows.BatchSize.{BatchSize}
+use Rattle.job_facts.specs.declared.rows.BatchSize.{BatchSize}
 use Rattle.row_reads.specs.declared.batches.BatchHead.{BatchHead}
 use Rattle.row_reads.specs.Telling.{head_of}
 use Rattle.table_rows.specs.Keys.{is_grouping_of}

@@ -2,7 +2,7 @@
 use Rattle.std.proofs.Common.{Result, Ok, Err, IfOk}
 use Rattle.sqlite.specs.State.{HasCleanDisk, State}
 use Rattle.sqlite.specs.declared.error.Error.{Error}
-use Rattle.job_core.specs.Contents.{AreSound, Contents}
+use Rattle.job_facts.specs.Contents.{AreSound, Contents}
 use Rattle.row_reads.specs.Reads.{Looks}
 use Rattle.store_reads.specs.Tells.{Tells}
 use Rattle.store_reads.proofs.Telling.{Shows, shown_then}

@@ -1,7 +1,7 @@
 -- The first record of a batch that waits, by what is read of it.
 use Rattle.std.proofs.Common.{◌≡◌, ℕ, List, map, Option, Some, None, refl, sym, ap, subst, ◌∙◌}
 use Rattle.std.specs.Prelude.{filter, find, option_map}
-use Rattle.job_core.proofs.Lists.{unmapped}
+use Rattle.job_facts.proofs.Lists.{unmapped}
 use Rattle.row_reads.specs.declared.records.RecordAt.{RecordAt}
 use Rattle.row_reads.specs.CardDecoding.{place_of, record_at}
 use Rattle.row_reads.specs.Extremes.{IsLeastBy}

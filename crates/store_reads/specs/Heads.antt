@@ -1,7 +1,7 @@
 -- What is told of a batch by what is read of it without its bytes.
 use Rattle.std.specs.Prelude.{◌==◌, ◌&&◌, Bool, true, Option, Some, None}
-use Rattle.job_core.specs.declared.rows.BatchRow.{BatchRow}
-use Rattle.job_core.specs.declared.rows.BatchTotals.{BatchTotals}
+use Rattle.job_facts.specs.declared.rows.BatchRow.{BatchRow}
+use Rattle.job_facts.specs.declared.rows.BatchTotals.{BatchTotals}
 use Rattle.row_reads.specs.declared.batches.BatchHead.{BatchHead}
 use Rattle.row_reads.specs.declared.batches.BatchTold.{BatchTold}
 use Rattle.rows_answer.specs.Telling.{no_totals}

@@ -1,7 +1,7 @@
 -- How the records of a batch stand, by what is read of them and of its good cards.
 use Rattle.std.specs.Prelude.{◌+◌, ◌==◌, ℕ, Bool, List, map, filter, find, Option, option_map}
-use Rattle.job_core.specs.declared.rows.RecordLine.{RecordLine}
-use Rattle.job_core.specs.Facts.{Facts}
+use Rattle.job_facts.specs.declared.rows.RecordLine.{RecordLine}
+use Rattle.job_facts.specs.Facts.{Facts}
 use Rattle.row_reads.specs.declared.records.RecordAt.{RecordAt}
 use Rattle.row_reads.specs.declared.sessions.GoodCard.{GoodCard}
 use Rattle.rows_of_facts.specs.Image.{stored_records, stored_sessions}

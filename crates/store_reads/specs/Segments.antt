@@ -3,8 +3,8 @@ use Rattle.std.specs.Prelude.{◌<◌, ◌^◌, ℕ, List, map, filter, find, Op
 use Rattle.store_data.specs.declared.row.Product.{Product}
 use Rattle.store_data.specs.declared.row.Row.{Row}
 use Rattle.store_data.specs.Sequence.{IsProduct}
-use Rattle.job_core.specs.Facts.{Facts}
-use Rattle.job_core.specs.States.{product_named}
+use Rattle.job_facts.specs.Facts.{Facts}
+use Rattle.job_facts.specs.States.{product_named}
 use Rattle.row_reads.specs.declared.groupings.GroupingAt.{GroupingAt}
 use Rattle.rows_of_facts.specs.Image.{stored_batches, stored_groupings, stored_records}
 use Rattle.table_rows.specs.Keys.{is_batch_named, is_grouping_at, is_record_named}

@@ -1,6 +1,6 @@
 -- How a product's blanks stand, by what is read of its lots and its batches.
 use Rattle.std.specs.Prelude.{List, length, sum_by}
-use Rattle.job_core.specs.declared.rows.BlankTotals.{BlankTotals}
+use Rattle.job_facts.specs.declared.rows.BlankTotals.{BlankTotals}
 use Rattle.row_reads.specs.declared.batches.BatchHead.{BatchHead}
 use Rattle.row_reads.specs.declared.lots.LotRow.{LotRow}
 use Rattle.store_reads.specs.declared.sums.BatchSums.{BatchSums}

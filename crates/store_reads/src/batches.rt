@@ -1,14 +1,14 @@
 //! Batches are read.
 ghost use Rattle.std.specs.Prelude.{false, option_map, ◌≡◌};
 ghost use Rattle.sqlite.specs.Held.{state};
-ghost use Rattle.job_core.specs.Accounts.{batch_totals};
-ghost use Rattle.job_core.specs.Rows.{batch_has, batch_row_of, batch_size_of};
-ghost use Rattle.job_core.specs.States.{is_batch_finished};
+ghost use Rattle.job_facts.specs.Accounts.{batch_totals};
+ghost use Rattle.job_facts.specs.Rows.{batch_has, batch_row_of, batch_size_of};
+ghost use Rattle.job_facts.specs.States.{is_batch_finished};
 ghost use Rattle.row_reads.specs.Reads.{Looks};
 ghost use Rattle.store_reads.specs.Heads.{is_over_in, row_of, totals_in};
 ghost use Rattle.store_reads.specs.Tells.{Tells};
 
-use job_core::{BatchRow, BatchSize, BatchTotals};
+use job_facts::{BatchRow, BatchSize, BatchTotals};
 use row_reads::{BatchHead, BatchTold, batch_head, batch_told, grouping_count};
 use rows_answer::{batches_by_name, batches_by_rows, totals_by_rows};
 use sqlite::{Alter, Connection, Error};

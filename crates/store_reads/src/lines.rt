@@ -5,7 +5,7 @@ ghost use Rattle.rows_answer.specs.Telling.{cards};
 ghost use Rattle.row_reads.specs.CardDecoding.{IsRecordAt};
 ghost use Rattle.store_reads.specs.Lines.{blank_of, is_card_at, line_told, line_with};
 
-use job_core::{RecordLine, RecordState};
+use job_facts::{RecordLine, RecordState};
 use row_reads::{GoodCard, RecordAt};
 use sqlite::Error;
 use std::alloc::Global;

@@ -1,13 +1,13 @@
 //! Lots and blanks are read.
 ghost use Rattle.std.specs.Prelude.{false, option_map, ◌≡◌};
 ghost use Rattle.sqlite.specs.Held.{state};
-ghost use Rattle.job_core.specs.States.{any_overlaps, is_charged, lot_named, lot_of};
+ghost use Rattle.job_facts.specs.States.{any_overlaps, is_charged, lot_named, lot_of};
 ghost use Rattle.row_reads.specs.declared.lots.LotRow.{LotRow as LotRowValue};
 ghost use Rattle.row_reads.specs.Reads.{Looks};
 ghost use Rattle.store_reads.specs.Tells.{Tells};
 
 use crate::numbers::END;
-use job_core::Lot;
+use job_facts::Lot;
 use row_reads::LotRow;
 use rows_answer::{blanks_by_serial, lots_by_name, lots_by_range};
 use sqlite::{Alter, Connection, Error};

@@ -3,13 +3,13 @@ ghost use Rattle.std.specs.Prelude.{◌≡◌, ◌≤◌, All, IfOk, IfSome, IsT
 ghost use Rattle.dgi.specs.Coding.{IsSent};
 ghost use Rattle.store_data.specs.Cursor.{segment_at};
 ghost use Rattle.store_data.specs.Sequence.{IsProduct, IsRow, plan_of};
-ghost use Rattle.job_core.specs.declared.rows.SegmentRow.{SegmentRow as SegmentRowValue};
-ghost use Rattle.job_core.specs.Rows.{segment_row};
+ghost use Rattle.job_facts.specs.declared.rows.SegmentRow.{SegmentRow as SegmentRowValue};
+ghost use Rattle.job_facts.specs.Rows.{segment_row};
 ghost use Rattle.row_reads.specs.CardDecoding.{IsGroupingAt};
 ghost use Rattle.store_reads.specs.Segments.{row_told};
 
 use dgi::{coded_len, read_whole};
-use job_core::SegmentRow;
+use job_facts::SegmentRow;
 use row_reads::GroupingAt;
 use sqlite::{Error, ErrorCode};
 use std::alloc::Global;

@@ -1,12 +1,12 @@
 //! Records are read.
 ghost use Rattle.std.specs.Prelude.{false, option_map, ◌≡◌};
 ghost use Rattle.sqlite.specs.Held.{state};
-ghost use Rattle.job_core.specs.States.{first_waiting, record_state_of};
+ghost use Rattle.job_facts.specs.States.{first_waiting, record_state_of};
 ghost use Rattle.row_reads.specs.declared.records.RecordAt.{RecordAt as RecordAtValue};
 ghost use Rattle.row_reads.specs.Reads.{Looks};
 ghost use Rattle.store_reads.specs.Tells.{Tells};
 
-use job_core::RecordState;
+use job_facts::RecordState;
 use row_reads::{RecordAt, batch_id, record_named};
 use rows_answer::{batches_by_name, records_by_name, records_of_batches};
 use sqlite::{Alter, Connection, Error};

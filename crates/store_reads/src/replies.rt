@@ -1,12 +1,12 @@
 //! Kept replies and marks are read.
 ghost use Rattle.std.specs.Prelude.{false, length, option_map, ◌≡◌};
 ghost use Rattle.sqlite.specs.Held.{state};
-ghost use Rattle.job_core.specs.Contents.{entry_of, mark_of, reply_of_entry};
+ghost use Rattle.job_facts.specs.Contents.{entry_of, mark_of, reply_of_entry};
 ghost use Rattle.row_reads.specs.Reads.{Looks};
 ghost use Rattle.store_reads.specs.Tells.{Tells};
 
 use crate::numbers::END;
-use job_core::KeptReply;
+use job_facts::KeptReply;
 use rows_answer::replies_by_number;
 use sqlite::{Alter, Connection, Error};
 use store_data::Name;

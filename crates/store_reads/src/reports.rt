@@ -1,14 +1,14 @@
 //! The accounts of batches and blanks are read.
 ghost use Rattle.std.specs.Prelude.{false, ◌≡◌, ◌<◌, ◌^◌};
 ghost use Rattle.sqlite.specs.Held.{state};
-ghost use Rattle.job_core.specs.Accounts.{blank_totals, record_lines};
+ghost use Rattle.job_facts.specs.Accounts.{blank_totals, record_lines};
 ghost use Rattle.row_reads.specs.Reads.{Looks};
 ghost use Rattle.store_reads.specs.Lines.{lines_with};
 ghost use Rattle.store_reads.specs.Tells.{Tells};
 
 use crate::lines::lines_told;
 use crate::sums::totals_told;
-use job_core::{BlankTotals, RecordLine};
+use job_facts::{BlankTotals, RecordLine};
 use row_reads::{batch_id, batches_of, good_sessions, lots_of, records_of};
 use rows_answer::{batches_by_name, blanks_by_rows, lines_by_rows, records_of_batches};
 use sqlite::{Alter, Connection, Error};

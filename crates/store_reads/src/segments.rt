@@ -3,14 +3,14 @@ ghost use Rattle.std.specs.Prelude.{IfOk, IfSome, false, option_map, ◌≡◌, 
 ghost use Rattle.sqlite.specs.Held.{state};
 ghost use Rattle.store_data.specs.Sequence.{IsRow};
 ghost use Rattle.store_data.specs.declared.row.Product.{Product as ProductValue};
-ghost use Rattle.job_core.specs.declared.rows.SegmentRow.{SegmentRow as SegmentRowValue};
-ghost use Rattle.job_core.specs.Rows.{segment_row_of};
+ghost use Rattle.job_facts.specs.declared.rows.SegmentRow.{SegmentRow as SegmentRowValue};
+ghost use Rattle.job_facts.specs.Rows.{segment_row_of};
 ghost use Rattle.row_reads.specs.Reads.{Looks};
 ghost use Rattle.store_reads.specs.Segments.{IsBatchProduct, product_in, rows_in};
 ghost use Rattle.store_reads.specs.Tells.{Tells};
 
 use crate::plans::{rows_told, segment_in};
-use job_core::SegmentRow;
+use job_facts::SegmentRow;
 use row_reads::{batch_told, groupings_of, record_named};
 use rows_answer::{batches_by_name, groupings_by_place, plans_by_rows, records_by_name};
 use sqlite::{Alter, Connection, Error};

@@ -2,14 +2,14 @@
 ghost use Rattle.std.specs.Prelude.{IfOk, IfSome, false, ◌≡◌};
 ghost use Rattle.sqlite.specs.Held.{state};
 ghost use Rattle.store_data.specs.Cursor.{IsCursor};
-ghost use Rattle.job_core.specs.declared.rows.SessionRow.{SessionRow as SessionRowValue};
-ghost use Rattle.job_core.specs.Rows.{session_row_of};
-ghost use Rattle.job_core.specs.States.{running_session};
+ghost use Rattle.job_facts.specs.declared.rows.SessionRow.{SessionRow as SessionRowValue};
+ghost use Rattle.job_facts.specs.Rows.{session_row_of};
+ghost use Rattle.job_facts.specs.States.{running_session};
 ghost use Rattle.row_reads.specs.Reads.{Looks};
 ghost use Rattle.store_reads.specs.Tells.{Tells};
 
 use crate::numbers::END;
-use job_core::SessionRow;
+use job_facts::SessionRow;
 use row_reads::{batch_name, record_at};
 use rows_answer::{
     batches_by_id, records_by_place, running_sessions_by_machine, sessions_by_number,

@@ -2,7 +2,7 @@
 ghost use Rattle.std.specs.Prelude.{IfOk, ◌≡◌, ◌+◌};
 ghost use Rattle.store_reads.specs.Sums.{batch_sums, lot_sums, totals_told};
 
-use job_core::BlankTotals;
+use job_facts::BlankTotals;
 use row_reads::{BatchHead, LotRow};
 use sqlite::Error;
 

@@ -1,6 +1,6 @@
 //! The rows of the store's tables, as they are read: names and bytes may be any.
 
-use job_core::{RecordState, SessionState};
+use job_facts::{RecordState, SessionState};
 use std::marker::Model;
 use store_data::{Cursor, Enc};
 
@@ -240,7 +240,7 @@ pub struct StoredReply {
 }
 
 impl Model for StoredReply {
-    ghost use Rattle.job_core.specs.Contents.{Entry};
+    ghost use Rattle.job_facts.specs.Contents.{Entry};
 
     ghost Value = { Entry };
 
@@ -261,7 +261,7 @@ pub struct StoredMark {
 }
 
 impl Model for StoredMark {
-    ghost use Rattle.job_core.specs.Contents.{Mark};
+    ghost use Rattle.job_facts.specs.Contents.{Mark};
 
     ghost Value = { Mark };
 

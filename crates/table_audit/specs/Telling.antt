@@ -2,7 +2,7 @@
 use Rattle.std.specs.Prelude.{◌≡◌}
 use Rattle.sqlite.specs.Effect.{Database}
 use Rattle.sql_order.specs.declared.versions.Version.{Version}
-use Rattle.job_core.specs.Contents.{AreSound, Contents}
+use Rattle.job_facts.specs.Contents.{AreSound, Contents}
 use Rattle.table_rows.specs.Tables.{HaveSameRows, Tables}
 use Rattle.rows_of_facts.specs.Image.{image}
 use Rattle.table_reads.specs.Holding.{HoldsRows, HoldsSoundRows, IsOfVersion}

@@ -10,7 +10,7 @@ use Rattle.sqlite.specs.State.{State}
 use Rattle.sqlite.specs.declared.error.Error.{Error}
 use Rattle.sqlite.proofs.InsideLemmas.{keeps_then}
 use Rattle.store_data.specs.declared.row.Product.{Product}
-use Rattle.job_core.specs.Contents.{Entry, Mark}
+use Rattle.job_facts.specs.Contents.{Entry, Mark}
 use Rattle.sql_base.specs.Ends.{Inside}
 use Rattle.sql_rows.specs.Image.{IsImage, Moves}
 use Rattle.sql_rows.proofs.SameRows.{same_rows}

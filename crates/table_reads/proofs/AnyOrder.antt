@@ -5,7 +5,7 @@ use Rattle.std.proofs.lemmas.List.Sorted.{IsPermutation-map, IsPermutation-trans
 use Rattle.sqlite.specs.Effect.{Database}
 use Rattle.sqlite.specs.Order.{Row}
 use Rattle.sqlite.specs.Table.{Table}
-use Rattle.job_core.specs.Contents.{Mark}
+use Rattle.job_facts.specs.Contents.{Mark}
 use Rattle.table_rows.specs.Tables.{HaveSameRows, Tables}
 use Rattle.sql_rows.specs.Encoding.{batch_row, blank_row, grouping_row, lot_row, mark_row, product_row, record_row, remake_row, reply_row, session_row, word_row}
 use Rattle.sql_order.specs.declared.versions.Version.{Version}

@@ -5,7 +5,7 @@ use Rattle.sqlite.specs.Effect.{Database}
 use Rattle.sqlite.specs.Order.{Row}
 use Rattle.sqlite.specs.Table.{Table}
 use Rattle.store_data.specs.declared.row.Product.{Product}
-use Rattle.job_core.specs.Contents.{Entry, Mark}
+use Rattle.job_facts.specs.Contents.{Entry, Mark}
 use Rattle.sql_tables.specs.Tables.{batch_at, blank_at, grouping_at, lot_at, mark_at, product_at, record_at, remake_at, reply_at, session_at, word_at}
 use Rattle.sql_order.specs.Finds.{Finds}
 use Rattle.sql_order.specs.Versions.{unmixed_grouping_at}

@@ -5,10 +5,10 @@ use Rattle.std.proofs.lemmas.List.Elements.{All-map, All-same, All-weaker}
 use Rattle.store_data.specs.declared.row.Product.{Product}
 use Rattle.store_data.specs.declared.row.Row.{Row}
 use Rattle.store_data.specs.Sequence.{IsProduct, IsRow}
-use Rattle.job_core.specs.Contents.{AreSound, Contents}
-use Rattle.job_core.specs.Facts.{Batch, Facts, Session}
-use Rattle.job_core.specs.Sound.{IsBatch, IsLot, IsSession}
-use Rattle.job_core.specs.States.{rows_of, rows_or_none, rows_under}
+use Rattle.job_facts.specs.Contents.{AreSound, Contents}
+use Rattle.job_facts.specs.Facts.{Batch, Facts, Session}
+use Rattle.job_facts.specs.Sound.{IsBatch, IsLot, IsSession}
+use Rattle.job_facts.specs.States.{rows_of, rows_or_none, rows_under}
 use Rattle.rows_of_facts.specs.Image.{batches_by_id, groupings_in, image, sessions_by_id, stored_grouping, stored_groupings, stored_lot, stored_lots, stored_words, words_in}
 use Rattle.rows_of_facts.proofs.Lists.{All-joined, All-numbered}
 use Rattle.table_reads.specs.Shown.{FitsGrouping, FitsLot, FitsProduct, FitsWord}

@@ -4,11 +4,11 @@ use Rattle.sqlite.specs.Order.{Row}
 use Rattle.store_data.specs.declared.row.Enc.{Enc}
 use Rattle.store_data.specs.declared.row.Enc.TheVariants as enc
 use Rattle.store_data.specs.declared.row.Product.{Product}
-use Rattle.job_core.specs.declared.facts.RecordState.{RecordState}
-use Rattle.job_core.specs.declared.facts.RecordState.TheVariants as rec
-use Rattle.job_core.specs.declared.facts.SessionState.{SessionState}
-use Rattle.job_core.specs.declared.facts.SessionState.TheVariants as session
-use Rattle.job_core.specs.Contents.{Entry, Mark}
+use Rattle.job_facts.specs.declared.facts.RecordState.{RecordState}
+use Rattle.job_facts.specs.declared.facts.RecordState.TheVariants as rec
+use Rattle.job_facts.specs.declared.facts.SessionState.{SessionState}
+use Rattle.job_facts.specs.declared.facts.SessionState.TheVariants as session
+use Rattle.job_facts.specs.Contents.{Entry, Mark}
 use Rattle.table_rows.specs.Tables.{StoredBatch, StoredBlank, StoredGrouping, StoredLot, StoredRecord, StoredRemake, StoredSession, StoredWord}
 use Rattle.sql_rows.specs.Encoding.{batch_row, blank_row, enc_code, flag, grouping_row, lot_row, mark_row, product_row, record_code, record_row, remake_row, reply_row, session_code, session_row, word_row}
 use Rattle.table_reads.specs.Shown.{FitsGrouping, FitsLot, FitsProduct, FitsWord, IsAny, IsBatchRow, IsBlankRow, IsGroupingRow, IsLotRow, IsMarkRow, IsProductRow, IsRecordRow, IsRemakeRow, IsReplyRow, IsSessionRow, IsWordRow}

@@ -4,7 +4,7 @@ use Rattle.std.specs.Prelude.{◌≡◌, ℕ, Bool, true, false, List, [], ◌�
 use Rattle.sqlite.specs.Effect.{Database}
 use Rattle.sqlite.specs.Order.{Row}
 use Rattle.sqlite.specs.Table.{Table}
-use Rattle.job_core.specs.Contents.{AreSound, Contents, Mark}
+use Rattle.job_facts.specs.Contents.{AreSound, Contents, Mark}
 use Rattle.table_rows.specs.Tables.{Tables}
 use Rattle.rows_of_facts.specs.Image.{image}
 use Rattle.sql_tables.specs.Tables.{batch_at, blank_at, grouping_at, lot_at, mark_at, product_at, record_at, remake_at, reply_at, session_at, word_at}

@@ -6,7 +6,7 @@ use Rattle.sqlite.specs.Order.{Row}
 use Rattle.sqlite.specs.State.{State}
 use Rattle.sqlite.specs.Table.{Table}
 use Rattle.store_data.specs.declared.row.Product.{Product}
-use Rattle.job_core.specs.Contents.{Entry, Mark}
+use Rattle.job_facts.specs.Contents.{Entry, Mark}
 use Rattle.table_rows.specs.Tables.{StoredBatch, StoredBlank, StoredGrouping, StoredLot, StoredRecord, StoredRemake, StoredSession, StoredWord, Tables}
 use Rattle.sql_tables.specs.Tables.{mark_at}
 use Rattle.sql_rows.specs.Encoding.{grouping_row, mark_row}

@@ -3,7 +3,7 @@
 ghost use Rattle.std.specs.Prelude.{◌≡◌};
 ghost use Rattle.std.specs.List.{AllByRecursion};
 ghost use Rattle.sqlite.specs.Effect.{Database};
-ghost use Rattle.job_core.specs.Contents.{AreSound, Contents};
+ghost use Rattle.job_facts.specs.Contents.{AreSound, Contents};
 ghost use Rattle.sql_order.specs.Finds.{Finds};
 ghost use Rattle.sql_order.specs.declared.versions.Version.{Version as OfVersion};
 ghost use Rattle.sql_rows.specs.Image.{IsImage};

@@ -6,7 +6,7 @@ ghost use Rattle.sql_rows.specs.Decoding.{bytes_in, number_in};
 ghost use Rattle.sql_rows.specs.Encoding.{enc_code, flag, record_code, session_code};
 ghost use Rattle.table_reads.specs.Shown.{IsBelow, IsBlob, IsNumber, IsText};
 
-use job_core::{RecordState, SessionState};
+use job_facts::{RecordState, SessionState};
 use sqlite::types::ValueRef;
 use sqlite::{Error, Row};
 use std::alloc::Global;

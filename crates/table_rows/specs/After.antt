@@ -5,16 +5,16 @@ use Rattle.store_data.specs.Cursor.{select_cursor}
 use Rattle.store_data.specs.Groups.{first_appearances}
 use Rattle.store_data.specs.declared.row.Row.{Row}
 use Rattle.batch_import.specs.Batch.{batch_of}
-use Rattle.job_core.specs.declared.change.Change.{Change}
-use Rattle.job_core.specs.declared.change.Change.TheVariants as change
-use Rattle.job_core.specs.declared.facts.Lot.{Lot}
-use Rattle.job_core.specs.declared.facts.RecordState.{RecordState}
-use Rattle.job_core.specs.declared.facts.RecordState.TheVariants as rec
-use Rattle.job_core.specs.declared.facts.SessionState.{SessionState}
-use Rattle.job_core.specs.declared.facts.SessionState.TheVariants as session
-use Rattle.job_core.specs.declared.rows.BatchTotals.{BatchTotals}
-use Rattle.job_core.specs.Contents.{Entry}
-use Rattle.job_core.specs.States.{rows_or_none}
+use Rattle.job_facts.specs.declared.change.Change.{Change}
+use Rattle.job_facts.specs.declared.change.Change.TheVariants as change
+use Rattle.job_facts.specs.declared.facts.Lot.{Lot}
+use Rattle.job_facts.specs.declared.facts.RecordState.{RecordState}
+use Rattle.job_facts.specs.declared.facts.RecordState.TheVariants as rec
+use Rattle.job_facts.specs.declared.facts.SessionState.{SessionState}
+use Rattle.job_facts.specs.declared.facts.SessionState.TheVariants as session
+use Rattle.job_facts.specs.declared.rows.BatchTotals.{BatchTotals}
+use Rattle.job_facts.specs.Contents.{Entry}
+use Rattle.job_facts.specs.States.{rows_or_none}
 use Rattle.table_rows.specs.declared.before.Before.{Before}
 use Rattle.table_rows.specs.declared.before.Before.TheVariants as before
 use Rattle.table_rows.specs.declared.before.RecordPlace.{RecordPlace}

@@ -1,7 +1,7 @@
 -- The keys by which rows are looked up.
 use Rattle.std.specs.Prelude.{◌==◌, ◌&&◌, ℕ, Bool, List, bytes_eq}
-use Rattle.job_core.specs.Contents.{Entry}
-use Rattle.job_core.specs.States.{is_good, is_in, is_running, is_waiting, overlaps}
+use Rattle.job_facts.specs.Contents.{Entry}
+use Rattle.job_facts.specs.States.{is_good, is_in, is_running, is_waiting, overlaps}
 use Rattle.table_rows.specs.Tables.{StoredBatch, StoredBlank, StoredGrouping, StoredLot, StoredRecord, StoredSession}
 
 -- ---- batches

@@ -1,5 +1,5 @@
 //! What the statements of a change need to know of the facts before it.
-use job_core::BatchTotals;
+use job_facts::BatchTotals;
 use store_data::Product;
 
 /// Where a record stands in its tables, and how.

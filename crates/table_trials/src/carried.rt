@@ -5,7 +5,7 @@ use crate::exchanges::Exchange;
 use crate::stops::{NO_STOP, adopted, created};
 use crate::stories::{MADE_AGAIN, NUMBER_RELEASED, SET_UP};
 use crate::versions::{ONE, TWO, Version, tell, turned};
-use job_core::JobStore;
+use job_facts::JobStore;
 use reports::close_report;
 use sqlite::types::ValueRef;
 use sqlite::{Alter, Connection};

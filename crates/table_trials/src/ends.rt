@@ -2,7 +2,7 @@
 use crate::exchanges::at_last;
 use batch_import::{Kind, RowFault};
 use command_line::{End, Exit, exit_of};
-use job_core::Refusal;
+use job_facts::Refusal;
 use std::alloc::{AllocError, Global};
 use std::process::Abort;
 use std::test::Fail;

@@ -1,12 +1,12 @@
 //! What is asked of a store, and what is told. What is refused memory is asked again.
 ghost use Rattle.std.specs.Prelude.{IfOk};
-ghost use Rattle.job_core.specs.Requests.{IsArrival};
+ghost use Rattle.job_facts.specs.Requests.{IsArrival};
 ghost use Rattle.asks.specs.Asks.{IsInRange};
 
 use arrivals::Kept;
 use asks::{AskFault, Asked, to_ask};
 use heads::{FixedReply, Pieces, Reading, read_message};
-use job_core::{Arrival, JobStore, StoreFault};
+use job_facts::{Arrival, JobStore, StoreFault};
 use reply_store::handle;
 use std::alloc::{AllocError, Global};
 use std::process::Abort;

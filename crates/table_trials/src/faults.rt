@@ -5,7 +5,7 @@
 use crate::exchanges::at_last;
 use crate::stories::{CLOSING, LATE, MADE_AGAIN, RELEASE, SET_UP, Story, WITHDRAWAL};
 use faulty_store::{Device, Fault, FaultyStore, Plan};
-use job_core::JobStore;
+use job_facts::JobStore;
 use server::{End, MemoryConnections, NextFault, Replied, serve_all};
 use std::alloc::{AllocError, Global};
 use std::process::Abort;

@@ -5,7 +5,7 @@ use audit_rows::Rule;
 use command_line::{End, end_of_close, explain, level_by, note_refusal, told_end, wanted_of};
 use event_lines::{EventLog, Level};
 use file_causes::{Damage, Difference};
-use job_core::StoreFault;
+use job_facts::StoreFault;
 use over_tables::{Cause, FileFault, Wanted};
 use program_words::{WordsFault, read_words};
 use std::alloc::{AllocError, Global};

@@ -1,14 +1,14 @@
 //! Stories over lists, and over tables in memory. Each test is right with ample memory, and says
 //! the same whichever one allocation is refused: a call tells its want of memory, leaves all as it
 //! was, and answers right when it comes again.
-ghost use Rattle.job_core.specs.Requests.{IsArrival};
+ghost use Rattle.job_facts.specs.Requests.{IsArrival};
 
 use crate::exchanges::{Exchange, arrival, at_last, check_told, told};
 use crate::stories::{
     CLOSING, KNOWN, LATE_RESET, MADE_AGAIN, RELEASES, Story, TAKEN, TURNED_DOWN, WITHDRAWAL, WORDS,
 };
 use arrivals::Kept;
-use job_core::{Arrival, JobStore, StoreFault};
+use job_facts::{Arrival, JobStore, StoreFault};
 use list_store::ListStore;
 use schema::SqlStore;
 use sqlite::{Connection, MemStore};

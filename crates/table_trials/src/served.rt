@@ -2,9 +2,9 @@
 use crate::exchanges::Exchange;
 use crate::stories::{CLOSING, SET_UP};
 use event_lines::{EventLog, Level};
+use job_facts::ServerStore;
 use loopback::Loopback;
 use over_tables::{FileFault, Wanted, serve_over_tables};
-use reopening::ServerStore;
 use reports::{AccountFault, close_report};
 use schema::SqlStore;
 use server::serve_all;

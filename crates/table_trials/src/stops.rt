@@ -7,7 +7,7 @@
 use crate::disks::{Ended, Left, Stop, close, nothing, open};
 use crate::exchanges::{Exchange, arrival, check_told, told};
 use crate::stories::{MADE_AGAIN, NUMBER_RELEASED, RELEASE, SET_UP};
-use job_core::{JobStore, StoreFault};
+use job_facts::{JobStore, StoreFault};
 use schema::SqlStore;
 use sqlite::{Alter, Connection, Error};
 use std::alloc::{AllocError, Global};

@@ -8,7 +8,7 @@ use crate::exchanges::{Exchange, arrival, at_last, check_told, told};
 use crate::refused::tables;
 use crate::stops::{MANY_CALLS, NO_STOP, adopted, created, put_rows, rows_of};
 use crate::stories::{MADE_AGAIN, RELEASE, SET_UP};
-use job_core::{JobStore, StoreFault};
+use job_facts::{JobStore, StoreFault};
 use schema::{OpenFault, SqlStore};
 use sqlite::{Alter, Connection, Error};
 use std::alloc::{AllocError, Global};

@@ -3,7 +3,7 @@ use batch_import::ImportFault;
 use dgi::DgiFault;
 use drill::DrillStop;
 use feeding::FeedStop;
-use job_core::StoreFault;
+use job_facts::StoreFault;
 use plan_print::PlanStop;
 use program_words::WordsFault;
 use reports::AccountFault;

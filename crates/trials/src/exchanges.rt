@@ -4,7 +4,7 @@ ghost use Rattle.wire.specs.Asks.{IsInRange};
 
 use crate::again::{MayWantMemory, at_last};
 use crate::failing_writers::Limited;
-use job_core::{Change, JobStore, Lot};
+use job_facts::{Change, JobStore, Lot};
 use list_store::ListStore;
 use server::{End, Served, serve_one};
 use std::alloc::{AllocError, Global};

@@ -1,10 +1,10 @@
 -- A call that is sent arrives as what it is.
 use Rattle.std.proofs.Common.{◌≡◌, ◌∙◌, ℕ, List, [], Some, Result, Ok, Err, IfOk, sym, subst}
 use Rattle.std.specs.Prelude.{IsUtf8, Option}
-use Rattle.job_core.specs.declared.request.Call.{Call}
-use Rattle.job_core.specs.declared.request.Call.TheVariants.{Job}
-use Rattle.job_core.specs.declared.request.Request.{Request}
-use Rattle.job_core.specs.declared.request.Request.TheVariants as request
+use Rattle.job_facts.specs.declared.request.Call.{Call}
+use Rattle.job_facts.specs.declared.request.Call.TheVariants.{Job}
+use Rattle.job_facts.specs.declared.request.Request.{Request}
+use Rattle.job_facts.specs.declared.request.Request.TheVariants as request
 use Rattle.asks.specs.declared.ask.Asked.TheVariants as asked
 use Rattle.asks.specs.Asks.{ask_with, import_tail}
 use Rattle.asks.specs.Meant.{Asks, Means}

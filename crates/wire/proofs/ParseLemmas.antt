@@ -33,13 +33,13 @@ use Rattle.serde_json.proofs.OnLiterals.{serde_json_on_literals}
 use Rattle.batch_import.specs.Kinds.{code_of as kind_code_of, name_of as kind_name_of, kind_of_code}
 use Rattle.batch_import.specs.declared.fault.Kind.{Kind}
 use Rattle.batch_import.specs.declared.fault.Kind.TheVariants as kind
-use Rattle.job_core.specs.Refusals.{code_of, name_of, refusal_of}
-use Rattle.job_core.specs.declared.refusal.Refusal.{Refusal}
-use Rattle.job_core.specs.declared.refusal.Refusal.TheVariants as refusal
-use Rattle.job_core.specs.declared.reply.Made.{Made}
-use Rattle.job_core.specs.declared.reply.Made.TheVariants.{Created, Known}
-use Rattle.job_core.specs.declared.reply.Reply.{Reply}
-use Rattle.job_core.specs.declared.reply.Reply.TheVariants.{Product, Lot, Import, Opened, Next, Good, Spoiled, Reset, Discarded, Waiting, Withdrawn, Closed, Refused, Busy, Released, NumberReleased, Faulty}
+use Rattle.job_facts.specs.Refusals.{code_of, name_of, refusal_of}
+use Rattle.job_facts.specs.declared.refusal.Refusal.{Refusal}
+use Rattle.job_facts.specs.declared.refusal.Refusal.TheVariants as refusal
+use Rattle.job_facts.specs.declared.reply.Made.{Made}
+use Rattle.job_facts.specs.declared.reply.Made.TheVariants.{Created, Known}
+use Rattle.job_facts.specs.declared.reply.Reply.{Reply}
+use Rattle.job_facts.specs.declared.reply.Reply.TheVariants.{Product, Lot, Import, Opened, Next, Good, Spoiled, Reset, Discarded, Waiting, Withdrawn, Closed, Refused, Busy, Released, NumberReleased, Faulty}
 use Rattle.arrivals.specs.Told.{Told, body_of, status_of}
 use Rattle.arrivals.specs.Values.{IsPlain, made_name, value_of}
 use Rattle.arrivals.proofs.Escapes.{escape_plain, hex_plain, name_plain, plain_ascii}

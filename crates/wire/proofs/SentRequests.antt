@@ -12,9 +12,9 @@ use Rattle.serde_json.specs.Written.{compact_text}
 use Rattle.serde_json.proofs.Numbers.{number_of-decimal}
 use Rattle.serde_json.proofs.OnLiterals.{serde_json_on_literals}
 use Rattle.store_data.specs.Name.{is_name}
-use Rattle.job_core.specs.declared.request.Call.{Call}
-use Rattle.job_core.specs.declared.request.Call.TheVariants.{Job, Release}
-use Rattle.job_core.specs.declared.request.Request.TheVariants as request
+use Rattle.job_facts.specs.declared.request.Call.{Call}
+use Rattle.job_facts.specs.declared.request.Call.TheVariants.{Job, Release}
+use Rattle.job_facts.specs.declared.request.Request.TheVariants as request
 use Rattle.serde_json.specs.Data.{boolean}
 use Rattle.arrivals.proofs.Escapes.{escape_plain, name_plain}
 use Rattle.text_io.specs.Inputs.{most_input}

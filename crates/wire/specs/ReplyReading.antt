@@ -5,12 +5,12 @@ use Rattle.hex.specs.declared.error.FromHexError.{FromHexError}
 use Rattle.serde_json.specs.Data.{Data}
 use Rattle.batch_import.specs.declared.fault.Kind.{Kind as FaultKind}
 use Rattle.batch_import.specs.Kinds.{kind_of_code}
-use Rattle.job_core.specs.declared.refusal.Refusal.{Refusal}
-use Rattle.job_core.specs.Refusals.{refusal_of}
-use Rattle.job_core.specs.declared.reply.Made.{Made}
-use Rattle.job_core.specs.declared.reply.Made.TheVariants.{Created, Known}
-use Rattle.job_core.specs.declared.reply.Reply.{Reply}
-use Rattle.job_core.specs.declared.reply.Reply.TheVariants.{Product, Lot, Import, Opened, Next, Good, Spoiled, Reset, Discarded, Waiting, Withdrawn, Closed, Refused, Busy, Released, NumberReleased, Faulty}
+use Rattle.job_facts.specs.declared.refusal.Refusal.{Refusal}
+use Rattle.job_facts.specs.Refusals.{refusal_of}
+use Rattle.job_facts.specs.declared.reply.Made.{Made}
+use Rattle.job_facts.specs.declared.reply.Made.TheVariants.{Created, Known}
+use Rattle.job_facts.specs.declared.reply.Reply.{Reply}
+use Rattle.job_facts.specs.declared.reply.Reply.TheVariants.{Product, Lot, Import, Opened, Next, Good, Spoiled, Reset, Discarded, Waiting, Withdrawn, Closed, Refused, Busy, Released, NumberReleased, Faulty}
 use Rattle.std.specs.Option.{option_or}
 use Rattle.asks.specs.Members.{passing, name_at, number_at, text_at}
 

@@ -1,9 +1,9 @@
 -- Replies as text, as far as they can be read back (this project's profile).
 use Rattle.std.specs.Prelude.{◌≡◌, ◌<◌, ◌^◌, ℕ, List, ⊤}
 use Rattle.hex.specs.Hex.{IsBytes}
-use Rattle.job_core.specs.Sound.{IsName}
-use Rattle.job_core.specs.declared.reply.Reply.{Reply}
-use Rattle.job_core.specs.declared.reply.Reply.TheVariants.{Product, Lot, Import, Opened, Next, Good, Spoiled, Reset, Discarded, Waiting, Withdrawn, Closed, Refused, Busy, Released, NumberReleased, Faulty}
+use Rattle.job_facts.specs.Sound.{IsName}
+use Rattle.job_facts.specs.declared.reply.Reply.{Reply}
+use Rattle.job_facts.specs.declared.reply.Reply.TheVariants.{Product, Lot, Import, Opened, Next, Good, Spoiled, Reset, Discarded, Waiting, Withdrawn, Closed, Refused, Busy, Released, NumberReleased, Faulty}
 use Rattle.arrivals.specs.Told.{body_of, status_of, told_of}
 use Rattle.heads.specs.declared.reply.Content.TheVariants.{Json}
 use Rattle.heads.specs.Texts.{reply_text}

@@ -4,11 +4,11 @@ use Rattle.hex.specs.Hex.{encode_upper}
 use Rattle.serde_json.specs.Data.{Data, boolean, null, string, object, member, no_members}
 use Rattle.serde_json.specs.Written.{compact_text}
 use Rattle.arrivals.specs.Values.{num}
-use Rattle.job_core.specs.Sound.{IsName}
-use Rattle.job_core.specs.Requests.{IsRequest}
-use Rattle.job_core.specs.declared.request.Call.{Call}
-use Rattle.job_core.specs.declared.request.Call.TheVariants.{Job, Release}
-use Rattle.job_core.specs.declared.request.Request.TheVariants as request
+use Rattle.job_facts.specs.Sound.{IsName}
+use Rattle.job_facts.specs.Requests.{IsRequest}
+use Rattle.job_facts.specs.declared.request.Call.{Call}
+use Rattle.job_facts.specs.declared.request.Call.TheVariants.{Job, Release}
+use Rattle.job_facts.specs.declared.request.Request.TheVariants as request
 use Rattle.asks.specs.declared.ask.Asked.TheVariants as asked
 use Rattle.asks.specs.Asks.{ask_with, import_tail}
 use Rattle.asks.specs.Meant.{Asks, Means}

@@ -1,15 +1,15 @@
 //! The texts of calls, as a machine's feeder sends them: a head, and compact JSON (RFC 8259) or a batch file.
 ghost use Rattle.std.specs.Prelude.{◌≡◌, ◌≤◌, ◌<◌, ◌^◌, IfOk, OnOk, string_bytes};
 ghost use Rattle.serde_json.specs.View.{view};
-ghost use Rattle.job_core.specs.Sound.{IsName};
-ghost use Rattle.job_core.specs.declared.request.Call.{Call as CallValue};
+ghost use Rattle.job_facts.specs.Sound.{IsName};
+ghost use Rattle.job_facts.specs.declared.request.Call.{Call as CallValue};
 ghost use Rattle.wire.specs.Sending.{AreNames, Arrives, IsMessageOf, IsNoImport, IsSendable};
 ghost use Rattle.wire.specs.Sending.{record_request, sending_of};
 ghost use Rattle.wire.specs.Sending.{value_of, word_text};
 
 use arrivals::name_text;
 use asks::{import_text, job_text};
-use job_core::{Call, Lot, Request};
+use job_facts::{Call, Lot, Request};
 use serde_json::{Value, json};
 use std::alloc::{AllocError, Global};
 use store_data::{Bytes, Name, Product};

@@ -2,14 +2,13 @@
 ghost use Rattle.std.specs.Prelude.{◌≡◌, ◌≤◌, ℕ, List, Some, IfOk, IfSome, length, slice_get};
 ghost use Rattle.store_data.specs.Cursor.{cursor_at, segment_at, shown};
 ghost use Rattle.store_data.specs.Sequence.{IsPlan, Plan, sequence};
-ghost use Rattle.job_core.specs.Facts.{Facts};
-ghost use Rattle.job_core.specs.Rows.{placed_of, segment_row_of};
-ghost use Rattle.job_core.specs.declared.rows.SegmentRow.{SegmentRow as SegmentRowValue};
-ghost use Rattle.job_core.specs.States.{plan_for};
-ghost use Rattle.job_core.specs.Store.{CountsFaults, Reads, Stays};
+ghost use Rattle.job_facts.specs.Facts.{Facts};
+ghost use Rattle.job_facts.specs.Rows.{placed_of, segment_row_of};
+ghost use Rattle.job_facts.specs.declared.rows.SegmentRow.{SegmentRow as SegmentRowValue};
+ghost use Rattle.job_facts.specs.States.{plan_for};
+ghost use Rattle.job_facts.specs.Store.{CountsFaults, Reads, Stays};
 
-use crate::rows::SegmentRow;
-use crate::store::{JobStore, StoreFault};
+use job_facts::{JobStore, SegmentRow, StoreFault};
 use std::alloc::{AllocError, Global};
 use store_data::{Bytes, Cursor, Name, SegmentView};
 

@@ -2,23 +2,18 @@
 ghost use Rattle.std.specs.Prelude.{◌≡◌, ◌<◌, None, Some, IfErr, IfOk, IfSome, length};
 ghost use Rattle.store_data.specs.Sequence.{IsProduct};
 ghost use Rattle.batch_import.specs.Batch.{batch_of};
-ghost use Rattle.job_core.specs.Facts.{Facts};
-ghost use Rattle.job_core.specs.Sound.{Decides, IsSound, Makes};
-ghost use Rattle.job_core.specs.Requests.{IsLotRange};
-ghost use Rattle.job_core.specs.Rows.{batch_has, batch_row_of, batch_size_of};
-ghost use Rattle.job_core.specs.States.{any_overlaps, batch_named, lot_named, product_named};
-ghost use Rattle.job_core.specs.Steps.{new_batch, new_lot, same_lot, same_product, taken_in};
-ghost use Rattle.job_core.specs.Store.{CountsFaults, Reads, Stays};
-ghost use Rattle.job_core.specs.declared.request.Request.TheVariants as request;
-ghost use Rattle.job_core.specs.declared.store.StoreFault.TheVariants.{Memory};
+ghost use Rattle.job_facts.specs.Facts.{Facts};
+ghost use Rattle.job_facts.specs.Sound.{Decides, IsSound, Makes};
+ghost use Rattle.job_facts.specs.Requests.{IsLotRange};
+ghost use Rattle.job_facts.specs.Rows.{batch_has, batch_row_of, batch_size_of};
+ghost use Rattle.job_facts.specs.States.{any_overlaps, batch_named, lot_named, product_named};
+ghost use Rattle.job_facts.specs.Steps.{new_batch, new_lot, same_lot, same_product, taken_in};
+ghost use Rattle.job_facts.specs.Store.{CountsFaults, Reads, Stays};
+ghost use Rattle.job_facts.specs.declared.request.Request.TheVariants as request;
+ghost use Rattle.job_facts.specs.declared.store.StoreFault.TheVariants.{Memory};
 
+use job_facts::{BatchRow, BatchSize, Change, JobStore, Lot, Made, Refusal, Reply, StoreFault};
 use super::{Decision, refused};
-use crate::change::Change;
-use crate::facts::Lot;
-use crate::refusal::Refusal;
-use crate::reply::{Made, Reply};
-use crate::rows::{BatchRow, BatchSize};
-use crate::store::{JobStore, StoreFault};
 use batch_import::{ImportFault, check_batch};
 use std::alloc::Global;
 use store_data::{Name, Product};
@@ -50,7 +45,7 @@ pub(crate) fn product<S: JobStore>(
 }
 
 // By the product that is kept under its code, and how many there are.
-#[tactic(auto, unfolding(crate::specs::Steps::step))]
+#[tactic(auto, unfolding(job_facts::specs::Steps::step))]
 fn product_by(
     client: &Name,
     product: &Product,
@@ -117,7 +112,7 @@ pub(crate) fn lot<S: JobStore>(
 
 // By the lot that is kept under its name, its product, whether a serial of it lies in a lot, and
 // how many lots there are.
-#[tactic(auto, unfolding(crate::specs::Steps::step))]
+#[tactic(auto, unfolding(job_facts::specs::Steps::step))]
 fn lot_by(
     client: &Name,
     lot: &Lot,
@@ -193,7 +188,7 @@ pub(crate) fn import<'a, S: JobStore>(
 }
 
 // By the batch that is kept under its name, whether it has these bytes, and its size.
-#[tactic(auto, unfolding(crate::specs::Steps::step))]
+#[tactic(auto, unfolding(job_facts::specs::Steps::step))]
 fn import_known(
     client: &Name,
     batch: &Name,
@@ -222,7 +217,7 @@ fn import_known(
 }
 
 // By the product, and how many batches there are.
-#[tactic(auto, unfolding(crate::specs::Steps::step))]
+#[tactic(auto, unfolding(job_facts::specs::Steps::step))]
 fn import_new<'a>(
     alloc: Global,
     client: &Name,

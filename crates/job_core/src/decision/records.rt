@@ -1,22 +1,17 @@
 //! The decisions on blanks, records and closing.
 ghost use Rattle.std.specs.Prelude.{◌≡◌, ℕ, List};
-ghost use Rattle.job_core.specs.Facts.{Facts};
-ghost use Rattle.job_core.specs.Handing.{IsOpenBatch, IsOpenRecord};
-ghost use Rattle.job_core.specs.Rows.{batch_row_of};
-ghost use Rattle.job_core.specs.Sound.{Decides, IsSound};
-ghost use Rattle.job_core.specs.States.{is_batch_finished, is_charged, lot_of, record_state_of};
-ghost use Rattle.job_core.specs.Store.{CountsFaults, Reads, Stays};
-ghost use Rattle.job_core.specs.declared.change.Change.TheVariants.{Discards, Withdraws};
-ghost use Rattle.job_core.specs.declared.reply.Reply.TheVariants.{Discarded, Withdrawn};
-ghost use Rattle.job_core.specs.declared.request.Request.TheVariants as request;
+ghost use Rattle.job_facts.specs.Facts.{Facts};
+ghost use Rattle.job_facts.specs.Handing.{IsOpenBatch, IsOpenRecord};
+ghost use Rattle.job_facts.specs.Rows.{batch_row_of};
+ghost use Rattle.job_facts.specs.Sound.{Decides, IsSound};
+ghost use Rattle.job_facts.specs.States.{is_batch_finished, is_charged, lot_of, record_state_of};
+ghost use Rattle.job_facts.specs.Store.{CountsFaults, Reads, Stays};
+ghost use Rattle.job_facts.specs.declared.change.Change.TheVariants.{Discards, Withdraws};
+ghost use Rattle.job_facts.specs.declared.reply.Reply.TheVariants.{Discarded, Withdrawn};
+ghost use Rattle.job_facts.specs.declared.request.Request.TheVariants as request;
 
+use job_facts::{BatchRow, Change, JobStore, Lot, RecordState, Refusal, Reply, StoreFault};
 use super::{Decision, refused};
-use crate::change::Change;
-use crate::facts::{Lot, RecordState};
-use crate::refusal::Refusal;
-use crate::reply::Reply;
-use crate::rows::BatchRow;
-use crate::store::{JobStore, StoreFault};
 use store_data::Name;
 
 /// The decision on a discard.
@@ -36,7 +31,7 @@ pub(crate) fn discard<S: JobStore>(
 }
 
 // By the blank's lot, and whether it is charged.
-#[tactic(auto, unfolding(crate::specs::Steps::step))]
+#[tactic(auto, unfolding(job_facts::specs::Steps::step))]
 fn discard_by(client: &Name, blank: u64, lot: Option<Lot>, charged: bool) -> Decision<'static>
     ensures { (f : Facts) → IsSound f → lot ≡ lot_of f.lots blank → charged ≡ is_charged f blank
         → Decides f client.now (request.Discard blank) result.0 result.1 }
@@ -49,7 +44,7 @@ fn discard_by(client: &Name, blank: u64, lot: Option<Lot>, charged: bool) -> Dec
 }
 
 /// The decision on a remake.
-#[tactic(auto, unfolding(crate::specs::Steps::step))]
+#[tactic(auto, unfolding(job_facts::specs::Steps::step))]
 pub(crate) fn remake<S: JobStore>(
     store: &mut S,
     client: &Name,
@@ -69,7 +64,7 @@ pub(crate) fn remake<S: JobStore>(
 }
 
 // By the state of the record.
-#[tactic(auto, unfolding(crate::specs::Steps::step))]
+#[tactic(auto, unfolding(job_facts::specs::Steps::step))]
 fn remake_by(client: &Name, batch: &Name, rec: &Name, stands: RecordState) -> Decision<'static>
     ensures { (f : Facts) → IsSound f → IsOpenRecord f batch.now rec.now (Ok stands)
         → Decides f client.now (request.Remake batch.now rec.now) result.0 result.1 }
@@ -85,7 +80,7 @@ fn remake_by(client: &Name, batch: &Name, rec: &Name, stands: RecordState) -> De
 }
 
 /// The decision on a withdrawal.
-#[tactic(auto, unfolding(crate::specs::Steps::step))]
+#[tactic(auto, unfolding(job_facts::specs::Steps::step))]
 pub(crate) fn withdraw<S: JobStore>(
     store: &mut S,
     client: &Name,
@@ -105,7 +100,7 @@ pub(crate) fn withdraw<S: JobStore>(
 }
 
 // By the state of the record.
-#[tactic(auto, unfolding(crate::specs::Steps::step))]
+#[tactic(auto, unfolding(job_facts::specs::Steps::step))]
 fn withdraw_by(client: &Name, batch: &Name, rec: &Name, stands: RecordState) -> Decision<'static>
     ensures { (f : Facts) → IsSound f → IsOpenRecord f batch.now rec.now (Ok stands)
         → Decides f client.now (request.Withdraw batch.now rec.now) result.0 result.1 }
@@ -185,7 +180,7 @@ pub(crate) fn close<S: JobStore>(
 }
 
 // By the batch, and whether each record of it is good or withdrawn.
-#[tactic(auto, unfolding(crate::specs::Steps::step))]
+#[tactic(auto, unfolding(job_facts::specs::Steps::step))]
 fn close_by(client: &Name, batch: &Name, row: Option<BatchRow>, finished: bool) -> Decision<'static>
     ensures { (f : Facts) → IsSound f → row ≡ batch_row_of f batch.now
         → finished ≡ is_batch_finished f batch.now

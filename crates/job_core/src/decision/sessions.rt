@@ -3,31 +3,26 @@ ghost use Rattle.std.specs.Prelude.{◌≡◌, ◌≤◌, ◌<◌, ◌+◌, ℕ,
 ghost use Rattle.std.specs.Prelude.{[], IfOk, OnOk};
 ghost use Rattle.store_data.specs.Cursor.{IsCursor, cursor_at, segment_at};
 ghost use Rattle.store_data.specs.Sequence.{IsPlan, Plan, commands_of, sequence};
-ghost use Rattle.job_core.specs.Facts.{Facts, Session};
-ghost use Rattle.job_core.specs.Handing.{Hands, IsRunning, MayOpen, OpensOrTells, Runs, Went};
-ghost use Rattle.job_core.specs.Rows.{batch_row_of, segment_row, segment_row_of};
-ghost use Rattle.job_core.specs.Rows.{session_row, session_row_of};
+ghost use Rattle.job_facts.specs.Facts.{Facts, Session};
+ghost use Rattle.job_facts.specs.Handing.{Hands, IsRunning, MayOpen, OpensOrTells, Runs, Went};
+ghost use Rattle.job_facts.specs.Rows.{batch_row_of, segment_row, segment_row_of};
+ghost use Rattle.job_facts.specs.Rows.{session_row, session_row_of};
 ghost use Rattle.store_data.specs.declared.cursor.Cursor.{Cursor as CursorValue};
-ghost use Rattle.job_core.specs.Sound.{Decides, IsSound, Makes};
-ghost use Rattle.job_core.specs.States.{first_waiting, is_charged, lot_of, plan_for};
-ghost use Rattle.job_core.specs.States.{running_session, session_cursor};
-ghost use Rattle.job_core.specs.Steps.{opened, take_word};
-ghost use Rattle.job_core.specs.Store.{CountsFaults, Reads, Stays};
-ghost use Rattle.job_core.specs.declared.change.Change.TheVariants.{AddsWord};
-ghost use Rattle.job_core.specs.declared.request.Request.TheVariants as request;
-ghost use Rattle.job_core.specs.declared.rows.SegmentRow.{SegmentRow as SegmentRowValue};
-ghost use Rattle.job_core.specs.declared.rows.SessionRow.{SessionRow as SessionRowValue};
+ghost use Rattle.job_facts.specs.Sound.{Decides, IsSound, Makes};
+ghost use Rattle.job_facts.specs.States.{first_waiting, is_charged, lot_of, plan_for};
+ghost use Rattle.job_facts.specs.States.{running_session, session_cursor};
+ghost use Rattle.job_facts.specs.Steps.{opened, take_word};
+ghost use Rattle.job_facts.specs.Store.{CountsFaults, Reads, Stays};
+ghost use Rattle.job_facts.specs.declared.change.Change.TheVariants.{AddsWord};
+ghost use Rattle.job_facts.specs.declared.request.Request.TheVariants as request;
+ghost use Rattle.job_facts.specs.declared.rows.SegmentRow.{SegmentRow as SegmentRowValue};
+ghost use Rattle.job_facts.specs.declared.rows.SessionRow.{SessionRow as SessionRowValue};
 ghost use Rattle.std.specs.List.{slice_get};
 
+use job_facts::{BatchRow, Change, JobStore, Lot, Refusal, Reply, SegmentRow, SessionRow, SessionState, StoreFault};
 use super::commands::{command, command_from, view};
 use super::records::in_batch;
 use super::{Decision, refused};
-use crate::change::Change;
-use crate::facts::{Lot, SessionState};
-use crate::refusal::Refusal;
-use crate::reply::Reply;
-use crate::rows::{BatchRow, SegmentRow, SessionRow};
-use crate::store::{JobStore, StoreFault};
 use std::alloc::Global;
 use store_data::{Bytes, Class, Cursor, Name, class};
 
@@ -47,7 +42,7 @@ pub(crate) fn abort<S: JobStore>(
 }
 
 // By the session.
-#[tactic(auto, unfolding(crate::specs::Steps::step))]
+#[tactic(auto, unfolding(job_facts::specs::Steps::step))]
 fn abort_by(client: &Name, session: u64, row: Option<SessionRow>) -> Decision<'static>
     ensures { (f : Facts) → IsSound f → row ≡ session_row_of f session
         → Decides f client.now (request.Abort session) result.0 result.1 }
@@ -88,7 +83,7 @@ pub(crate) fn reset<S: JobStore>(
 }
 
 // By the running session.
-#[tactic(auto, unfolding(crate::specs::Steps::step))]
+#[tactic(auto, unfolding(job_facts::specs::Steps::step))]
 fn reset_by(client: &Name, session: Option<u64>) -> Decision<'static>
     ensures { (f : Facts) → IsSound f → session ≡ running_session f client.now
         → Decides f client.now request.Reset result.0 result.1 }
@@ -99,7 +94,7 @@ fn reset_by(client: &Name, session: Option<u64>) -> Decision<'static>
     }
 }
 
-#[tactic(auto, unfolding(crate::specs::Steps::step))]
+#[tactic(auto, unfolding(job_facts::specs::Steps::step))]
 /// The decision on an opening.
 pub(crate) fn open<S: JobStore>(
     alloc: Global,
@@ -229,7 +224,7 @@ fn bytes_or_none(alloc: Global, command: Option<Bytes>) -> Bytes
     }
 }
 
-#[tactic(auto, unfolding(crate::specs::Steps::step))]
+#[tactic(auto, unfolding(job_facts::specs::Steps::step))]
 /// The decision on a status word.
 pub(crate) fn answer<S: JobStore>(
     alloc: Global,

@@ -1,8 +1,8 @@
 use Rattle.std.proofs.Common.{rules, ◌≡◌, ◌∙◌, Ok, None, true, false, sym, ap, arith}
 use Rattle.std.proofs.lemmas.Bool.Decides.{nat_tests}
-use Rattle.job_core.specs.Contents.{entry_of, mark_of}
-use Rattle.job_core.specs.Store.{IsHonest}
-use Rattle.job_core.specs.declared.reply.Reply.TheVariants.{NumberReleased}
+use Rattle.job_facts.specs.Contents.{entry_of, mark_of}
+use Rattle.job_facts.specs.Store.{IsHonest}
+use Rattle.job_facts.specs.declared.reply.Reply.TheVariants.{NumberReleased}
 use Rattle.arrivals.specs.Meaning.{Arrived, is_released, told_again}
 use Rattle.arrivals.specs.Told.{told_of}
 use Rattle.reply_store.proofs.Handling.{Stays-then, handles_decided, handles_told, no_entry, told_kept, told_released}

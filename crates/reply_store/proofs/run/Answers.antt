@@ -1,8 +1,8 @@
 use Rattle.std.proofs.Common.{rules, ◌≡◌, ℕ, Ok, sym, subst, arith, List, take, map}
 use Rattle.std.proofs.lemmas.Grind.{common_steps}
 use Rattle.std.specs.List.{zip}
-use Rattle.job_core.specs.Contents.{Contents}
-use Rattle.job_core.specs.Store.{IsHonest}
+use Rattle.job_facts.specs.Contents.{Contents}
+use Rattle.job_facts.specs.Store.{IsHonest}
 use Rattle.reply_store.specs.Handled.{Handles}
 use Rattle.reply_store.specs.Runs.{arrived, AreNext, Served, Runs}
 use Rattle.reply_store.proofs.Running.{next_more, next_none, runs_more, runs_none, zip_more}

@@ -1,8 +1,8 @@
 use Rattle.std.proofs.Common.{◌≡◌, ◌≤◌, map, length, take, vec_len}
 use Rattle.std.specs.Prelude.{vec_capacity}
 use Rattle.std.specs.List.{zip}
-use Rattle.job_core.specs.Contents.{Contents}
-use Rattle.job_core.specs.Store.{IsHonest}
+use Rattle.job_facts.specs.Contents.{Contents}
+use Rattle.job_facts.specs.Store.{IsHonest}
 use Rattle.reply_store.specs.Runs.{arrived, AreNext, Runs}
 use Rattle.reply_store.proofs.run.Given as goal
 

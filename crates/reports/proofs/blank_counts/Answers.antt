@@ -1,5 +1,5 @@
 use Rattle.std.proofs.Common.{arith, sym, ◌∙◌}
-use Rattle.job_core.specs.Store.{IsHonest}
+use Rattle.job_facts.specs.Store.{IsHonest}
 use Rattle.reports.proofs.BlankLemmas.{all_counted}
 use Rattle.reports.proofs.ReportLemmas.{blank_told}
 use Rattle.reports.proofs.blank_counts.Goals as goal

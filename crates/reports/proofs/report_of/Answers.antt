@@ -1,5 +1,5 @@
 use Rattle.std.proofs.Common.{ℕ, Vec, Global, arith, sym, ap, ◌∙◌}
-use Rattle.job_core.specs.Store.{IsHonest}
+use Rattle.job_facts.specs.Store.{IsHonest}
 use Rattle.reports.specs.Report.{text_with}
 use Rattle.reports.proofs.ReportLemmas.{report_told}
 use Rattle.reports.proofs.report_of.Goals as goal

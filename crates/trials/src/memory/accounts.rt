@@ -2,7 +2,7 @@
 use crate::again::{MayWantMemory, at_last};
 use crate::exchanges::{REPORT, name, stocked};
 use crate::failing_writers::Limited;
-use job_core::Refusal;
+use job_facts::Refusal;
 use reports::{AccountFault, batch_counts, blank_counts, close_report};
 use std::test::Fail;
 

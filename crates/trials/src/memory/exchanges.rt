@@ -1,10 +1,11 @@
 //! A decision, and a list of arrivals.
-ghost use Rattle.job_core.specs.Requests.{IsArrival, IsRequest};
+ghost use Rattle.job_facts.specs.Requests.{IsArrival, IsRequest};
 
 use crate::again::{MayWantMemory, at_last};
 use crate::exchanges::{name, stocked};
 use arrivals::body_of;
-use job_core::{Arrival, Call, JobStore, Reply, Request, StoreFault, decide};
+use job_core::decide;
+use job_facts::{Arrival, Call, JobStore, Reply, Request, StoreFault};
 use list_store::ListStore;
 use reply_store::run;
 use std::alloc::Global;

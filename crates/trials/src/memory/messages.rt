@@ -3,7 +3,7 @@ ghost use Rattle.wire.specs.Sending.{IsSendable};
 
 use crate::again::{MayWantMemory, at_last};
 use crate::exchanges::{asked, name};
-use job_core::{Call, Reply, Request};
+use job_facts::{Call, Reply, Request};
 use std::alloc::Global;
 use std::process::Abort;
 use std::test::Fail;

@@ -1,6 +1,6 @@
 use Rattle.std.proofs.Common.{◌+◌, drop, subst, take}
 use Rattle.store_data.specs.Sequence.{commands_of}
-use Rattle.job_core.specs.Sound.{AreWords}
+use Rattle.job_facts.specs.Sound.{AreWords}
 use Rattle.audit_cards.specs.Cards.{status_words}
 use Rattle.audit_cards.proofs.CardLemmas.{status_split}
 use Rattle.audit_cards.proofs.cards.card_after.Goals as goal

@@ -2,7 +2,7 @@ use Rattle.std.proofs.Common.{◌∙◌, length, sym, ap, subst}
 use Rattle.std.proofs.lemmas.Bool.{false≢true}
 use Rattle.std.proofs.lemmas.List.{length-map}
 use Rattle.store_data.specs.Sequence.{commands_of}
-use Rattle.job_core.specs.Sound.{AreWords}
+use Rattle.job_facts.specs.Sound.{AreWords}
 use Rattle.table_rows.specs.Tables.{StoredWord}
 use Rattle.audit_laws.specs.Audited.{named_session}
 use Rattle.audit_cards.specs.Cards.{Leaves}

@@ -1,7 +1,7 @@
 use Rattle.std.proofs.Common.{◌∙◌, sym, ap}
 use Rattle.std.specs.Prelude.{option_map}
 use Rattle.std.proofs.lemmas.Option.{none-some, same_Some}
-use Rattle.job_core.specs.declared.facts.Lot.{Lot}
+use Rattle.job_facts.specs.declared.facts.Lot.{Lot}
 use Rattle.ordered_rows.proofs.Told.{refused}
 use Rattle.audit_cards.proofs.sessions.is_for.Goals as goal
 

@@ -1,7 +1,7 @@
 use Rattle.std.proofs.Common.{◌≡◌, ◌+◌, ◌≤◌, ◌^◌, ◌∙◌, sym}
 use Rattle.std.specs.Prelude.{count_by}
 use Rattle.std.proofs.lemmas.Bool.{false≢true}
-use Rattle.job_core.specs.States.{is_in}
+use Rattle.job_facts.specs.States.{is_in}
 use Rattle.table_rows.specs.Tables.{StoredLot}
 use Rattle.ordered_rows.proofs.SameLists.{All-done, All-here, All-next}
 use Rattle.ordered_rows.proofs.Told.{granted, refused}

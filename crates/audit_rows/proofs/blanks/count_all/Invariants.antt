@@ -1,6 +1,6 @@
 use Rattle.std.proofs.Common.{◌≡◌, All, take}
 use Rattle.std.specs.Prelude.{count_by}
-use Rattle.job_core.specs.States.{is_in}
+use Rattle.job_facts.specs.States.{is_in}
 use Rattle.table_rows.specs.Tables.{StoredLot}
 use Rattle.audit_rows.proofs.blanks.count_all.Given as goal
 

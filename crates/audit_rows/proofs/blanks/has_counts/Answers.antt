@@ -1,6 +1,6 @@
 use Rattle.std.proofs.Common.{◌≡◌, ◌∙◌, All, List, ap, subst, sym}
 use Rattle.std.specs.Prelude.{count_by}
-use Rattle.job_core.specs.States.{is_in}
+use Rattle.job_facts.specs.States.{is_in}
 use Rattle.table_rows.specs.Tables.{StoredBlank, StoredLot, Tables}
 use Rattle.facts_of_rows.specs.Decided.{discarded_rows}
 use Rattle.ordered_rows.proofs.Told.{told_as}

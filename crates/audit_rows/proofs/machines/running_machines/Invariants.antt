@@ -1,6 +1,6 @@
 use Rattle.std.proofs.Common.{◌≡◌, map, take}
 use Rattle.std.specs.Prelude.{filter}
-use Rattle.job_core.specs.States.{is_running}
+use Rattle.job_facts.specs.States.{is_running}
 use Rattle.table_rows.specs.Tables.{StoredSession}
 use Rattle.audit_rows.proofs.machines.running_machines.Given as goal
 

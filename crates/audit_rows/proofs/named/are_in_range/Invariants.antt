@@ -1,7 +1,7 @@
 use Rattle.std.proofs.Common.{All, take}
 use Rattle.store_data.specs.declared.row.Product.{Product}
 use Rattle.store_data.specs.Sequence.{IsProduct}
-use Rattle.job_core.specs.Sound.{IsName}
+use Rattle.job_facts.specs.Sound.{IsName}
 use Rattle.audit_rows.proofs.named.are_in_range.Given as goal
 
 abbrev pub invariant-loop-row : goal.invariant-loop-row

@@ -1,6 +1,6 @@
 use Rattle.std.proofs.Common.{◌∙◌, sym}
 use Rattle.std.proofs.lemmas.Bool.{false≢true}
-use Rattle.job_core.specs.Sound.{IsLot}
+use Rattle.job_facts.specs.Sound.{IsLot}
 use Rattle.table_rows.specs.Tables.{StoredLot}
 use Rattle.ordered_rows.proofs.SameLists.{All-done, All-here, All-next}
 use Rattle.ordered_rows.proofs.Told.{granted, refused}

@@ -1,5 +1,5 @@
 use Rattle.std.proofs.Common.{All, take}
-use Rattle.job_core.specs.Sound.{IsLot}
+use Rattle.job_facts.specs.Sound.{IsLot}
 use Rattle.table_rows.specs.Tables.{StoredLot}
 use Rattle.audit_rows.proofs.named.are_lots_in_range.Given as goal
 

@@ -1,6 +1,6 @@
 use Rattle.std.proofs.Common.{All, take}
 use Rattle.std.proofs.Common.{◌≡◌, true}
-use Rattle.job_core.specs.Contents.{Entry, is_above}
+use Rattle.job_facts.specs.Contents.{Entry, is_above}
 use Rattle.audit_rows.proofs.replies.are_above.Given as goal
 
 abbrev pub invariant-loop-reply : goal.invariant-loop-reply

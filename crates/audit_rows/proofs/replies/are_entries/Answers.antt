@@ -1,6 +1,6 @@
 use Rattle.std.proofs.Common.{◌∙◌, sym}
 use Rattle.std.proofs.lemmas.Bool.{false≢true}
-use Rattle.job_core.specs.Contents.{IsEntry}
+use Rattle.job_facts.specs.Contents.{IsEntry}
 use Rattle.ordered_rows.proofs.SameLists.{All-done, All-here, All-next}
 use Rattle.ordered_rows.proofs.Told.{granted, refused}
 use Rattle.audit_rows.proofs.replies.are_entries.Goals as goal

@@ -1,5 +1,5 @@
 use Rattle.std.proofs.Common.{All, take}
-use Rattle.job_core.specs.Contents.{IsEntry}
+use Rattle.job_facts.specs.Contents.{IsEntry}
 use Rattle.audit_rows.proofs.replies.are_entries.Given as goal
 
 abbrev pub invariant-loop-reply : goal.invariant-loop-reply

@@ -1,6 +1,6 @@
 use Rattle.std.proofs.Common.{◌∙◌, sym}
 use Rattle.std.proofs.lemmas.Bool.{false≢true}
-use Rattle.job_core.specs.Contents.{IsMark}
+use Rattle.job_facts.specs.Contents.{IsMark}
 use Rattle.ordered_rows.proofs.SameLists.{All-done, All-here, All-next}
 use Rattle.ordered_rows.proofs.Told.{granted, refused}
 use Rattle.audit_rows.proofs.replies.are_marks.Goals as goal

@@ -1,5 +1,5 @@
 use Rattle.std.proofs.Common.{All, take}
-use Rattle.job_core.specs.Contents.{IsMark}
+use Rattle.job_facts.specs.Contents.{IsMark}
 use Rattle.audit_rows.proofs.replies.are_marks.Given as goal
 
 abbrev pub invariant-loop-mark : goal.invariant-loop-mark

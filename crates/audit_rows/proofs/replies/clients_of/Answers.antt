@@ -1,4 +1,4 @@
-use Rattle.job_core.specs.Contents.{IsMark}
+use Rattle.job_facts.specs.Contents.{IsMark}
 use Rattle.ordered_rows.proofs.SameLists.{All-here}
 use Rattle.audit_rows.proofs.replies.clients_of.Goals as goal
 

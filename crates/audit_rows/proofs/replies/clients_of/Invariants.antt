@@ -1,5 +1,5 @@
 use Rattle.std.proofs.Common.{◌≡◌, map, take}
-use Rattle.job_core.specs.Contents.{Mark}
+use Rattle.job_facts.specs.Contents.{Mark}
 use Rattle.audit_rows.proofs.replies.clients_of.Given as goal
 
 abbrev pub invariant-loop-mark : goal.invariant-loop-mark

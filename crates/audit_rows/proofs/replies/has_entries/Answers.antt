@@ -1,5 +1,5 @@
 use Rattle.std.proofs.Common.{◌≡◌, ◌∙◌, true, All, List, ap, subst}
-use Rattle.job_core.specs.Contents.{Entry, IsEntry}
+use Rattle.job_facts.specs.Contents.{Entry, IsEntry}
 use Rattle.table_rows.specs.Tables.{Tables}
 use Rattle.audit_rows.proofs.replies.has_entries.Goals as goal
 

@@ -1,4 +1,4 @@
-use Rattle.job_core.specs.Contents.{IsEntry}
+use Rattle.job_facts.specs.Contents.{IsEntry}
 use Rattle.ordered_rows.proofs.SameLists.{All-here}
 use Rattle.audit_rows.proofs.replies.numbers_of.Goals as goal
 

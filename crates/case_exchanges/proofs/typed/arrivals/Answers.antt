@@ -1,6 +1,6 @@
 use Rattle.std.proofs.Common.{All, IfSome, subst, sym}
 use Rattle.std.proofs.lemmas.List.Elements.{All-push}
-use Rattle.job_core.specs.Requests.{IsArrival}
+use Rattle.job_facts.specs.Requests.{IsArrival}
 use Rattle.wire.specs.Asks.{IsInRange}
 use Rattle.case_exchanges.proofs.typed.arrivals.Goals as goal
 

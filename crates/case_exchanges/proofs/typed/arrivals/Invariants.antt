@@ -1,5 +1,5 @@
 use Rattle.std.proofs.Common.{All}
-use Rattle.job_core.specs.Requests.{IsArrival}
+use Rattle.job_facts.specs.Requests.{IsArrival}
 use Rattle.case_exchanges.proofs.typed.arrivals.Given as goal
 
 abbrev pub invariant-loop-exchange : goal.invariant-loop-exchange

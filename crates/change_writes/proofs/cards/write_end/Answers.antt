@@ -1,5 +1,5 @@
 use Rattle.std.proofs.Common.{arith}
-use Rattle.job_core.specs.declared.facts.SessionState.TheVariants as session
+use Rattle.job_facts.specs.declared.facts.SessionState.TheVariants as session
 use Rattle.sql_base.proofs.Ending.{wrote_then}
 use Rattle.sql_rows.specs.Image.{Moves}
 use Rattle.table_rows.specs.After.{stopped}

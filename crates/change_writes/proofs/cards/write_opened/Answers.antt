@@ -2,7 +2,7 @@ use Rattle.std.proofs.Common.{false, arith}
 use Rattle.sqlite.specs.Held.{state}
 use Rattle.sqlite.specs.State.{HasCleanDisk}
 use Rattle.sqlite.proofs.InsideLemmas.{keeps_then}
-use Rattle.job_core.specs.declared.facts.RecordState.TheVariants as rec
+use Rattle.job_facts.specs.declared.facts.RecordState.TheVariants as rec
 use Rattle.sql_base.proofs.Ending.{inside_then, wrote_then}
 use Rattle.sql_rows.specs.Image.{Moves}
 use Rattle.table_rows.specs.After.{less, more, new_session, one_opened, record_after}

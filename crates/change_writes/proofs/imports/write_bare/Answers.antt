@@ -1,7 +1,7 @@
 use Rattle.std.proofs.Common.{[], arith}
 use Rattle.sqlite.specs.Held.{state}
 use Rattle.batch_import.specs.Batch.{batch_of, coming_of}
-use Rattle.job_core.specs.States.{rows_or_none}
+use Rattle.job_facts.specs.States.{rows_or_none}
 use Rattle.sql_rows.specs.Image.{Moves}
 use Rattle.table_rows.specs.After.{batch_rows_after, new_batch}
 use Rattle.table_rows.specs.Tables.{with_batch}

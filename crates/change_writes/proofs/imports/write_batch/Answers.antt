@@ -2,7 +2,7 @@ use Rattle.std.proofs.Common.{[], arith}
 use Rattle.sqlite.specs.Held.{state}
 use Rattle.sqlite.proofs.InsideLemmas.{keeps_then}
 use Rattle.batch_import.specs.Batch.{batch_of}
-use Rattle.job_core.specs.States.{rows_or_none}
+use Rattle.job_facts.specs.States.{rows_or_none}
 use Rattle.sql_base.proofs.Ending.{inside_then}
 use Rattle.sql_rows.specs.Image.{Moves}
 use Rattle.table_rows.specs.After.{batch_rows_after}

@@ -1,6 +1,6 @@
 use Rattle.std.proofs.Common.{◌≡◌, rules}
-use Rattle.job_core.specs.declared.facts.RecordState.TheVariants as rec
-use Rattle.job_core.specs.declared.facts.SessionState.TheVariants as session
+use Rattle.job_facts.specs.declared.facts.RecordState.TheVariants as rec
+use Rattle.job_facts.specs.declared.facts.SessionState.TheVariants as session
 use Rattle.sql_rows.specs.Image.{Moves}
 use Rattle.table_rows.specs.After.{passed, stopped}
 use Rattle.change_writes.proofs.Parts.{wrote_many}

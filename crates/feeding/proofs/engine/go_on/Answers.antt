@@ -1,7 +1,7 @@
 use Rattle.std.proofs.Common.{◌∙◌, Bor, Err, List, ℕ, ap, option_map, sym, subst}
 use Rattle.std.proofs.lemmas.Result.{err_from_is_err_and}
 use Rattle.text_io.specs.Written.{AppendsBeginning}
-use Rattle.job_core.specs.declared.reply.Reply.{Reply}
+use Rattle.job_facts.specs.declared.reply.Reply.{Reply}
 use Rattle.feeding.specs.Events.{IsNotedOf, lines_under}
 use Rattle.feeding.specs.Feeds.{Feed, hears}
 use Rattle.feeding.specs.Tries.{IsTold}

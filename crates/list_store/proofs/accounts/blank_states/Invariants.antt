@@ -1,8 +1,8 @@
 use Rattle.std.proofs.Common.{◌≡◌, map, take}
 use Rattle.std.specs.Prelude.{filter}
-use Rattle.job_core.specs.Accounts.{is_blank_of}
-use Rattle.job_core.specs.Facts.{Session}
-use Rattle.job_core.specs.States.{session_state}
+use Rattle.job_facts.specs.Accounts.{is_blank_of}
+use Rattle.job_facts.specs.Facts.{Session}
+use Rattle.job_facts.specs.States.{session_state}
 use Rattle.list_store.proofs.accounts.blank_states.Given as goal
 
 abbrev pub invariant-loop-session : goal.invariant-loop-session

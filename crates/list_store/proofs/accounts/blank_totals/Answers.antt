@@ -1,9 +1,9 @@
 use Rattle.std.proofs.Common.{◌∙◌, ℕ, List, ap, length, map}
 use Rattle.std.specs.Prelude.{count_by, filter, sum_by}
-use Rattle.job_core.specs.declared.facts.Lot.{Lot}
-use Rattle.job_core.specs.Accounts.{is_blank_of, is_lot_of}
-use Rattle.job_core.specs.Facts.{Facts, Session}
-use Rattle.job_core.specs.States.{is_good, is_running, is_spoiled, lot_of, session_state}
+use Rattle.job_facts.specs.declared.facts.Lot.{Lot}
+use Rattle.job_facts.specs.Accounts.{is_blank_of, is_lot_of}
+use Rattle.job_facts.specs.Facts.{Facts, Session}
+use Rattle.job_facts.specs.States.{is_good, is_running, is_spoiled, lot_of, session_state}
 use Rattle.list_store.specs.Sessions.{lots_for}
 use Rattle.list_store.proofs.AccountLemmas.{blank_totals_of}
 use Rattle.list_store.proofs.accounts.blank_totals.Goals as goal

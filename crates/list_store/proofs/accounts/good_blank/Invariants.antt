@@ -1,6 +1,6 @@
 use Rattle.std.proofs.Common.{◌≡◌, drop}
 use Rattle.std.specs.Prelude.{find}
-use Rattle.job_core.specs.States.{is_good, session_state}
+use Rattle.job_facts.specs.States.{is_good, session_state}
 use Rattle.list_store.specs.Sessions.{sessions_of_record}
 use Rattle.list_store.proofs.accounts.good_blank.Given as goal
 

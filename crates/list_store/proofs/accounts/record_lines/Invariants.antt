@@ -1,5 +1,5 @@
 use Rattle.std.proofs.Common.{◌≡◌, map, take}
-use Rattle.job_core.specs.Accounts.{record_line}
+use Rattle.job_facts.specs.Accounts.{record_line}
 use Rattle.list_store.proofs.accounts.record_lines.Given as goal
 
 abbrev pub invariant-loop-rec : goal.invariant-loop-rec

@@ -1,5 +1,5 @@
 use Rattle.std.proofs.Common.{◌≡◌, map, take}
-use Rattle.job_core.specs.States.{record_state}
+use Rattle.job_facts.specs.States.{record_state}
 use Rattle.list_store.proofs.accounts.record_states.Given as goal
 
 abbrev pub invariant-loop-rec : goal.invariant-loop-rec

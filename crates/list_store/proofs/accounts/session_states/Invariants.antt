@@ -1,7 +1,7 @@
 use Rattle.std.proofs.Common.{◌≡◌, map, take}
 use Rattle.std.specs.Prelude.{bytes_eq, filter}
-use Rattle.job_core.specs.Facts.{Session}
-use Rattle.job_core.specs.States.{session_state}
+use Rattle.job_facts.specs.Facts.{Session}
+use Rattle.job_facts.specs.States.{session_state}
 use Rattle.list_store.proofs.accounts.session_states.Given as goal
 
 abbrev pub invariant-loop-session : goal.invariant-loop-session

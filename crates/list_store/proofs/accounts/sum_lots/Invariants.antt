@@ -1,6 +1,6 @@
 use Rattle.std.proofs.Common.{◌≡◌, take}
 use Rattle.std.specs.Prelude.{sum_by}
-use Rattle.job_core.specs.declared.facts.Lot.{Lot}
+use Rattle.job_facts.specs.declared.facts.Lot.{Lot}
 use Rattle.list_store.specs.Sessions.{lots_for}
 use Rattle.list_store.proofs.accounts.sum_lots.Given as goal
 

@@ -1,5 +1,5 @@
 use Rattle.std.proofs.Common.{arith}
-use Rattle.job_core.specs.Facts.{worded}
+use Rattle.job_facts.specs.Facts.{worded}
 use Rattle.list_store.proofs.ChangeLemmas.{changed_session, no_session}
 use Rattle.list_store.proofs.changes.add_word.Goals as goal
 

@@ -1,5 +1,5 @@
 use Rattle.std.proofs.Common.{◌≡◌, drop}
-use Rattle.job_core.specs.Contents.{entry_of}
+use Rattle.job_facts.specs.Contents.{entry_of}
 use Rattle.list_store.proofs.kept.reply_of.Given as goal
 
 -- no row so far is of the number

@@ -1,6 +1,6 @@
 use Rattle.std.proofs.Common.{rules}
 use Rattle.std.proofs.lemmas.Fn.{filter_same}
-use Rattle.job_core.specs.Contents.{is_above}
+use Rattle.job_facts.specs.Contents.{is_above}
 use Rattle.list_store.proofs.marks.drop_released.Goals as goal
 
 pub returns : goal.returns

@@ -1,5 +1,5 @@
 use Rattle.std.proofs.Common.{◌≡◌, drop}
-use Rattle.job_core.specs.Contents.{mark_of}
+use Rattle.job_facts.specs.Contents.{mark_of}
 use Rattle.list_store.proofs.marks.mark_of.Given as goal
 
 -- none so far is of the client

@@ -1,7 +1,7 @@
 use Rattle.std.proofs.Common.{◌≡◌, ◌∷◌, [], ◌++◌, ◌∙◌, Bool, not, ap, rules}
 use Rattle.std.specs.Prelude.{filter}
 use Rattle.std.proofs.lemmas.Fn.{filter_same}
-use Rattle.job_core.specs.Contents.{Mark, has_mark}
+use Rattle.job_facts.specs.Contents.{Mark, has_mark}
 use Rattle.list_store.proofs.marks.set_mark.Goals as goal
 
 pub returns-clause-ok : goal.returns-clause-ok

@@ -1,5 +1,5 @@
 use Rattle.std.proofs.Common.{◌≡◌, drop}
-use Rattle.job_core.specs.States.{product_named}
+use Rattle.job_facts.specs.States.{product_named}
 use Rattle.list_store.proofs.names.product_named.Given as goal
 
 -- none so far is of the code

@@ -1,8 +1,8 @@
 use Rattle.std.proofs.Common.{ap, ◌∙◌}
 use Rattle.std.specs.Prelude.{unwrap_or}
 use Rattle.store_data.specs.Sequence.{Plan, commands_of, no_plan}
-use Rattle.job_core.specs.Facts.{Session}
-use Rattle.job_core.specs.States.{state_with}
+use Rattle.job_facts.specs.Facts.{Session}
+use Rattle.job_facts.specs.States.{state_with}
 use Rattle.list_store.specs.Sessions.{plan_of_session}
 use Rattle.list_store.proofs.SessionLemmas.{state_under_plan}
 use Rattle.list_store.proofs.sessions.session_state.Goals as goal

@@ -1,6 +1,6 @@
 use Rattle.std.proofs.Common.{◌≡◌, drop}
 use Rattle.std.specs.Prelude.{find}
-use Rattle.job_core.specs.States.{is_waiting, record_state}
+use Rattle.job_facts.specs.States.{is_waiting, record_state}
 use Rattle.list_store.proofs.states.first_waiting.Given as goal
 
 -- none so far waits

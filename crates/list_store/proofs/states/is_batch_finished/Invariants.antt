@@ -1,6 +1,6 @@
 use Rattle.std.proofs.Common.{◌≡◌, drop}
 use Rattle.std.specs.List.{list_all}
-use Rattle.job_core.specs.States.{is_finished, record_state}
+use Rattle.job_facts.specs.States.{is_finished, record_state}
 use Rattle.list_store.proofs.states.is_batch_finished.Given as goal
 
 -- all so far are finished

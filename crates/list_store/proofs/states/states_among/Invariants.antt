@@ -1,5 +1,5 @@
 use Rattle.std.proofs.Common.{◌≡◌, map, take}
-use Rattle.job_core.specs.States.{session_state}
+use Rattle.job_facts.specs.States.{session_state}
 use Rattle.list_store.specs.Sessions.{sessions_of_record}
 use Rattle.list_store.proofs.states.states_among.Given as goal
 

@@ -1,6 +1,6 @@
 use Rattle.std.proofs.Common.{sym, subst}
-use Rattle.job_core.specs.Contents.{Entry}
-use Rattle.job_core.specs.Store.{Commits}
+use Rattle.job_facts.specs.Contents.{Entry}
+use Rattle.job_facts.specs.Store.{Commits}
 use Rattle.reply_store.specs.declared.deciding.Effect.{Effect}
 use Rattle.reply_store.specs.Effects.{IsOwedBy, after_effect}
 use Rattle.reply_store.proofs.settling.put.Goals as goal

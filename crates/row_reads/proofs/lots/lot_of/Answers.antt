@@ -1,5 +1,5 @@
 use Rattle.std.proofs.Common.{sym, ap, ◌∙◌}
-use Rattle.job_core.specs.States.{is_in, lot_of}
+use Rattle.job_facts.specs.States.{is_in, lot_of}
 use Rattle.step_laws.proofs.Permuted.{at_most_one, find_moved}
 use Rattle.row_reads.proofs.lots.lot_of.Goals as goal
 

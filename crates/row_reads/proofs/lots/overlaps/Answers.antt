@@ -1,6 +1,6 @@
 use Rattle.std.proofs.Common.{sym, ap, ◌∙◌}
 use Rattle.std.proofs.lemmas.List.Sorted.{list_any-IsPermutation}
-use Rattle.job_core.specs.States.{any_overlaps, overlaps}
+use Rattle.job_facts.specs.States.{any_overlaps, overlaps}
 use Rattle.row_reads.proofs.lots.overlaps.Goals as goal
 
 pub returns-clause-found : goal.returns-clause-found

@@ -1,4 +1,4 @@
-use Rattle.job_core.specs.Contents.{Mark}
+use Rattle.job_facts.specs.Contents.{Mark}
 use Rattle.sql_base.proofs.Ending.{wrote}
 use Rattle.sql_rows.specs.Image.{Moves}
 use Rattle.table_rows.specs.Tables.{with_mark}

@@ -1,6 +1,6 @@
 use Rattle.std.proofs.Common.{arith}
 use Rattle.sqlite.specs.Held.{state}
-use Rattle.job_core.specs.Contents.{IsOwed, committed}
+use Rattle.job_facts.specs.Contents.{IsOwed, committed}
 use Rattle.sql_rows.specs.Image.{Moves}
 use Rattle.table_rows.specs.After.{rows_after}
 use Rattle.table_rows.specs.Kept.{kept_reply}

@@ -1,5 +1,5 @@
 use Rattle.sqlite.specs.Held.{state}
-use Rattle.job_core.specs.Contents.{IsOwedRelease, released}
+use Rattle.job_facts.specs.Contents.{IsOwedRelease, released}
 use Rattle.sql_rows.specs.Image.{Moves}
 use Rattle.table_rows.specs.Kept.{kept_reply}
 use Rattle.store_commits.specs.Written.{rows_written}

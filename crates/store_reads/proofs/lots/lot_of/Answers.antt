@@ -1,7 +1,7 @@
 use Rattle.std.proofs.Common.{◌≡◌, true, false, ap, ◌∙◌}
 use Rattle.sqlite.specs.Held.{state}
-use Rattle.job_core.specs.declared.facts.Lot.{Lot}
-use Rattle.job_core.specs.States.{is_in, lot_of}
+use Rattle.job_facts.specs.declared.facts.Lot.{Lot}
+use Rattle.job_facts.specs.States.{is_in, lot_of}
 use Rattle.table_rows.specs.Tables.{StoredLot}
 use Rattle.rows_of_facts.specs.Image.{stored_lots}
 use Rattle.rows_answer.proofs.Finding.{AllPairs-map}

@@ -1,6 +1,6 @@
 use Rattle.std.proofs.Common.{ap, ◌∙◌}
 use Rattle.sqlite.specs.Held.{state}
-use Rattle.job_core.specs.States.{any_overlaps}
+use Rattle.job_facts.specs.States.{any_overlaps}
 use Rattle.store_reads.proofs.Telling.{tells}
 use Rattle.store_reads.proofs.lots.overlaps.Goals as goal
 

@@ -3,7 +3,7 @@ use Rattle.std.specs.Prelude.{option_map}
 use Rattle.sqlite.specs.Held.{state}
 use Rattle.store_data.specs.Cursor.{segment_at}
 use Rattle.store_data.specs.Sequence.{IsRow, plan_of}
-use Rattle.job_core.specs.Rows.{segment_row}
+use Rattle.job_facts.specs.Rows.{segment_row}
 use Rattle.store_reads.specs.Segments.{product_in, rows_in}
 use Rattle.store_reads.proofs.SegmentRows.{segment_told, segment_without_product, segment_without_rows}
 use Rattle.store_reads.proofs.Told.{shows_as, told}

@@ -1,6 +1,6 @@
 use Rattle.std.proofs.Common.{◌≡◌, ◌≤◌, List, ℕ, length, subst, sym}
-use Rattle.job_core.specs.declared.request.Call.TheVariants.{Job}
-use Rattle.job_core.specs.declared.request.Request.{Request}
+use Rattle.job_facts.specs.declared.request.Call.TheVariants.{Job}
+use Rattle.job_facts.specs.declared.request.Request.{Request}
 use Rattle.text_io.specs.Inputs.{most_input}
 use Rattle.wire.specs.Sending.{IsSendable}
 use Rattle.wire.proofs.Arriving.{file_message, same_job}

@@ -1,5 +1,5 @@
 use Rattle.std.proofs.Common.{◌++◌, List, option_map, refl, subst, Bor, ℕ}
-use Rattle.job_core.specs.declared.reply.Reply.{Reply}
+use Rattle.job_facts.specs.declared.reply.Reply.{Reply}
 use Rattle.feeding.specs.Events.{IsNoted, again_line, rejection_lines}
 use Rattle.feeding.proofs.Noting.{again_some, exhausted_of, lost, noted_line, noted_then}
 use Rattle.feeding.proofs.events.Tried.note.Goals as goal

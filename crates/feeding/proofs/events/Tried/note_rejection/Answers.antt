@@ -1,5 +1,5 @@
 use Rattle.std.proofs.Common.{◌∙◌, Some, option_map, sym, subst, ap, Bor}
-use Rattle.job_core.specs.declared.reply.Reply.{Reply}
+use Rattle.job_facts.specs.declared.reply.Reply.{Reply}
 use Rattle.feeding.specs.Events.{IsNoted, rejection_lines}
 use Rattle.feeding.proofs.Noting.{noted_line}
 use Rattle.feeding.proofs.events.Tried.note_rejection.Goals as goal

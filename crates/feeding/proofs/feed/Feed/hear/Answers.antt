@@ -1,5 +1,5 @@
 use Rattle.std.proofs.Common.{◌<◌, ◌∙◌, Bor, ap, sym, subst, option_map}
-use Rattle.job_core.specs.declared.reply.Reply.{Reply}
+use Rattle.job_facts.specs.declared.reply.Reply.{Reply}
 use Rattle.feeding.specs.Views.{feed_view}
 use Rattle.feeding.specs.Events.{without_numbers}
 use Rattle.feeding.proofs.Going.{same_tries}

@@ -1,7 +1,7 @@
 use Rattle.std.proofs.Common.{arith, ap, length, ◌≡◌}
 use Rattle.store_data.specs.Cursor.{PlacedSegment}
 use Rattle.store_data.proofs.CursorLemmas.{fits_there}
-use Rattle.job_core.specs.Rows.{placed_of}
+use Rattle.job_facts.specs.Rows.{placed_of}
 use Rattle.job_core.proofs.decision.commands.command_in.Goals as goal
 use Rattle.job_core.proofs.decision.commands.command_in.Goals.{then-view-cursor-via-then-view-cursor, then-view-cursor-via-else-view-cursor+then-cursor-gt256}
 

@@ -1,6 +1,6 @@
 use Rattle.std.proofs.Common.{arith, refl, sym, ◌∙◌, ◌<◌, length}
 use Rattle.std.proofs.lemmas.Bool.{lt-leb}
-use Rattle.job_core.proofs.SoundFacts.{sound_lot}
+use Rattle.job_facts.proofs.SoundFacts.{sound_lot}
 use Rattle.job_core.proofs.decision.products.new_lot.Goals as goal
 
 pub returns-in-Some-3 : goal.returns-in-Some-3

@@ -1,7 +1,7 @@
 use Rattle.std.proofs.Common.{arith, refl, sym, ◌∙◌, ◌<◌, length}
 use Rattle.std.proofs.lemmas.Bool.{lt-leb}
-use Rattle.job_core.specs.Steps.{step}
-use Rattle.job_core.proofs.SoundFacts.{sound_product}
+use Rattle.job_facts.specs.Steps.{step}
+use Rattle.job_facts.proofs.SoundFacts.{sound_product}
 use Rattle.job_core.proofs.decision.products.product_by.Goals as goal
 
 pub returns-in-None-2 : goal.returns-in-None-2

@@ -1,5 +1,5 @@
 use Rattle.std.proofs.Common.{refl}
-use Rattle.job_core.proofs.SoundFacts.{sound_batch}
+use Rattle.job_facts.proofs.SoundFacts.{sound_batch}
 use Rattle.job_core.proofs.decision.products.taken_in.Goals as goal
 
 pub returns-in-Ok-clause-value : goal.returns-in-Ok-clause-value

@@ -1,6 +1,6 @@
 use Rattle.std.proofs.Common.{refl, sym, ◌∙◌}
-use Rattle.job_core.specs.Steps.{step}
-use Rattle.job_core.proofs.SoundFacts.{sound_close}
+use Rattle.job_facts.specs.Steps.{step}
+use Rattle.job_facts.proofs.SoundFacts.{sound_close}
 use Rattle.job_core.proofs.decision.records.close_by.Goals as goal
 
 pub returns-in-Ok : goal.returns-in-Ok

@@ -1,8 +1,8 @@
 use Rattle.std.proofs.Common.{refl, sym, subst, ◌∙◌}
-use Rattle.job_core.specs.Sound.{Decides}
-use Rattle.job_core.specs.Steps.{step}
-use Rattle.job_core.specs.declared.request.Request.TheVariants as request
-use Rattle.job_core.proofs.SoundFacts.{sound_discard}
+use Rattle.job_facts.specs.Sound.{Decides}
+use Rattle.job_facts.specs.Steps.{step}
+use Rattle.job_facts.specs.declared.request.Request.TheVariants as request
+use Rattle.job_facts.proofs.SoundFacts.{sound_discard}
 use Rattle.job_core.proofs.decision.records.discard_by.Goals as goal
 
 pub returns-in-Some-2 : goal.returns-in-Some-2

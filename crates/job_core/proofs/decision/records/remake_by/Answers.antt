@@ -1,7 +1,7 @@
 use Rattle.std.proofs.Common.{Ok, subst}
-use Rattle.job_core.specs.Handing.{IsOpenRecord}
-use Rattle.job_core.specs.Steps.{remade, step}
-use Rattle.job_core.proofs.SoundFacts.{sound_remake}
+use Rattle.job_facts.specs.Handing.{IsOpenRecord}
+use Rattle.job_facts.specs.Steps.{remade, step}
+use Rattle.job_facts.proofs.SoundFacts.{sound_remake}
 use Rattle.job_core.proofs.decision.records.remake_by.Goals as goal
 
 pub returns-in-Failed : goal.returns-in-Failed

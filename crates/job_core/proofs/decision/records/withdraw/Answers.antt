@@ -1,5 +1,5 @@
 use Rattle.std.proofs.Common.{subst}
-use Rattle.job_core.specs.Handing.{IsOpenRecord}
+use Rattle.job_facts.specs.Handing.{IsOpenRecord}
 use Rattle.job_core.proofs.decision.records.withdraw.Goals as goal
 
 pub returns-in-Ok-clause-value : goal.returns-in-Ok-clause-value

@@ -1,12 +1,12 @@
 use Rattle.std.proofs.Common.{Ok, true, false, refl, sym, subst, inl, inr}
-use Rattle.job_core.specs.Handing.{IsOpenRecord}
-use Rattle.job_core.specs.Sound.{Decides}
-use Rattle.job_core.specs.Steps.{withdrawn, step}
-use Rattle.job_core.specs.declared.change.Change.TheVariants.{Withdraws}
-use Rattle.job_core.specs.declared.facts.RecordState.{RecordState}
-use Rattle.job_core.specs.declared.reply.Reply.TheVariants.{Withdrawn}
-use Rattle.job_core.specs.declared.request.Request.TheVariants as request
-use Rattle.job_core.proofs.SoundFacts.{sound_withdraw}
+use Rattle.job_facts.specs.Handing.{IsOpenRecord}
+use Rattle.job_facts.specs.Sound.{Decides}
+use Rattle.job_facts.specs.Steps.{withdrawn, step}
+use Rattle.job_facts.specs.declared.change.Change.TheVariants.{Withdraws}
+use Rattle.job_facts.specs.declared.facts.RecordState.{RecordState}
+use Rattle.job_facts.specs.declared.reply.Reply.TheVariants.{Withdrawn}
+use Rattle.job_facts.specs.declared.request.Request.TheVariants as request
+use Rattle.job_facts.proofs.SoundFacts.{sound_withdraw}
 use Rattle.job_core.proofs.decision.records.withdraw_by.Goals as goal
 
 pub returns-in-Waiting : goal.returns-in-Waiting

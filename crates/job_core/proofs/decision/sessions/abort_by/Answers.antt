@@ -1,10 +1,10 @@
 use Rattle.std.proofs.Common.{refl, sym, subst}
-use Rattle.job_core.specs.Facts.{with_end}
-use Rattle.job_core.specs.Sound.{Makes}
-use Rattle.job_core.specs.Steps.{step}
-use Rattle.job_core.specs.declared.reply.Reply.TheVariants as reply
-use Rattle.job_core.specs.declared.request.Request.TheVariants as request
-use Rattle.job_core.proofs.SoundSessions.{sound_end}
+use Rattle.job_facts.specs.Facts.{with_end}
+use Rattle.job_facts.specs.Sound.{Makes}
+use Rattle.job_facts.specs.Steps.{step}
+use Rattle.job_facts.specs.declared.reply.Reply.TheVariants as reply
+use Rattle.job_facts.specs.declared.request.Request.TheVariants as request
+use Rattle.job_facts.proofs.SoundSessions.{sound_end}
 use Rattle.job_core.proofs.decision.sessions.abort_by.Goals as goal
 
 pub returns-in-Err : goal.returns-in-Err

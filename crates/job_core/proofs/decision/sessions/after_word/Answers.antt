@@ -4,10 +4,10 @@ use Rattle.std.proofs.lemmas.Option.{none-some}
 use Rattle.store_data.specs.Cursor.{PlacedSegment, is_last_piece}
 use Rattle.store_data.specs.Sequence.{goes_on, sequence}
 use Rattle.store_data.proofs.CursorLemmas.{segment_before, tolerance_there, length-sequence}
-use Rattle.job_core.specs.declared.rows.SegmentRow.{SegmentRow}
-use Rattle.job_core.specs.Rows.{segment_row}
-use Rattle.job_core.proofs.Lists.{mapped}
-use Rattle.job_core.proofs.RunningLemmas.{class_stops, goes_by}
+use Rattle.job_facts.specs.declared.rows.SegmentRow.{SegmentRow}
+use Rattle.job_facts.specs.Rows.{segment_row}
+use Rattle.job_facts.proofs.Lists.{mapped}
+use Rattle.job_facts.proofs.RunningLemmas.{class_stops, goes_by}
 use Rattle.job_core.proofs.decision.sessions.after_word.Goals as goal
 use Rattle.job_core.proofs.decision.sessions.after_word.Goals.{else-segment, then-segment}
 

@@ -2,15 +2,15 @@ use Rattle.std.specs.Prelude.{if◌then◌else◌, ◌==◌}
 use Rattle.std.proofs.Common.{◌≡◌, length, eqb, true, false, arith, ap, refl, sym, subst, ◌∙◌}
 use Rattle.std.proofs.lemmas.Bool.{eq-eqb, ne_eqb}
 use Rattle.std.proofs.lemmas.Result.{IfOk-weaker}
-use Rattle.job_core.specs.declared.change.Change.{Change}
-use Rattle.job_core.specs.declared.refusal.Refusal.TheVariants as refusal
-use Rattle.job_core.specs.declared.reply.Reply.{Reply}
-use Rattle.job_core.specs.declared.request.Request.TheVariants as request
-use Rattle.job_core.specs.declared.rows.SessionRow.{SessionRow}
-use Rattle.job_core.specs.Sound.{Makes}
-use Rattle.job_core.specs.Steps.{Outcome, refused, step, take_word}
-use Rattle.job_core.specs.Store.{IsHonest}
-use Rattle.job_core.proofs.RunningLemmas.{runs_there}
+use Rattle.job_facts.specs.declared.change.Change.{Change}
+use Rattle.job_facts.specs.declared.refusal.Refusal.TheVariants as refusal
+use Rattle.job_facts.specs.declared.reply.Reply.{Reply}
+use Rattle.job_facts.specs.declared.request.Request.TheVariants as request
+use Rattle.job_facts.specs.declared.rows.SessionRow.{SessionRow}
+use Rattle.job_facts.specs.Sound.{Makes}
+use Rattle.job_facts.specs.Steps.{Outcome, refused, step, take_word}
+use Rattle.job_facts.specs.Store.{IsHonest}
+use Rattle.job_facts.proofs.RunningLemmas.{runs_there}
 use Rattle.job_core.proofs.decision.sessions.answer.Goals as goal
 
 pub returns-then-row-from-clause-value : goal.returns-then-row-from-clause-value

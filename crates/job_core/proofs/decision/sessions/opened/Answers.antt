@@ -1,9 +1,9 @@
 use Rattle.std.proofs.Common.{◌≡◌, ◌+◌, length, ap, sym, ◌∙◌}
-use Rattle.job_core.specs.Facts.{new_session, with_session}
-use Rattle.job_core.specs.States.{command_at}
-use Rattle.job_core.specs.declared.reply.Reply.TheVariants as reply
-use Rattle.job_core.proofs.RunningLemmas.{command_under, waiting_state}
-use Rattle.job_core.proofs.SoundSessions.{sound_open}
+use Rattle.job_facts.specs.Facts.{new_session, with_session}
+use Rattle.job_facts.specs.States.{command_at}
+use Rattle.job_facts.specs.declared.reply.Reply.TheVariants as reply
+use Rattle.job_facts.proofs.RunningLemmas.{command_under, waiting_state}
+use Rattle.job_facts.proofs.SoundSessions.{sound_open}
 use Rattle.job_core.proofs.decision.sessions.opened.Goals as goal
 
 pub returns : goal.returns

@@ -1,5 +1,5 @@
-use Rattle.job_core.proofs.PlanLemmas.{plan_there}
-use Rattle.job_core.proofs.RunningLemmas.{waiting_there}
+use Rattle.job_facts.proofs.PlanLemmas.{plan_there}
+use Rattle.job_facts.proofs.RunningLemmas.{waiting_there}
 use Rattle.job_core.proofs.decision.sessions.opening.Goals as goal
 
 pub returns-clause-value : goal.returns-clause-value

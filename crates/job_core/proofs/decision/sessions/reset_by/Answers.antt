@@ -1,6 +1,6 @@
 use Rattle.std.proofs.Common.{refl, sym, ◌∙◌}
-use Rattle.job_core.specs.Steps.{step}
-use Rattle.job_core.proofs.SoundSessions.{running_numbered, sound_end}
+use Rattle.job_facts.specs.Steps.{step}
+use Rattle.job_facts.proofs.SoundSessions.{running_numbered, sound_end}
 use Rattle.job_core.proofs.decision.sessions.reset_by.Goals as goal
 
 pub returns-in-Some : goal.returns-in-Some

@@ -1,11 +1,11 @@
 use Rattle.std.proofs.Common.{◌≡◌, Some, length, arith, ap, sym, subst, ◌∙◌}
-use Rattle.job_core.specs.declared.rows.SessionRow.{SessionRow}
-use Rattle.job_core.specs.Handing.{Hands, Went}
-use Rattle.job_core.specs.States.{plan_for}
-use Rattle.job_core.specs.Store.{IsHonest}
+use Rattle.job_facts.specs.declared.rows.SessionRow.{SessionRow}
+use Rattle.job_facts.specs.Handing.{Hands, Went}
+use Rattle.job_facts.specs.States.{plan_for}
+use Rattle.job_facts.specs.Store.{IsHonest}
 use Rattle.store_data.specs.Cursor.{cursor_at}
 use Rattle.job_core.proofs.HandingLemmas.{segment_of_plan}
-use Rattle.job_core.proofs.RunningLemmas.{went_next}
+use Rattle.job_facts.proofs.RunningLemmas.{went_next}
 use Rattle.job_core.proofs.decision.sessions.taking_word.Goals as goal
 
 pub returns-clause-value : goal.returns-clause-value

@@ -1,14 +1,14 @@
 use Rattle.std.proofs.Common.{◌+◌, length, Some, None, arith, sym, subst, ◌<◌, ◌^◌, Option}
 use Rattle.store_data.specs.declared.cursor.Cursor.{Cursor}
-use Rattle.job_core.specs.declared.change.Change.{Change}
-use Rattle.job_core.specs.declared.change.Change.TheVariants as change
-use Rattle.job_core.specs.declared.facts.SessionState.TheVariants as session
-use Rattle.job_core.specs.declared.reply.Reply.{Reply}
-use Rattle.job_core.specs.declared.reply.Reply.TheVariants as reply
-use Rattle.job_core.specs.Handing.{Hands, Went}
-use Rattle.job_core.specs.Sound.{Makes}
-use Rattle.job_core.specs.Steps.{take_word}
-use Rattle.job_core.proofs.RunningLemmas.{good_word, next_word, spoiled_word}
+use Rattle.job_facts.specs.declared.change.Change.{Change}
+use Rattle.job_facts.specs.declared.change.Change.TheVariants as change
+use Rattle.job_facts.specs.declared.facts.SessionState.TheVariants as session
+use Rattle.job_facts.specs.declared.reply.Reply.{Reply}
+use Rattle.job_facts.specs.declared.reply.Reply.TheVariants as reply
+use Rattle.job_facts.specs.Handing.{Hands, Went}
+use Rattle.job_facts.specs.Sound.{Makes}
+use Rattle.job_facts.specs.Steps.{take_word}
+use Rattle.job_facts.proofs.RunningLemmas.{good_word, next_word, spoiled_word}
 use Rattle.job_core.proofs.decision.sessions.took_word.Goals as goal
 
 pub returns-in_default : goal.returns-in_default

@@ -1,5 +1,5 @@
 use Rattle.std.proofs.Common.{rules}
-use Rattle.job_core.proofs.NextContents.{nothing_sound}
+use Rattle.job_facts.proofs.NextContents.{nothing_sound}
 use Rattle.list_store.proofs.store.ListStore.new.Goals as goal
 
 pub returns : goal.returns

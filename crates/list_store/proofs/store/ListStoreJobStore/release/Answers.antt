@@ -1,5 +1,5 @@
 use Rattle.std.proofs.Common.{refl, rules}
-use Rattle.job_core.specs.Contents.{Contents}
+use Rattle.job_facts.specs.Contents.{Contents}
 use Rattle.list_store.specs.Lists.{contents}
 use Rattle.list_store.proofs.StoreLemmas.{lists_release}
 use Rattle.list_store.proofs.store.ListStoreJobStore.release.Goals as goal

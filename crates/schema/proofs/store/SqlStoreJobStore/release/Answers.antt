@@ -1,6 +1,6 @@
 use Rattle.sqlite.specs.Held.{state}
-use Rattle.job_core.specs.Contents.{IsOwedRelease, released}
-use Rattle.job_core.proofs.NextContents.{sound_released}
+use Rattle.job_facts.specs.Contents.{IsOwedRelease, released}
+use Rattle.job_facts.proofs.NextContents.{sound_released}
 use Rattle.table_rows.specs.Kept.{kept_reply}
 use Rattle.schema.proofs.Link.{told_commits}
 use Rattle.schema.proofs.store.SqlStoreJobStore.release.Goals as goal

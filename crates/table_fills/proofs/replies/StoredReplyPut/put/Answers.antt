@@ -1,6 +1,6 @@
 use Rattle.std.proofs.Common.{subst}
 use Rattle.sqlite.specs.Held.{state}
-use Rattle.job_core.specs.Contents.{Entry}
+use Rattle.job_facts.specs.Contents.{Entry}
 use Rattle.sql_base.specs.Ends.{Wrote}
 use Rattle.sql_base.proofs.Ending.{wrote}
 use Rattle.sql_rows.specs.Image.{Moves}

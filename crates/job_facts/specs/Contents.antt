@@ -1,9 +1,9 @@
 -- What a store holds: the facts, the kept replies, and how far each client has released its numbers.
 use Rattle.std.specs.Prelude.{◌≡◌, ◌⊎◌, ◌≤◌, ◌<◌, ◌^◌, ◌==◌, ◌&&◌, ℕ, List, [], ◌∷◌, ◌++◌, All, AllPairs, Bool, false, not, nat_lt, filter, IsPermutation, bytes_eq, find, Option, None, option_map, unwrap_or, IsTrue}
-use Rattle.job_core.specs.declared.change.Change.{Change}
-use Rattle.job_core.specs.declared.rows.KeptReply.{KeptReply}
-use Rattle.job_core.specs.Facts.{Facts, no_facts}
-use Rattle.job_core.specs.Sound.{IsName, IsSound, IsSoundChange, changed}
+use Rattle.job_facts.specs.declared.change.Change.{Change}
+use Rattle.job_facts.specs.declared.rows.KeptReply.{KeptReply}
+use Rattle.job_facts.specs.Facts.{Facts, no_facts}
+use Rattle.job_facts.specs.Sound.{IsName, IsSound, IsSoundChange, changed}
 
 -- a reply that is kept under its client's number, with the ask that it answers
 pub record Entry : Type 0 where

@@ -8,21 +8,21 @@ use Rattle.store_data.specs.Cursor.{cursor_at, cursors_of, is_tolerant_last_at, 
 use Rattle.store_data.specs.declared.status.Class.TheVariants as status
 use Rattle.store_data.specs.Sequence.{Command, Plan, commands_of, goes_on, sequence}
 use Rattle.store_data.proofs.CursorLemmas.{length-cursors_of, length-sequence}
-use Rattle.job_core.specs.declared.change.Change.TheVariants as change
-use Rattle.job_core.specs.declared.facts.RecordState.TheVariants as rec
-use Rattle.job_core.specs.declared.facts.SessionState.{SessionState}
-use Rattle.job_core.specs.declared.facts.SessionState.TheVariants as session
-use Rattle.job_core.specs.declared.reply.Reply.TheVariants as reply
-use Rattle.job_core.specs.Facts.{Facts, Session, with_word, worded}
-use Rattle.job_core.specs.Handing.{Runs, Went}
-use Rattle.job_core.specs.Rows.{session_row, session_row_of}
-use Rattle.job_core.specs.Sound.{IsRecord, IsSession, IsSound, Makes}
-use Rattle.job_core.specs.States.{command_at, command_bytes, commands_for, commands_under, first_waiting, going, goes_at, is_tolerant, is_waiting, last_stops, last_stops_from, plan_for, record_state, record_state_of, records_named, session_cursor, session_numbered, session_state, state_with}
-use Rattle.job_core.specs.Steps.{take_word}
-use Rattle.job_core.proofs.PlanLemmas.{plan_there}
-use Rattle.job_core.proofs.Lists.{All-there, found_among, item_there}
-use Rattle.job_core.proofs.SessionLemmas.{session_split}
-use Rattle.job_core.proofs.SoundSessions.{running_parts, sound_word, waiting_is, word_after}
+use Rattle.job_facts.specs.declared.change.Change.TheVariants as change
+use Rattle.job_facts.specs.declared.facts.RecordState.TheVariants as rec
+use Rattle.job_facts.specs.declared.facts.SessionState.{SessionState}
+use Rattle.job_facts.specs.declared.facts.SessionState.TheVariants as session
+use Rattle.job_facts.specs.declared.reply.Reply.TheVariants as reply
+use Rattle.job_facts.specs.Facts.{Facts, Session, with_word, worded}
+use Rattle.job_facts.specs.Handing.{Runs, Went}
+use Rattle.job_facts.specs.Rows.{session_row, session_row_of}
+use Rattle.job_facts.specs.Sound.{IsRecord, IsSession, IsSound, Makes}
+use Rattle.job_facts.specs.States.{command_at, command_bytes, commands_for, commands_under, first_waiting, going, goes_at, is_tolerant, is_waiting, last_stops, last_stops_from, plan_for, record_state, record_state_of, records_named, session_cursor, session_numbered, session_state, state_with}
+use Rattle.job_facts.specs.Steps.{take_word}
+use Rattle.job_facts.proofs.PlanLemmas.{plan_there}
+use Rattle.job_facts.proofs.Lists.{All-there, found_among, item_there}
+use Rattle.job_facts.proofs.SessionLemmas.{session_split}
+use Rattle.job_facts.proofs.SoundSessions.{running_parts, sound_word, waiting_is, word_after}
 
 -- a command of the sequence, as its bytes
 bytes_of : (o : Option Command) (p : Option (List ℕ)) → p ≡ option_map (λ (c : Command). c.bytes) o → unwrap_or p [] ≡ command_bytes o

@@ -1,8 +1,8 @@
 -- What a store stands for, and what its calls do to that.
 use Rattle.std.specs.Prelude.{◌≡◌, ◌⊎◌, ◌≤◌, ◌+◌, ◌-◌, ◌^◌, ℕ, min, Option, None, Some, Result, Ok, Err, IfOk, OnOk, OnErr}
-use Rattle.job_core.specs.declared.store.StoreFault.{StoreFault}
-use Rattle.job_core.specs.declared.store.StoreFault.TheVariants.{Memory, Device, Full}
-use Rattle.job_core.specs.Contents.{AreSame, Contents}
+use Rattle.job_facts.specs.declared.store.StoreFault.{StoreFault}
+use Rattle.job_facts.specs.declared.store.StoreFault.TheVariants.{Memory, Device, Full}
+use Rattle.job_facts.specs.Contents.{AreSame, Contents}
 
 pub record State : Type 1 where
   -- The store stands for these contents. One that a fault has shut stands for any sound ones.

@@ -21,7 +21,7 @@ pub enum StoreFault {
 }
 
 impl From<AllocError> for StoreFault {
-    ghost use Rattle.job_core.specs.declared.store.StoreFault.TheVariants.{Memory};
+    ghost use Rattle.job_facts.specs.declared.store.StoreFault.TheVariants.{Memory};
 
     ghost from_gives = { λ _ fault. fault ≡ Memory };
 
@@ -31,7 +31,7 @@ impl From<AllocError> for StoreFault {
 }
 
 impl<T: Drop> From<AllocFailed<T>> for StoreFault {
-    ghost use Rattle.job_core.specs.declared.store.StoreFault.TheVariants.{Memory};
+    ghost use Rattle.job_facts.specs.declared.store.StoreFault.TheVariants.{Memory};
 
     ghost from_gives = { λ _ fault. fault ≡ Memory };
 
@@ -46,18 +46,18 @@ pub trait JobStore {
     ghost use Rattle.std.specs.Prelude.{◌≡◌, ◌≤◌, ◌<◌, ◌^◌, IfOk, IfSome, Bool, length, option_map};
     ghost use Rattle.store_data.specs.Cursor.{IsCursor};
     ghost use Rattle.store_data.specs.Sequence.{IsProduct};
-    ghost use Rattle.job_core.specs.declared.rows.SegmentRow.{SegmentRow as SegmentRowValue};
-    ghost use Rattle.job_core.specs.declared.rows.SessionRow.{SessionRow as SessionRowValue};
-    ghost use Rattle.job_core.specs.Accounts.{batch_totals, blank_totals, record_lines};
-    ghost use Rattle.job_core.specs.Contents.{AreSound, Contents, Entry, IsOwed, IsOwedRelease};
-    ghost use Rattle.job_core.specs.Contents.{committed, entry_of, mark_of, released};
-    ghost use Rattle.job_core.specs.Contents.{reply_of_entry};
-    ghost use Rattle.job_core.specs.Rows.{batch_has, batch_row_of, batch_size_of, segment_row_of};
-    ghost use Rattle.job_core.specs.Rows.{session_row_of};
-    ghost use Rattle.job_core.specs.States.{any_overlaps, first_waiting, is_batch_finished};
-    ghost use Rattle.job_core.specs.States.{is_charged, lot_named, lot_of, product_named};
-    ghost use Rattle.job_core.specs.States.{record_state_of, running_session};
-    ghost use Rattle.job_core.specs.Store.{Commits, CountsFaults, Reads, State, Stays};
+    ghost use Rattle.job_facts.specs.declared.rows.SegmentRow.{SegmentRow as SegmentRowValue};
+    ghost use Rattle.job_facts.specs.declared.rows.SessionRow.{SessionRow as SessionRowValue};
+    ghost use Rattle.job_facts.specs.Accounts.{batch_totals, blank_totals, record_lines};
+    ghost use Rattle.job_facts.specs.Contents.{AreSound, Contents, Entry, IsOwed, IsOwedRelease};
+    ghost use Rattle.job_facts.specs.Contents.{committed, entry_of, mark_of, released};
+    ghost use Rattle.job_facts.specs.Contents.{reply_of_entry};
+    ghost use Rattle.job_facts.specs.Rows.{batch_has, batch_row_of, batch_size_of, segment_row_of};
+    ghost use Rattle.job_facts.specs.Rows.{session_row_of};
+    ghost use Rattle.job_facts.specs.States.{any_overlaps, first_waiting, is_batch_finished};
+    ghost use Rattle.job_facts.specs.States.{is_charged, lot_named, lot_of, product_named};
+    ghost use Rattle.job_facts.specs.States.{record_state_of, running_session};
+    ghost use Rattle.job_facts.specs.Store.{Commits, CountsFaults, Reads, State, Stays};
 
     /// What it stands for, and what a crash may leave of it.
     ghost state: { Self → State };

@@ -1,7 +1,7 @@
 //! Refusals by rule.
 ghost use Rattle.std.specs.Prelude.{◌≡◌, IfSome, Some};
-ghost use Rattle.job_core.specs.Refusals.{code_of, name_of, refusal_of};
-ghost use Rattle.job_core.specs.declared.refusal.Refusal.{Refusal as RefusalValue};
+ghost use Rattle.job_facts.specs.Refusals.{code_of, name_of, refusal_of};
+ghost use Rattle.job_facts.specs.declared.refusal.Refusal.{Refusal as RefusalValue};
 
 use std::error::Error;
 use std::fmt;

@@ -1,11 +1,11 @@
 //! A store that can be closed, and opened over again.
-use job_core::{JobStore, StoreFault};
+use crate::store::{JobStore, StoreFault};
 use std::alloc::Global;
 
 /// A store that can be closed, and opened over again.
 pub trait Reopen: JobStore {
     ghost use Rattle.std.specs.Prelude.{IfOk};
-    ghost use Rattle.reopening.specs.Reopening.{IsAnew, Reopens};
+    ghost use Rattle.job_facts.specs.Reopening.{IsAnew, Reopens};
 
     /// That no fault has shut it.
     ghost usable: { Self → Type 0 };

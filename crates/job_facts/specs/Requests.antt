@@ -1,12 +1,12 @@
 -- What callers owe of a request and of its arrival: their numbers are in their ranges (this project's profile).
 use Rattle.std.specs.Prelude.{◌≤◌, ◌<◌, ◌+◌, ◌^◌, ⊤}
 use Rattle.store_data.specs.Sequence.{IsProduct}
-use Rattle.job_core.specs.declared.facts.Lot.{Lot}
-use Rattle.job_core.specs.declared.request.Arrival.{Arrival}
-use Rattle.job_core.specs.declared.request.Call.{Call}
-use Rattle.job_core.specs.declared.request.Call.TheVariants.{Job, Release}
-use Rattle.job_core.specs.declared.request.Request.{Request}
-use Rattle.job_core.specs.declared.request.Request.TheVariants as request
+use Rattle.job_facts.specs.declared.facts.Lot.{Lot}
+use Rattle.job_facts.specs.declared.request.Arrival.{Arrival}
+use Rattle.job_facts.specs.declared.request.Call.{Call}
+use Rattle.job_facts.specs.declared.request.Call.TheVariants.{Job, Release}
+use Rattle.job_facts.specs.declared.request.Request.{Request}
+use Rattle.job_facts.specs.declared.request.Request.TheVariants as request
 
 -- 1 to 1,000,000 blanks, the last of at most 18 digits
 pub record IsLotRange (l : Lot) : Type 0 where

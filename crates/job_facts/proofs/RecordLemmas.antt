@@ -6,12 +6,12 @@ use Rattle.std.proofs.lemmas.Bool.{both_ways, false_from_ne_true, ltb-false, or_
 use Rattle.std.proofs.lemmas.List.Folds.{list_any_none}
 use Rattle.std.proofs.lemmas.List.Sums.{sum_by-le-sum_by}
 use Rattle.store_data.proofs.IsPlanLemmas.{All-from_list_any}
-use Rattle.job_core.specs.declared.facts.SessionState.{SessionState}
-use Rattle.job_core.specs.declared.facts.SessionState.TheVariants as session
-use Rattle.job_core.specs.declared.facts.RecordState.TheVariants as rec
-use Rattle.job_core.specs.Sound.{IsSoundRecord, has_card}
-use Rattle.job_core.specs.States.{is_finished, is_good, is_running, is_spoiled, state_by}
-use Rattle.job_core.proofs.Lists.{count_by-at, count_by_any, count_by_none, list_any-there}
+use Rattle.job_facts.specs.declared.facts.SessionState.{SessionState}
+use Rattle.job_facts.specs.declared.facts.SessionState.TheVariants as session
+use Rattle.job_facts.specs.declared.facts.RecordState.TheVariants as rec
+use Rattle.job_facts.specs.Sound.{IsSoundRecord, has_card}
+use Rattle.job_facts.specs.States.{is_finished, is_good, is_running, is_spoiled, state_by}
+use Rattle.job_facts.proofs.Lists.{count_by-at, count_by_any, count_by_none, list_any-there}
 
 -- a state has a card or is spoiled
 card_or_spoiled : (t : SessionState) → cond (has_card t) 1 0 + cond (is_spoiled t) 1 0 ≡ 1

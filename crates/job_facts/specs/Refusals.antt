@@ -1,7 +1,7 @@
 -- The numbers and names of the refusals by rule (this project's profile).
 use Rattle.std.specs.Prelude.{◌==◌, ℕ, List, [], ◌∷◌, find, codes, Option}
-use Rattle.job_core.specs.declared.refusal.Refusal.{Refusal}
-use Rattle.job_core.specs.declared.refusal.Refusal.TheVariants.{ProductDiffers, ProductUnknown, LotDiffers, SerialsOverlap, BatchDiffers, BatchUnknown, BatchClosed, BlankUnknown, BlankOfOtherProduct, BlankUsed, NothingWaiting, SessionUnknown, NotYours, SessionEnded, OutOfTurn, RecordUnknown, NotFailed, NotWithdrawable, NotFinished, Limit, NumberReused, ReleaseTooFar}
+use Rattle.job_facts.specs.declared.refusal.Refusal.{Refusal}
+use Rattle.job_facts.specs.declared.refusal.Refusal.TheVariants.{ProductDiffers, ProductUnknown, LotDiffers, SerialsOverlap, BatchDiffers, BatchUnknown, BatchClosed, BlankUnknown, BlankOfOtherProduct, BlankUsed, NothingWaiting, SessionUnknown, NotYours, SessionEnded, OutOfTurn, RecordUnknown, NotFailed, NotWithdrawable, NotFinished, Limit, NumberReused, ReleaseTooFar}
 
 abbrev pub code_of : Refusal → ℕ
 code_of ProductDiffers = 51

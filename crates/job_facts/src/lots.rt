@@ -1,6 +1,6 @@
 //! What lots say of a blank, and of a range of blanks.
 ghost use Rattle.std.specs.Prelude.{◌≡◌, ◌+◌, nat_lt, option_copied};
-ghost use Rattle.job_core.specs.States.{any_overlaps, lot_of};
+ghost use Rattle.job_facts.specs.States.{any_overlaps, lot_of};
 
 use crate::facts::Lot;
 

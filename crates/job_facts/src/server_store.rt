@@ -1,5 +1,5 @@
 //! A store that a server serves over, and closes at the end.
-use job_core::{JobStore, StoreFault};
+use crate::store::{JobStore, StoreFault};
 
 /// How often a store answered that its device failed, and that it is full. A count stays at its
 /// greatest value.
@@ -13,8 +13,8 @@ pub struct FaultCounts {
 /// and it is closed at the end.
 pub trait ServerStore: JobStore {
     ghost use Rattle.std.specs.Prelude.{◌≡◌, OnOk, length};
-    ghost use Rattle.job_core.specs.Store.{CountsFaults, Reads, Stays};
-    ghost use Rattle.reopening.specs.Reopening.{counts_of};
+    ghost use Rattle.job_facts.specs.Store.{CountsFaults, Reads, Stays};
+    ghost use Rattle.job_facts.specs.Reopening.{counts_of};
 
     /// What holds of a store that was closed without a fault.
     ghost closed: { Self → Type 0 };

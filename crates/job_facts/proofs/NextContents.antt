@@ -6,10 +6,10 @@ use Rattle.std.proofs.lemmas.List.Elements.{All-filter, All-nil, All-push, All-w
 use Rattle.std.proofs.lemmas.List.Kept.{AllPairs-filter}
 use Rattle.std.proofs.lemmas.List.Quantifiers.{all_pairs_push}
 use Rattle.std.proofs.lemmas.List.Sorted.{IsPermutation-refl}
-use Rattle.job_core.specs.declared.change.Change.{Change}
-use Rattle.job_core.specs.Contents.{AreSame, AreSound, Contents, Entry, IsEntry, IsMark, IsNewEntry, IsOwed, IsOwedRelease, Mark, committed, has_mark, is_above, is_of_number, mark_of, no_contents, released, with_mark}
-use Rattle.job_core.proofs.Lists.{find-None}
-use Rattle.job_core.proofs.SoundFacts.{sound_nothing}
+use Rattle.job_facts.specs.declared.change.Change.{Change}
+use Rattle.job_facts.specs.Contents.{AreSame, AreSound, Contents, Entry, IsEntry, IsMark, IsNewEntry, IsOwed, IsOwedRelease, Mark, committed, has_mark, is_above, is_of_number, mark_of, no_contents, released, with_mark}
+use Rattle.job_facts.proofs.Lists.{find-None}
+use Rattle.job_facts.proofs.SoundFacts.{sound_nothing}
 
 abbrev AreApart : Entry → Entry → Type 0
 AreApart d e = is_of_number d e ≡ false

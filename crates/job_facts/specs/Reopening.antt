@@ -1,8 +1,8 @@
 -- A store that is closed and opened over again.
 use Rattle.std.specs.Prelude.{◌≡◌}
-use Rattle.job_core.specs.Contents.{Contents}
-use Rattle.job_core.specs.Store.{State, IsHonest}
-use Rattle.reopening.specs.declared.server_store.FaultCounts.{FaultCounts}
+use Rattle.job_facts.specs.Contents.{Contents}
+use Rattle.job_facts.specs.Store.{State, IsHonest}
+use Rattle.job_facts.specs.declared.server_store.FaultCounts.{FaultCounts}
 
 -- it has told no fault yet
 abbrev pub IsAnew : State → Type 0

@@ -1,0 +1,9 @@
+pub mod Lists
+pub mod PlanLemmas
+pub mod RecordLemmas
+pub mod Serials
+pub mod SoundFacts
+pub mod SessionLemmas
+pub mod SoundSessions
+pub mod RunningLemmas
+pub mod NextContents

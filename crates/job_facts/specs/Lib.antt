@@ -1,0 +1,14 @@
+pub mod Refusals
+pub mod Facts
+pub mod States
+pub mod Rows
+pub mod Accounts
+pub mod Requests
+pub mod Steps
+pub mod Sound
+pub mod Handing
+pub mod Contents
+pub mod Store
+pub mod Reopening
+pub use Rattle.store_data.specs.Cursor
+pub use Rattle.store_data.specs.Sequence

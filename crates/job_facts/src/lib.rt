@@ -1,0 +1,27 @@
+//! The facts of batches, cards and blanks: requests, replies, what the plain machine makes of them by
+//! definition, and what a store of the facts promises.
+#![tactic(auto)]
+
+mod change;
+mod facts;
+mod lots;
+mod refusal;
+mod reopen;
+mod reply;
+mod request;
+mod rows;
+mod server_store;
+mod store;
+
+pub use change::Change;
+pub use facts::{Lot, RecordState, SessionState};
+pub use lots::{any_overlaps, lot_among};
+pub use refusal::Refusal;
+pub use reopen::Reopen;
+pub use reply::{Made, Reply};
+pub use request::{Arrival, Call, Request};
+pub use rows::{
+    BatchRow, BatchSize, BatchTotals, BlankTotals, KeptReply, RecordLine, SegmentRow, SessionRow,
+};
+pub use server_store::{FaultCounts, ServerStore};
+pub use store::{JobStore, StoreFault};
