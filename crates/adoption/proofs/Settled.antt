@@ -8,8 +8,8 @@ use Rattle.sqlite.specs.Tree.{Trees}
 use Rattle.sqlite.proofs.StateLemmas.{survives_then}
 use Rattle.table_rows.specs.Tables.{Tables}
 use Rattle.sql_base.specs.Ends.{Ends, IsKept, IsLeft}
-use Rattle.sql_order.specs.declared.versions.Version.{Version}
-use Rattle.sql_order.specs.declared.versions.Version.TheVariants.{Three}
+use Rattle.sql_tables.specs.declared.versions.Version.{Version}
+use Rattle.sql_tables.specs.declared.versions.Version.TheVariants.{Three}
 use Rattle.sql_tables.specs.Tables.{our_schema}
 use Rattle.table_reads.specs.Rowids.{HasApart}
 use Rattle.table_reads.specs.Holding.{HoldsRows}

@@ -3,14 +3,13 @@ ghost use Rattle.std.specs.Prelude.{◌≡◌, false, IfErr, IfOk, IsTrue};
 ghost use Rattle.sqlite.specs.Held.{state};
 ghost use Rattle.sqlite.specs.State.{HasCleanDisk, Survives};
 ghost use Rattle.sql_base.specs.Ends.{IsKept};
-ghost use Rattle.sql_order.specs.declared.versions.Version.TheVariants.{Three};
+ghost use Rattle.sql_tables.specs.declared.versions.Version.TheVariants.{Three};
 ghost use Rattle.sql_tables.specs.Tables.{our_schema};
 ghost use Rattle.table_reads.specs.Rowids.{HasApart};
 ghost use Rattle.adoption.specs.Adopts.{IsOther};
 
 use crate::faults::AdoptFault;
-use sql_order::Version;
-use sql_tables::{has_our_tables, our_tables};
+use sql_tables::{Version, has_our_tables, our_tables};
 use sqlite::{Alter, Connection};
 use std::alloc::Global;
 use table_reads::has_apart_rowids;

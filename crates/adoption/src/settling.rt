@@ -8,7 +8,7 @@ ghost use Rattle.adoption.specs.Comes.{Comes};
 
 use crate::faults::AdoptFault;
 use crate::ours::can_stay;
-use sql_order::Version;
+use sql_tables::Version;
 use sqlite::{Alter, Connection};
 use std::alloc::Global;
 use stored_rows::Tables;

@@ -12,7 +12,7 @@ use Rattle.audit_rows.specs.Rules.{FailsFirst, rules}
 use Rattle.audit_rows.specs.declared.rule.Rule.{Rule}
 use Rattle.audit_rows.proofs.SoundLemmas.{same_back}
 use Rattle.sql_base.specs.Ends.{IsKept}
-use Rattle.sql_order.specs.declared.versions.Version.{Version}
+use Rattle.sql_tables.specs.declared.versions.Version.{Version}
 use Rattle.table_reads.specs.Holding.{HoldsRows}
 use Rattle.table_reads.specs.Reading.{HasRows, HoldsNoneOf, Reads}
 use Rattle.table_reads.proofs.AnyOrder.{any_order}

@@ -4,9 +4,9 @@ use Rattle.sqlite.specs.Effect.{Database}
 use Rattle.table_rows.specs.Tables.{Tables}
 use Rattle.ordered_rows.specs.Order.{AreSorted}
 use Rattle.audit_rows.specs.Rules.{FailsFirst, rules}
-use Rattle.sql_order.specs.Alike.{HasJust}
-use Rattle.sql_order.specs.Versions.{schema_of}
-use Rattle.sql_order.specs.declared.versions.Version.{Version}
+use Rattle.sql_tables.specs.Alike.{HasJust}
+use Rattle.sql_tables.specs.Versions.{schema_of}
+use Rattle.sql_tables.specs.declared.versions.Version.{Version}
 use Rattle.table_reads.specs.Holding.{HoldsRows, HoldsSoundRows, IsOfVersion, SaysVersion}
 use Rattle.table_reads.specs.Reading.{HoldsNoneOf}
 use Rattle.file_causes.specs.Differences.{Differs, nearest}

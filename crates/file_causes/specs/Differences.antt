@@ -7,9 +7,9 @@ use Rattle.sqlite_schema.specs.declared.schema.Schema.{Schema}
 use Rattle.sqlite_schema.specs.declared.schema.Table.{Table}
 use Rattle.sqlite_schema.specs.declared.schema.View.{View as Stored}
 use Rattle.sql_base.specs.Columns.{no_schema}
-use Rattle.sql_order.specs.Alike.{AreAmong, AreApart, HasNoFurtherKey, IsOneOf, is_no_further_key}
-use Rattle.sql_order.specs.declared.versions.Version.{Version}
-use Rattle.sql_order.specs.declared.versions.Version.TheVariants.{One, Two, Three}
+use Rattle.sql_tables.specs.Alike.{AreAmong, AreApart, HasNoFurtherKey, IsOneOf, is_no_further_key}
+use Rattle.sql_tables.specs.declared.versions.Version.{Version}
+use Rattle.sql_tables.specs.declared.versions.Version.TheVariants.{One, Two, Three}
 use Rattle.file_causes.specs.declared.difference.Difference.{Difference}
 use Rattle.file_causes.specs.declared.difference.Difference.TheVariants.{Empty, Missing, Other, Foreign, FurtherKey, View, SharedPage, OtherVersion}
 

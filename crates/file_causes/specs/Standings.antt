@@ -6,8 +6,8 @@ use Rattle.table_rows.specs.Tables.{HaveSameRows, Tables}
 use Rattle.rows_of_facts.specs.Image.{image}
 use Rattle.ordered_rows.specs.Order.{AreSorted}
 use Rattle.audit_rows.specs.Rules.{FailsFirst, rules}
-use Rattle.sql_order.specs.Ours.{AreThere}
-use Rattle.sql_order.specs.Versions.{schema_of}
+use Rattle.sql_tables.specs.Ours.{AreThere}
+use Rattle.sql_tables.specs.Versions.{schema_of}
 use Rattle.table_reads.specs.Holding.{IsOfVersion}
 use Rattle.file_causes.specs.Causes.{IsNotOurs, SaysHow}
 use Rattle.file_causes.specs.declared.damage.Damage.{Damage}

@@ -1,15 +1,14 @@
 //! How a schema differs from ours.
 ghost use Rattle.std.specs.Prelude.{◌≡◌, ◌↔◌, IfOk, IsTrue, MatchOption};
 ghost use Rattle.sqlite_catalog.specs.Change.{is_reserved};
-ghost use Rattle.sql_order.specs.Alike.{AreAmong, HasJust, HasNoFurtherKey, IsOneOf};
-ghost use Rattle.sql_order.specs.Alike.{is_no_further_key};
+ghost use Rattle.sql_tables.specs.Alike.{AreAmong, HasJust, HasNoFurtherKey, IsOneOf};
+ghost use Rattle.sql_tables.specs.Alike.{is_no_further_key};
 ghost use Rattle.file_causes.specs.Differences.{Differs, IsFirstWithout, has_table, has_view};
 ghost use Rattle.file_causes.specs.Differences.{Lacks, is_taken, nearest};
 
 use crate::difference::Difference;
 use sql_base::is_empty;
-use sql_order::Version;
-use sql_same::are_same_but_tree;
+use sql_tables::{Version, are_same_but_tree};
 use sqlite_schema::names::same_name;
 use sqlite_schema::schema::{Index, Schema, Table};
 use sqlite_value::value::Bytes;
@@ -59,7 +58,7 @@ pub(crate) fn nearest(schema: &Schema) -> Version
     }
 }
 
-#[tactic(auto, unfolding(sql_order::specs::Alike::IsOneOf))]
+#[tactic(auto, unfolding(sql_tables::specs::Alike::IsOneOf))]
 fn is_one_of(table: &Table, others: &[Table]) -> bool
     ensures { IsTrue result ↔ IsOneOf others.now table.now }
 {
@@ -67,7 +66,7 @@ fn is_one_of(table: &Table, others: &[Table]) -> bool
 }
 
 // The first of these tables that is none of the others, but for its number.
-#[tactic(auto, unfolding(sql_order::specs::Alike::AreAmong))]
+#[tactic(auto, unfolding(sql_tables::specs::Alike::AreAmong))]
 fn first_unlike<'a>(tables: &'a [Table], others: &[Table]) -> Option<&'a Table>
     ensures { MatchOption result (AreAmong tables.now others.now)
         (λ table. IsFirstWithout (IsOneOf others.now) tables.now table.now) }
@@ -94,7 +93,7 @@ fn is_no_further_key(index: &Index) -> bool
 }
 
 // The first key beside those that tables declare.
-#[tactic(auto, unfolding(sql_order::specs::Alike::HasNoFurtherKey))]
+#[tactic(auto, unfolding(sql_tables::specs::Alike::HasNoFurtherKey))]
 fn first_further_key(indexes: &[Index]) -> Option<&Index>
     ensures { MatchOption result (HasNoFurtherKey indexes.now)
         (λ index. IsFirstWithout is_no_further_key indexes.now index.now) }

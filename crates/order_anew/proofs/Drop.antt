@@ -18,9 +18,9 @@ use Rattle.sqlite.specs.Listing.{understood}
 use Rattle.sqlite.specs.State.{State, Executes}
 use Rattle.sqlite.proofs.Callers.{IsPlain, command_of, runs_as}
 use Rattle.sql_base.proofs.Inserting.{went, same_value}
-use Rattle.sql_order.specs.Finds.{Finds}
+use Rattle.sql_tables.specs.Finds.{Finds}
 use Rattle.order_anew.specs.Drop.{IsDrop, DropsTable}
-use Rattle.sql_order.proofs.Lookups.{IsAt, is_at}
+use Rattle.sql_tables.proofs.Lookups.{IsAt, is_at}
 
 module _ (s : Schema) (t : Table) (f : Finds s t) (sql : List ℕ) (is : IsDrop sql t.name) where
   abbrev place : IsAt (λ u. same_name u.name t.name) s.tables t

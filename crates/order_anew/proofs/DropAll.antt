@@ -6,9 +6,9 @@ use Rattle.sqlite.specs.State.{State}
 use Rattle.sqlite.specs.declared.error.Error.{Error}
 use Rattle.sqlite_tied.specs.Compute.{everything}
 use Rattle.sql_base.specs.Ends.{Wrote}
-use Rattle.sql_order.specs.Versions.{schema_of}
-use Rattle.sql_order.specs.declared.versions.Version.{Version}
-use Rattle.sql_order.specs.declared.versions.Version.TheVariants.{One, Three, Two}
+use Rattle.sql_tables.specs.Versions.{schema_of}
+use Rattle.sql_tables.specs.declared.versions.Version.{Version}
+use Rattle.sql_tables.specs.declared.versions.Version.TheVariants.{One, Three, Two}
 use Rattle.order_anew.specs.Anew.{DropsAll}
 use Rattle.order_anew.specs.Drop.{DropsEach, IsDrop, WroteEach}
 use Rattle.order_anew.specs.Texts.{drops_of, drop_batch, drop_blank, drop_grouping, drop_lot, drop_mark, drop_product, drop_record, drop_remake, drop_reply, drop_session, drop_unmixed_grouping, drop_version, drop_word}

@@ -16,8 +16,8 @@ use Rattle.sqlite_schema.specs.declared.schema.Reference.{Reference}
 use Rattle.sqlite_trees.specs.Tree.{IsAscending}
 use Rattle.std.proofs.lemmas.Slice.Eq.{bytes_eq-Decides}
 use Rattle.sql_base.specs.Columns.{no_schema}
-use Rattle.sql_order.specs.Finds.{Finds}
-use Rattle.sql_order.proofs.Lookups.{find_filter}
+use Rattle.sql_tables.specs.Finds.{Finds}
+use Rattle.sql_tables.proofs.Lookups.{find_filter}
 use Rattle.order_anew.specs.Drop.{DropsEach, IsDrop}
 
 -- no foreign key of the table does anything where the row is deleted that it points to

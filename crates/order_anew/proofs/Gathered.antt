@@ -12,10 +12,10 @@ use Rattle.sqlite_catalog.specs.Listing.{IsDefined, IsIndexRow}
 use Rattle.sqlite_rules.specs.Lists.{Has}
 use Rattle.sqlite_schema.specs.Names.{same_name}
 use Rattle.sqlite_schema.specs.declared.schema.Index.{Index}
-use Rattle.sql_order.specs.Alike.{HasJust, IsOneOf}
-use Rattle.sql_order.specs.Finds.{Finds}
-use Rattle.sql_order.specs.Ours.{AreThere, Stands}
-use Rattle.sql_order.proofs.Standing.{IsAs, as_one, each_one, first_of, holds_of, ours_in, same_number}
+use Rattle.sql_tables.specs.Alike.{HasJust, IsOneOf}
+use Rattle.sql_tables.specs.Finds.{Finds}
+use Rattle.sql_tables.specs.Ours.{AreThere, Stands}
+use Rattle.sql_tables.proofs.Standing.{IsAs, as_one, each_one, first_of, holds_of, ours_in, same_number}
 use Rattle.order_anew.proofs.Emptied.{Stand, acts, all_apart, differ, is_among, numbers}
 
 or_true : (x y : Bool) → y ≡ true → (x || y) ≡ true

@@ -2,9 +2,9 @@
 use Rattle.std.specs.Prelude.{◌≡◌}
 use Rattle.sqlite.specs.Effect.{Database, IsDatabase}
 use Rattle.sql_base.specs.Columns.{no_schema}
-use Rattle.sql_order.specs.Alike.{HasJust}
-use Rattle.sql_order.specs.Versions.{schema_of}
-use Rattle.sql_order.specs.declared.versions.Version.{Version}
+use Rattle.sql_tables.specs.Alike.{HasJust}
+use Rattle.sql_tables.specs.Versions.{schema_of}
+use Rattle.sql_tables.specs.declared.versions.Version.{Version}
 use Rattle.sql_tables.specs.Opening.{IsNewlyMade}
 
 -- nothing is left of them

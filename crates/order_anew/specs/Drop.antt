@@ -10,7 +10,7 @@ use Rattle.sqlite_ast.specs.declared.Statement.TheVariants.{DropTable}
 use Rattle.sqlite_resolve.specs.Compile.{first, is_reserved}
 use Rattle.sqlite_schema.specs.declared.schema.Keys.TheVariants.{Enforced}
 use Rattle.sqlite_syntax.specs.declared.statement.Parsed.{Parsed}
-use Rattle.sql_order.specs.Finds.{Finds}
+use Rattle.sql_tables.specs.Finds.{Finds}
 
 -- the text is DROP TABLE with this name
 pub record IsDrop (sql name : List ℕ) : Type 0 where

@@ -1,7 +1,7 @@
 -- The texts that drop our tables.
 use Rattle.std.specs.Prelude.{List, [], ◌∷◌, ℕ, codes}
-use Rattle.sql_order.specs.declared.versions.Version.{Version}
-use Rattle.sql_order.specs.declared.versions.Version.TheVariants.{One, Two, Three}
+use Rattle.sql_tables.specs.declared.versions.Version.{Version}
+use Rattle.sql_tables.specs.declared.versions.Version.TheVariants.{One, Two, Three}
 
 abbrev pub drop_version : List ℕ
 drop_version = codes "DROP TABLE version"

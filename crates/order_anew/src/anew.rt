@@ -7,8 +7,7 @@ ghost use Rattle.order_anew.specs.Anew.{DropsAll, MakesAnew};
 ghost use Rattle.order_anew.specs.Drop.{DropsEach, WroteEach};
 ghost use Rattle.order_anew.specs.Texts.{drops_of};
 
-use sql_order::Version;
-use sql_tables::make_all;
+use sql_tables::{Version, make_all};
 use sqlite::{Alter, Error, Transaction};
 
 // The texts that drop all tables of a version, the last made first.

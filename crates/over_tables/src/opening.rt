@@ -5,7 +5,7 @@ ghost use Rattle.sqlite.specs.State.{HasCleanDisk};
 ghost use Rattle.job_facts.specs.Contents.{AreSound, Contents, no_contents};
 ghost use Rattle.rows_of_facts.specs.Image.{image};
 ghost use Rattle.sql_base.specs.Ends.{IsKept};
-ghost use Rattle.sql_order.specs.declared.versions.Version.{Version};
+ghost use Rattle.sql_tables.specs.declared.versions.Version.{Version};
 ghost use Rattle.table_reads.specs.Holding.{HoldsRows, HoldsSoundRows, IsOfVersion};
 ghost use Rattle.schema.specs.Stores.{connection, stands_for};
 ghost use Rattle.over_tables.specs.Opens.{Begins};

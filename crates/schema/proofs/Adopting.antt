@@ -8,7 +8,7 @@ use Rattle.job_facts.specs.Store.{IsFound}
 use Rattle.table_rows.specs.Tables.{HaveSameRows, Tables}
 use Rattle.rows_of_facts.specs.Image.{image}
 use Rattle.sql_base.specs.Ends.{IsLeft}
-use Rattle.sql_order.specs.declared.versions.Version.{Version}
+use Rattle.sql_tables.specs.declared.versions.Version.{Version}
 use Rattle.sql_rows.specs.Image.{IsImage}
 use Rattle.sql_rows.proofs.OneImage.{one_image}
 use Rattle.sql_rows.proofs.SameRows.{same_rows}

@@ -7,7 +7,7 @@ use Rattle.job_facts.specs.Contents.{Contents}
 use Rattle.rows_of_facts.specs.Image.{image}
 use Rattle.sql_base.specs.Columns.{no_schema}
 use Rattle.sql_base.specs.Ends.{IsLeft}
-use Rattle.sql_order.specs.declared.versions.Version.{Version}
+use Rattle.sql_tables.specs.declared.versions.Version.{Version}
 use Rattle.table_reads.specs.Holding.{HoldsRows}
 use Rattle.store_commits.specs.Founds.{Founds}
 

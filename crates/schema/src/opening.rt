@@ -7,7 +7,7 @@ ghost use Rattle.job_facts.specs.Store.{IsFound};
 ghost use Rattle.rows_of_facts.specs.Image.{image};
 ghost use Rattle.sql_base.specs.Columns.{no_schema};
 ghost use Rattle.sql_base.specs.Ends.{IsKept, IsLeft};
-ghost use Rattle.sql_order.specs.declared.versions.Version.{Version};
+ghost use Rattle.sql_tables.specs.declared.versions.Version.{Version};
 ghost use Rattle.table_reads.specs.Holding.{HoldsRows, HoldsSoundRows, IsOfVersion};
 ghost use Rattle.adoption.specs.Adopts.{Adopts};
 ghost use Rattle.schema.specs.Begun.{LeavesNoOther, WasHeld};

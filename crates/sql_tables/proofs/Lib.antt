@@ -1,3 +1,6 @@
+pub mod EarlierDefined
+pub mod Lookups
+pub mod Standing
 pub mod Defined
 pub mod Growing
 pub mod Version

@@ -2,6 +2,14 @@
 //! empty database, and told from others.
 #![tactic(auto)]
 
+mod alike;
 mod opening;
+mod parts;
+mod same;
+mod terms;
+mod versions;
 
+pub use alike::has_just;
 pub use opening::{CreateFault, create, has_our_tables, make_all, our_tables};
+pub use parts::are_same_but_tree;
+pub use versions::{Version, tables_of, version_in};

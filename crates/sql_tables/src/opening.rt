@@ -8,8 +8,8 @@ ghost use Rattle.sql_tables.specs.Opening.{AddsVersion, Completes, Grows};
 ghost use Rattle.sql_tables.specs.Opening.{MakesAll, with_batch, with_mark, with_told, with_word};
 ghost use Rattle.sql_tables.specs.Tables.{our_schema};
 
+use crate::parts::are_same;
 use sql_base::{is_empty, make};
-use sql_same::are_same;
 use sqlite::{Alter, Connection, Error, ErrorCode, Transaction};
 use sqlite_schema::schema::Schema;
 use std::alloc::{AllocError, Global};

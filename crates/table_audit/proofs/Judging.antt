@@ -4,9 +4,9 @@ use Rattle.sqlite.specs.Effect.{Database}
 use Rattle.sqlite.specs.State.{State}
 use Rattle.sqlite.specs.declared.error.Error.{Error}
 use Rattle.sql_base.specs.Ends.{IsKept}
-use Rattle.sql_order.specs.Ours.{AreThere}
-use Rattle.sql_order.specs.Versions.{schema_of}
-use Rattle.sql_order.specs.declared.versions.Version.{Version}
+use Rattle.sql_tables.specs.Ours.{AreThere}
+use Rattle.sql_tables.specs.Versions.{schema_of}
+use Rattle.sql_tables.specs.declared.versions.Version.{Version}
 use Rattle.table_rows.specs.Tables.{Tables}
 use Rattle.rows_of_facts.specs.Image.{image}
 use Rattle.table_reads.specs.Holding.{HoldsRows, IsOfVersion}

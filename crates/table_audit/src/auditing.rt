@@ -3,15 +3,14 @@ ghost use Rattle.std.specs.Prelude.{◌≡◌, false, IfOk, IfSome, IsTrue, Matc
 ghost use Rattle.sqlite.specs.Held.{state};
 ghost use Rattle.sqlite.specs.State.{HasCleanDisk, Survives};
 ghost use Rattle.sql_base.specs.Ends.{IsKept};
-ghost use Rattle.sql_order.specs.Alike.{HasJust};
-ghost use Rattle.sql_order.specs.Ours.{AreThere};
-ghost use Rattle.sql_order.specs.Versions.{schema_of};
+ghost use Rattle.sql_tables.specs.Alike.{HasJust};
+ghost use Rattle.sql_tables.specs.Ours.{AreThere};
+ghost use Rattle.sql_tables.specs.Versions.{schema_of};
 ghost use Rattle.table_reads.specs.Holding.{IsOfVersion};
 ghost use Rattle.table_audit.specs.Telling.{Judges, Tells};
 
 use audit_rows::is_sound;
-use sql_order::{Version, version_in};
-use sql_tables::CreateFault;
+use sql_tables::{CreateFault, Version, version_in};
 use sqlite::{Alter, Connection, Error};
 use std::alloc::Global;
 use stored_rows::Tables;

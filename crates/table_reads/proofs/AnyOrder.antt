@@ -8,8 +8,8 @@ use Rattle.sqlite.specs.Table.{Table}
 use Rattle.job_facts.specs.Contents.{Mark}
 use Rattle.table_rows.specs.Tables.{HaveSameRows, Tables}
 use Rattle.sql_rows.specs.Encoding.{batch_row, blank_row, grouping_row, lot_row, mark_row, product_row, record_row, remake_row, reply_row, session_row, word_row}
-use Rattle.sql_order.specs.declared.versions.Version.{Version}
-use Rattle.sql_order.specs.declared.versions.Version.TheVariants.{One, Two, Three}
+use Rattle.sql_tables.specs.declared.versions.Version.{Version}
+use Rattle.sql_tables.specs.declared.versions.Version.TheVariants.{One, Two, Three}
 use Rattle.table_reads.specs.Holding.{Holds, HoldsMarks, HoldsRows}
 
 reordered : {X : Type 0} {table : ℕ → Table} {by_rowid : Bool} {db : Database} (encode : X → Row) (xs ys : List X) → IsPermutation xs ys

@@ -2,7 +2,7 @@
 use Rattle.std.proofs.Common.{refl}
 use Rattle.std.specs.List.{AllByRecursion}
 use Rattle.sqlite_schema.specs.Names.{same_name}
-use Rattle.sql_order.specs.Finds.{Finds}
+use Rattle.sql_tables.specs.Finds.{Finds}
 use Rattle.sql_tables.specs.Tables.{batch_table, blank_table, grouping_table, lot_table, mark_table, our_schema, product_table, record_table, remake_table, reply_table, session_table, version_table, word_table}
 
 version_found : Finds our_schema version_table

@@ -5,12 +5,12 @@ use Rattle.sqlite.specs.Term.{col}
 use Rattle.sqlite_keyed.proofs.RuleLemmas.{first_of_both}
 use Rattle.sqlite_schema.specs.Names.{same_name}
 use Rattle.sqlite_tied.specs.Compute.{everything}
-use Rattle.sql_order.specs.Finds.{Finds}
-use Rattle.sql_order.specs.Versions.{numbered_version_at, unmixed_grouping_at}
+use Rattle.sql_tables.specs.Finds.{Finds}
+use Rattle.sql_tables.specs.Versions.{numbered_version_at, unmixed_grouping_at}
 use Rattle.sql_tables.specs.Tables.{batch_at, blank_at, grouping_at, lot_at, mark_at, product_at, record_at, remake_at, reply_at, session_at, word_at}
 use Rattle.table_reads.specs.Texts.{batches_text, blanks_text, groupings_text, lots_text, marks_text, products_text, records_text, remakes_text, replies_text, sessions_text, unmixed_groupings_text, version_text, words_text}
 use Rattle.table_reads.specs.Whole.{Asks, IsWhole}
-use Rattle.sql_order.proofs.Lookups.{IsAt, is_at}
+use Rattle.sql_tables.proofs.Lookups.{IsAt, is_at}
 use Rattle.table_reads.proofs.Selecting.{asks}
 use Rattle.table_reads.proofs.Shapes.{keyed_by, unkeyed}
 

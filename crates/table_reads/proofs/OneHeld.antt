@@ -12,8 +12,8 @@ use Rattle.sql_rows.specs.Encoding.{batch_row, blank_row, grouping_row, lot_row,
 use Rattle.sql_rows.specs.Image.{told}
 use Rattle.sql_rows.proofs.OneImage.{batch_back, blank_back, grouping_back, product_back, record_back, same_typed, session_back}
 use Rattle.sql_tables.specs.Tables.{batch_at, blank_at, lot_at, mark_at, product_at, record_at, remake_at, reply_at, session_at, word_at}
-use Rattle.sql_order.specs.declared.versions.Version.{Version}
-use Rattle.sql_order.specs.declared.versions.Version.TheVariants.{One, Two, Three}
+use Rattle.sql_tables.specs.declared.versions.Version.{Version}
+use Rattle.sql_tables.specs.declared.versions.Version.TheVariants.{One, Two, Three}
 use Rattle.table_reads.specs.Holding.{Holds, HoldsMarks, HoldsRows, groupings_at}
 use Rattle.table_reads.proofs.OneVersion.{IsNumbered, one_number, one_version}
 

@@ -9,10 +9,10 @@ use Rattle.sqlite.specs.Schema.{Schema}
 use Rattle.sqlite.specs.Table.{Table}
 use Rattle.sqlite_schema.specs.Names.{same_name}
 use Rattle.sql_rows.specs.Image.{told}
-use Rattle.sql_order.specs.Finds.{Finds}
-use Rattle.sql_order.specs.Versions.{numbered_version_at}
-use Rattle.sql_order.specs.declared.versions.Version.{Version}
-use Rattle.sql_order.specs.declared.versions.Version.TheVariants.{One, Two, Three}
+use Rattle.sql_tables.specs.Finds.{Finds}
+use Rattle.sql_tables.specs.Versions.{numbered_version_at}
+use Rattle.sql_tables.specs.declared.versions.Version.{Version}
+use Rattle.sql_tables.specs.declared.versions.Version.TheVariants.{One, Two, Three}
 use Rattle.sql_rows.specs.Decoding.{number_in}
 use Rattle.sqlite.specs.Order.{column}
 use Rattle.table_reads.specs.Version.{numbered_row}

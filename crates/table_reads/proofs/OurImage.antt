@@ -11,10 +11,10 @@ use Rattle.sql_base.specs.Rowids.{AreApart}
 use Rattle.sql_tables.specs.Tables.{batch_at, blank_at, grouping_at, lot_at, mark_at, our_schema, product_at, record_at, remake_at, reply_at, session_at, word_at}
 use Rattle.sql_rows.specs.Image.{IsFilled, IsImage, told}
 use Rattle.table_rows.specs.Tables.{Tables}
-use Rattle.sql_order.specs.Alike.{AreAmong, HasJust, HasNoFurtherKey, IsOneOf, is_no_further_key}
-use Rattle.sql_order.specs.Finds.{Finds}
-use Rattle.sql_order.specs.Versions.{numbered_version_at}
-use Rattle.sql_order.specs.declared.versions.Version.TheVariants.{Three}
+use Rattle.sql_tables.specs.Alike.{AreAmong, HasJust, HasNoFurtherKey, IsOneOf, is_no_further_key}
+use Rattle.sql_tables.specs.Finds.{Finds}
+use Rattle.sql_tables.specs.Versions.{numbered_version_at}
+use Rattle.sql_tables.specs.declared.versions.Version.TheVariants.{Three}
 use Rattle.table_reads.specs.Rowids.{HasApart}
 use Rattle.table_reads.proofs.Found.{all_found}
 use Rattle.table_reads.proofs.Telling.{to_all}

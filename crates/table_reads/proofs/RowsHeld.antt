@@ -7,10 +7,10 @@ use Rattle.sqlite.specs.Table.{Table}
 use Rattle.store_data.specs.declared.row.Product.{Product}
 use Rattle.job_facts.specs.Contents.{Entry, Mark}
 use Rattle.sql_tables.specs.Tables.{batch_at, blank_at, grouping_at, lot_at, mark_at, product_at, record_at, remake_at, reply_at, session_at, word_at}
-use Rattle.sql_order.specs.Finds.{Finds}
-use Rattle.sql_order.specs.Versions.{unmixed_grouping_at}
-use Rattle.sql_order.specs.declared.versions.Version.{Version}
-use Rattle.sql_order.specs.declared.versions.Version.TheVariants.{One, Two, Three}
+use Rattle.sql_tables.specs.Finds.{Finds}
+use Rattle.sql_tables.specs.Versions.{unmixed_grouping_at}
+use Rattle.sql_tables.specs.declared.versions.Version.{Version}
+use Rattle.sql_tables.specs.declared.versions.Version.TheVariants.{One, Two, Three}
 use Rattle.table_rows.specs.Tables.{StoredBatch, StoredBlank, StoredGrouping, StoredLot, StoredRecord, StoredRemake, StoredSession, StoredWord, Tables}
 use Rattle.table_reads.specs.Holding.{Holds}
 use Rattle.sql_rows.specs.Encoding.{batch_row, blank_row, lot_row, product_row, record_row, remake_row, reply_row, session_row, word_row}

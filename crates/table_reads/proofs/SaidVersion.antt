@@ -4,11 +4,11 @@ use Rattle.std.specs.List.Sorted.{IsPermutation}
 use Rattle.sqlite.specs.Effect.{Database}
 use Rattle.sqlite.specs.Schema.{Schema}
 use Rattle.sql_rows.specs.Image.{told}
-use Rattle.sql_order.specs.Finds.{Finds}
-use Rattle.sql_order.specs.Ours.{AreThere}
-use Rattle.sql_order.specs.Versions.{numbered_version_at, schema_of}
-use Rattle.sql_order.specs.declared.versions.Version.{Version}
-use Rattle.sql_order.specs.declared.versions.Version.TheVariants.{One, Two, Three}
+use Rattle.sql_tables.specs.Finds.{Finds}
+use Rattle.sql_tables.specs.Ours.{AreThere}
+use Rattle.sql_tables.specs.Versions.{numbered_version_at, schema_of}
+use Rattle.sql_tables.specs.declared.versions.Version.{Version}
+use Rattle.sql_tables.specs.declared.versions.Version.TheVariants.{One, Two, Three}
 use Rattle.table_reads.specs.Version.{numbered_row}
 use Rattle.table_reads.specs.Holding.{SaysVersion, number_of}
 

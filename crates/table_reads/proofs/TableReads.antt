@@ -13,10 +13,10 @@ use Rattle.sql_base.specs.Ends.{IsKept}
 use Rattle.sql_tables.specs.Tables.{batch_at, blank_at, grouping_at, lot_at, mark_at, product_at, record_at, remake_at, reply_at, session_at, word_at}
 use Rattle.sql_rows.specs.Encoding.{batch_row, blank_row, grouping_row, lot_row, mark_row, product_row, record_row, remake_row, reply_row, session_row, word_row}
 use Rattle.sql_rows.specs.Image.{told}
-use Rattle.sql_order.specs.Finds.{Finds}
-use Rattle.sql_order.specs.Versions.{unmixed_grouping_at}
-use Rattle.sql_order.specs.declared.versions.Version.{Version}
-use Rattle.sql_order.specs.declared.versions.Version.TheVariants.{One, Two, Three}
+use Rattle.sql_tables.specs.Finds.{Finds}
+use Rattle.sql_tables.specs.Versions.{unmixed_grouping_at}
+use Rattle.sql_tables.specs.declared.versions.Version.{Version}
+use Rattle.sql_tables.specs.declared.versions.Version.TheVariants.{One, Two, Three}
 use Rattle.table_reads.specs.Shown.{FitsGrouping, FitsLot, FitsProduct, FitsWord, IsAny}
 use Rattle.table_reads.specs.Whole.{IsWhole, NoneStandSo}
 use Rattle.table_reads.proofs.Meanings.{batch_whole, blank_whole, grouping_whole, lot_whole, mark_whole, product_whole, record_whole, remake_whole, reply_whole, session_whole, unmixed_grouping_whole, word_whole}

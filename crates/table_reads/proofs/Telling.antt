@@ -12,10 +12,10 @@ use Rattle.sqlite_schema.specs.Names.{same_name}
 use Rattle.sqlite_schema.specs.Rules.{passes as keeps}
 use Rattle.sqlite_schema.specs.declared.schema.Constraint.TheVariants.{Datatype, NotNull}
 use Rattle.sql_base.proofs.Selecting.{all_pass, passes, selected, shown}
-use Rattle.sql_order.specs.Finds.{Finds}
+use Rattle.sql_tables.specs.Finds.{Finds}
 use Rattle.sql_rows.specs.Image.{told}
 use Rattle.table_reads.specs.Whole.{IsWhole, NoneStandSo, as_stored, stored_row}
-use Rattle.sql_order.proofs.Lookups.{all_at, is_at}
+use Rattle.sql_tables.proofs.Lookups.{all_at, is_at}
 
 -- ---- the rows of a text that asks for a table whole
 

@@ -9,7 +9,7 @@ use Rattle.sqlite.specs.Table.{Table}
 use Rattle.sqlite.proofs.StateLemmas.{survives_then}
 use Rattle.sql_base.specs.Ends.{IsKept}
 use Rattle.sql_rows.specs.Image.{told}
-use Rattle.sql_order.specs.Finds.{Finds}
+use Rattle.sql_tables.specs.Finds.{Finds}
 use Rattle.table_reads.specs.Whole.{NoneStandSo}
 use Rattle.table_reads.specs.Holding.{Holds}
 use Rattle.table_reads.specs.Reading.{Has, Reads, items}

@@ -10,11 +10,11 @@ use Rattle.rows_of_facts.specs.Image.{image}
 use Rattle.sql_tables.specs.Tables.{batch_at, blank_at, grouping_at, lot_at, mark_at, product_at, record_at, remake_at, reply_at, session_at, word_at}
 use Rattle.sql_rows.specs.Encoding.{batch_row, blank_row, grouping_row, lot_row, mark_row, product_row, record_row, remake_row, reply_row, session_row, word_row}
 use Rattle.sql_rows.specs.Image.{told}
-use Rattle.sql_order.specs.Alike.{HasJust}
-use Rattle.sql_order.specs.Finds.{Finds}
-use Rattle.sql_order.specs.Versions.{numbered_version_at, schema_of, unmixed_grouping_at}
-use Rattle.sql_order.specs.declared.versions.Version.{Version}
-use Rattle.sql_order.specs.declared.versions.Version.TheVariants.{One, Two, Three}
+use Rattle.sql_tables.specs.Alike.{HasJust}
+use Rattle.sql_tables.specs.Finds.{Finds}
+use Rattle.sql_tables.specs.Versions.{numbered_version_at, schema_of, unmixed_grouping_at}
+use Rattle.sql_tables.specs.declared.versions.Version.{Version}
+use Rattle.sql_tables.specs.declared.versions.Version.TheVariants.{One, Two, Three}
 use Rattle.table_reads.specs.Version.{numbered_row}
 
 -- the table stands there under some number, and these are its rows, in any order, told with their rowids or without

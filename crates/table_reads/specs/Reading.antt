@@ -11,12 +11,12 @@ use Rattle.table_rows.specs.Tables.{StoredBatch, StoredBlank, StoredGrouping, St
 use Rattle.sql_tables.specs.Tables.{mark_at}
 use Rattle.sql_rows.specs.Encoding.{grouping_row, mark_row}
 use Rattle.sql_rows.specs.Image.{told}
-use Rattle.sql_order.specs.Alike.{HasJust}
-use Rattle.sql_order.specs.Finds.{Finds}
-use Rattle.sql_order.specs.Ours.{AreThere}
-use Rattle.sql_order.specs.Versions.{schema_of}
-use Rattle.sql_order.specs.declared.versions.Version.{Version}
-use Rattle.sql_order.specs.declared.versions.Version.TheVariants.{One, Two, Three}
+use Rattle.sql_tables.specs.Alike.{HasJust}
+use Rattle.sql_tables.specs.Finds.{Finds}
+use Rattle.sql_tables.specs.Ours.{AreThere}
+use Rattle.sql_tables.specs.Versions.{schema_of}
+use Rattle.sql_tables.specs.declared.versions.Version.{Version}
+use Rattle.sql_tables.specs.declared.versions.Version.TheVariants.{One, Two, Three}
 use Rattle.table_reads.specs.Shown.{FitsGrouping, FitsLot, FitsProduct, FitsWord}
 use Rattle.table_reads.specs.Holding.{HoldsRows, SaysVersion, groupings_at}
 

@@ -13,7 +13,7 @@ use Rattle.sqlite.proofs.Callers.{command_of}
 use Rattle.sqlite_schema.specs.Rules.{passes}
 use Rattle.sqlite_schema.specs.declared.schema.Constraint.TheVariants.{Datatype, NotNull}
 use Rattle.sql_base.specs.Queries.{from_tree}
-use Rattle.sql_order.specs.Finds.{Finds}
+use Rattle.sql_tables.specs.Finds.{Finds}
 
 -- at this schema the text asks for these columns of each row of this tree
 pub record Asks (s : Schema) (sql : List ℕ) (tree : ℕ) (columns : List Term) : Type 0 where

@@ -4,8 +4,8 @@ ghost use Rattle.std.specs.Prelude.{◌≡◌};
 ghost use Rattle.std.specs.List.{AllByRecursion};
 ghost use Rattle.sqlite.specs.Effect.{Database};
 ghost use Rattle.job_facts.specs.Contents.{AreSound, Contents};
-ghost use Rattle.sql_order.specs.Finds.{Finds};
-ghost use Rattle.sql_order.specs.declared.versions.Version.{Version as OfVersion};
+ghost use Rattle.sql_tables.specs.Finds.{Finds};
+ghost use Rattle.sql_tables.specs.declared.versions.Version.{Version as OfVersion};
 ghost use Rattle.sql_rows.specs.Image.{IsImage};
 ghost use Rattle.sql_tables.specs.Tables.{our_schema};
 ghost use Rattle.rows_of_facts.specs.Image.{image};
@@ -14,7 +14,7 @@ ghost use Rattle.table_reads.specs.Holding.{HoldsRows};
 ghost use Rattle.table_reads.specs.Reading.{Fit};
 ghost use Rattle.table_reads.specs.Rowids.{HasApart};
 
-use sql_order::Version;
+use sql_tables::Version;
 
 /// Each of our tables is found in our own schema, under the number that it has there.
 pub fn our_tables_are_found()

@@ -5,7 +5,7 @@ ghost use Rattle.sqlite.specs.Held.{state};
 ghost use Rattle.sqlite.specs.State.{HasCleanDisk, Survives};
 ghost use Rattle.sqlite.specs.Table.{Table};
 ghost use Rattle.sql_base.specs.Ends.{IsKept};
-ghost use Rattle.sql_order.specs.Finds.{Finds};
+ghost use Rattle.sql_tables.specs.Finds.{Finds};
 ghost use Rattle.sql_rows.specs.Image.{told};
 ghost use Rattle.table_reads.specs.Whole.{IsWhole, NoneStandSo, as_stored};
 

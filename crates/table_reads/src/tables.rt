@@ -7,7 +7,7 @@ ghost use Rattle.table_reads.specs.Reading.{HasGroupings, HasMarks, HasRows, Hol
 ghost use Rattle.table_reads.specs.Reading.{Reads, items, tables_of};
 
 use crate::reads::whole;
-use sql_order::Version;
+use sql_tables::Version;
 use sqlite::{Alter, Connection, Error};
 use std::alloc::Global;
 use stored_rows::{

@@ -4,9 +4,9 @@ ghost use Rattle.sqlite.specs.Held.{state};
 ghost use Rattle.sqlite.specs.Order.{column};
 ghost use Rattle.sqlite.specs.State.{HasCleanDisk, Survives};
 ghost use Rattle.sql_base.specs.Ends.{IsKept};
-ghost use Rattle.sql_order.specs.Finds.{Finds};
-ghost use Rattle.sql_order.specs.Ours.{AreThere};
-ghost use Rattle.sql_order.specs.Versions.{numbered_version_at, schema_of};
+ghost use Rattle.sql_tables.specs.Finds.{Finds};
+ghost use Rattle.sql_tables.specs.Ours.{AreThere};
+ghost use Rattle.sql_tables.specs.Versions.{numbered_version_at, schema_of};
 ghost use Rattle.sql_rows.specs.Encoding.{number};
 ghost use Rattle.sql_rows.specs.Image.{told};
 ghost use Rattle.table_reads.specs.Holding.{SaysVersion, number_of};
@@ -14,7 +14,7 @@ ghost use Rattle.table_reads.specs.Version.{IsVersionAlone, IsVersionRow, number
 
 use crate::reads::whole_rows;
 use crate::values::{is_number, number_at};
-use sql_order::Version;
+use sql_tables::Version;
 use sqlite::{Alter, Connection, Error, Row};
 
 fn is_exactly(row: &Row, at: usize, n: u64) -> bool

@@ -5,7 +5,7 @@ use Rattle.sqlite.specs.declared.error.Error.{Error}
 use Rattle.sqlite.proofs.InsideLemmas.{keeps_then}
 use Rattle.table_rows.specs.Tables.{Tables, no_rows}
 use Rattle.sql_base.specs.Ends.{Wrote}
-use Rattle.sql_order.specs.declared.versions.Version.{Version}
+use Rattle.sql_tables.specs.declared.versions.Version.{Version}
 use Rattle.sql_rows.specs.Image.{IsImage, Moves}
 use Rattle.sql_rows.proofs.Newly.{newly_filled}
 use Rattle.change_writes.specs.Many.{WroteMany}

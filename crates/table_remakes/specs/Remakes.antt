@@ -1,8 +1,8 @@
 -- What is made of a database of our tables.
 use Rattle.sqlite.specs.Effect.{Database, IsDatabase}
-use Rattle.sql_order.specs.Alike.{HasJust}
-use Rattle.sql_order.specs.Versions.{schema_of}
-use Rattle.sql_order.specs.declared.versions.Version.{Version}
+use Rattle.sql_tables.specs.Alike.{HasJust}
+use Rattle.sql_tables.specs.Versions.{schema_of}
+use Rattle.sql_tables.specs.declared.versions.Version.{Version}
 use Rattle.sql_rows.specs.Image.{IsImage}
 use Rattle.table_rows.specs.Tables.{Tables}
 

@@ -6,7 +6,7 @@ ghost use Rattle.sql_base.specs.Ends.{Ends, IsKept, IsLeft, Wrote};
 ghost use Rattle.table_remakes.specs.Remakes.{Remakes};
 
 use order_anew::make_anew;
-use sql_order::Version;
+use sql_tables::Version;
 use sqlite::{Alter, Connection, Error, Transaction};
 use stored_rows::Tables;
 use table_fills::fill;

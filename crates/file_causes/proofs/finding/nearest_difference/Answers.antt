@@ -1,6 +1,6 @@
 use Rattle.std.proofs.Common.{subst}
-use Rattle.sql_order.specs.Alike.{HasJust}
-use Rattle.sql_order.specs.Versions.{schema_of}
+use Rattle.sql_tables.specs.Alike.{HasJust}
+use Rattle.sql_tables.specs.Versions.{schema_of}
 use Rattle.file_causes.specs.Differences.{nearest}
 use Rattle.file_causes.proofs.finding.nearest_difference.Goals as goal
 

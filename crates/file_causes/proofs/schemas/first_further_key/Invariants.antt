@@ -1,5 +1,5 @@
 use Rattle.std.specs.List.{AllWithin}
-use Rattle.sql_order.specs.Alike.{is_no_further_key}
+use Rattle.sql_tables.specs.Alike.{is_no_further_key}
 use Rattle.file_causes.proofs.schemas.first_further_key.Given as goal
 
 abbrev pub invariant-loop-index : goal.invariant-loop-index

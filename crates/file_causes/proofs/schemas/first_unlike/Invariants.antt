@@ -1,5 +1,5 @@
 use Rattle.std.specs.List.{AllWithin}
-use Rattle.sql_order.specs.Alike.{IsOneOf}
+use Rattle.sql_tables.specs.Alike.{IsOneOf}
 use Rattle.file_causes.proofs.schemas.first_unlike.Given as goal
 
 abbrev pub invariant-loop-table : goal.invariant-loop-table

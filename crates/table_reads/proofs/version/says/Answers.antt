@@ -3,8 +3,8 @@ use Rattle.std.specs.List.Sorted.{IsPermutation}
 use Rattle.sqlite.specs.Held.{state}
 use Rattle.sql_base.proofs.Selecting.{if_ok}
 use Rattle.sql_rows.specs.Image.{told}
-use Rattle.sql_order.specs.Finds.{Finds}
-use Rattle.sql_order.specs.Versions.{numbered_version_at}
+use Rattle.sql_tables.specs.Finds.{Finds}
+use Rattle.sql_tables.specs.Versions.{numbered_version_at}
 use Rattle.table_reads.specs.Version.{numbered_row}
 use Rattle.table_reads.proofs.SaidVersion.{says_as}
 use Rattle.table_reads.proofs.version.says.Goals as goal

@@ -1,6 +1,6 @@
 use Rattle.std.proofs.Common.{◌↔◌, IsTrue, true, subst}
 use Rattle.sqlite.specs.Held.{state}
-use Rattle.sql_order.specs.Versions.{numbered_version_at}
+use Rattle.sql_tables.specs.Versions.{numbered_version_at}
 use Rattle.sql_rows.specs.Image.{told}
 use Rattle.table_reads.specs.Version.{IsVersionAlone}
 use Rattle.table_reads.proofs.Alone.{says}

@@ -1,3 +1,0 @@
-pub mod Defined
-pub mod Lookups
-pub mod Standing
