@@ -11,7 +11,7 @@ use crate::ours::can_stay;
 use sql_tables::Version;
 use sqlite::{Alter, Connection};
 use std::alloc::Global;
-use stored_rows::Tables;
+use table_rows::Tables;
 use table_reads::our_rows_are_an_image;
 use table_remakes::remake;
 

@@ -25,7 +25,7 @@ use Rattle.job_facts.specs.States.{is_finished, product_named, records_of, same_
 use Rattle.step_laws.proofs.Permuted.{IsPermutation-filter}
 use Rattle.table_rows.specs.Tables.{StoredBatch, StoredRecord, StoredSession, Tables}
 use Rattle.table_rows.specs.After.{new_grouping}
-use Rattle.facts_of_rows.specs.Decided.{batch_of_row}
+use Rattle.image_laws.specs.Decided.{batch_of_row}
 use Rattle.table_rows.specs.Keys.{is_batch, is_grouping_of, is_record_at, is_record_of}
 use Rattle.rows_answer.proofs.Finding.{find-filter}
 use Rattle.rows_answer.proofs.TotalRows.{sum_by-map}

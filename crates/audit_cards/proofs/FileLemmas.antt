@@ -17,7 +17,7 @@ use Rattle.store_data.specs.Sequence.{IsRow}
 use Rattle.job_facts.specs.Facts.{Batch}
 use Rattle.job_facts.specs.States.{product_named, rows_of, rows_of_record}
 use Rattle.table_rows.specs.Tables.{StoredBatch, StoredRecord, StoredSession, Tables}
-use Rattle.facts_of_rows.specs.Decided.{batch_of_row}
+use Rattle.image_laws.specs.Decided.{batch_of_row}
 use Rattle.table_rows.specs.Keys.{is_batch, is_record_at, is_record_of}
 use Rattle.rows_answer.proofs.Finding.{find-filter}
 use Rattle.audit_laws.specs.Audited.{file_rows, is_session_at, key_of}

@@ -12,7 +12,7 @@ use Rattle.job_facts.specs.declared.facts.SessionState.{SessionState}
 use Rattle.job_facts.specs.Sound.{IsBatch, IsSoundRecord}
 use Rattle.job_facts.specs.States.{is_spoiled, lot_of, product_named, rows_of_record, state_by}
 use Rattle.table_rows.specs.Tables.{StoredBatch, StoredRecord, StoredRemake, StoredSession, Tables}
-use Rattle.facts_of_rows.specs.Decided.{batch_of_row}
+use Rattle.image_laws.specs.Decided.{batch_of_row}
 use Rattle.table_rows.specs.Keys.{is_batch, is_grouping_of, is_record_at, is_record_of}
 use Rattle.audit_laws.specs.Audited.{IsAuditedBatch, IsAuditedRecord, IsAuditedSession, file_groupings, file_keys, file_rows, is_session_at, is_session_of, is_withdrawn, key_of}
 use Rattle.ordered_rows.specs.Order.{lots_of}

@@ -20,7 +20,7 @@ use batch_import::{ImportFault, read_batch};
 use ordered_rows::{is_name, product_named, range_of};
 use std::alloc::{AllocError, Global};
 use store_data::{Name, Product, Row, grouped};
-use stored_rows::{StoredBatch, StoredGrouping, StoredRecord, Tables};
+use table_rows::{StoredBatch, StoredGrouping, StoredRecord, Tables};
 
 // Whether a batch has a name.
 fn is_named(batch: &StoredBatch) -> bool

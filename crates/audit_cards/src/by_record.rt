@@ -8,7 +8,7 @@ use job_facts::SessionState;
 use ordered_rows::{InOrder, Ranged, sort_rows};
 use std::alloc::{AllocError, Global};
 use std::marker::Model;
-use stored_rows::StoredSession;
+use table_rows::StoredSession;
 
 /// A session's row.
 #[derive(Drop)]

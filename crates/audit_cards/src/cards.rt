@@ -9,7 +9,7 @@ ghost use Rattle.audit_cards.specs.Cards.{Leaves, status_words};
 
 use job_facts::SessionState;
 use store_data::{Class, Cursor, RecordPlan, SegmentView, class};
-use stored_rows::{StoredSession, StoredWord};
+use table_rows::{StoredSession, StoredWord};
 
 /// A card after words of its session.
 #[derive(Clone, Copy)]

@@ -8,7 +8,7 @@ ghost use Rattle.audit_cards.specs.Files.{CountsBy, CountsRecords, CountsSession
 use crate::by_record::SessionRef;
 use crate::records::count_of;
 use job_facts::{RecordState, SessionState};
-use stored_rows::{StoredBatch, StoredRecord};
+use table_rows::{StoredBatch, StoredRecord};
 
 // How many of these records stand so.
 fn count_records(records: &[StoredRecord], state: RecordState) -> u64

@@ -8,7 +8,7 @@ ghost use Rattle.audit_cards.specs.Files.{IsNamed, groupings_in, keys_of, names_
 use indexmap::IndexSet;
 use std::alloc::{AllocError, Global};
 use store_data::{Name, Row};
-use stored_rows::{StoredGrouping, StoredRecord};
+use table_rows::{StoredGrouping, StoredRecord};
 
 /// The names of the records of rows, in file order.
 pub(crate) fn names_of(alloc: Global, rows: &[Row]) -> Result<Vec<Name>, AllocError>

@@ -13,7 +13,7 @@ use crate::sessions::is_audited_session;
 use job_facts::{RecordState, SessionState};
 use std::alloc::{AllocError, Global};
 use store_data::{Product, RecordPlan, Row, plan_of_sound};
-use stored_rows::{StoredBatch, StoredRecord, Tables};
+use table_rows::{StoredBatch, StoredRecord, Tables};
 
 /// How many of these sessions stand so.
 pub(crate) fn count_of(sessions: &[SessionRef<'_>], state: SessionState) -> u64

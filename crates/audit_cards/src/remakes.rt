@@ -4,7 +4,7 @@ ghost use Rattle.table_rows.specs.Tables.{StoredRemake as RemakeValue};
 ghost use Rattle.audit_laws.specs.Audited.{turns_of};
 ghost use Rattle.audit_cards.specs.Sessions.{turn_of};
 
-use stored_rows::{StoredRecord, StoredRemake};
+use table_rows::{StoredRecord, StoredRemake};
 
 // Whether this is a turn of a record, behind so many.
 fn is_turn(remake: &StoredRemake, stored: &StoredRecord, before: usize) -> bool

@@ -11,7 +11,7 @@ use crate::cards::{card_after, state_of};
 use job_facts::SessionState;
 use ordered_rows::{is_name, lot_of, range_of};
 use store_data::{Cursor, RecordPlan};
-use stored_rows::{StoredBatch, StoredLot, StoredSession, StoredWord, Tables};
+use table_rows::{StoredBatch, StoredLot, StoredSession, StoredWord, Tables};
 
 // Whether the session's card is said to stand at this cursor.
 fn is_at(session: &StoredSession, cursor: &Cursor) -> bool

@@ -8,7 +8,7 @@ use crate::batches::is_audited_file;
 use crate::by_record::{SessionRef, by_record};
 use crate::remakes::are_remakes;
 use std::alloc::{AllocError, Global};
-use stored_rows::{StoredBatch, Tables};
+use table_rows::{StoredBatch, Tables};
 
 // The sessions by their records.
 fn sessions_by_record(alloc: Global, tables: &Tables) -> Result<Vec<SessionRef<'_>>, AllocError>

@@ -6,7 +6,7 @@ ghost use Rattle.audit_cards.specs.Cards.{word_at, words_placed};
 ghost use Rattle.ordered_rows.specs.Order.{AreReady};
 
 use crate::sessions::words_of;
-use stored_rows::{StoredSession, StoredWord, Tables};
+use table_rows::{StoredSession, StoredWord, Tables};
 
 // Whether this is a word of this session at this place, and the same as another.
 fn is_word(word: &StoredWord, session: &StoredSession, place: usize, own: &StoredWord) -> bool

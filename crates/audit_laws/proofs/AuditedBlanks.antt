@@ -12,11 +12,11 @@ use Rattle.job_facts.specs.Sound.{AreLots, IsSound}
 use Rattle.job_facts.specs.States.{is_in, lot_of}
 use Rattle.step_laws.specs.Sums.{discarded_in}
 use Rattle.table_rows.specs.Tables.{StoredBlank, StoredLot, StoredSession}
-use Rattle.rows_of_facts.specs.Image.{image, lot_name, name_of, sessions_by_id, stored_blank, stored_blanks, stored_lot, stored_lots, stored_session, stored_sessions}
-use Rattle.rows_of_facts.proofs.Found.{some_there}
-use Rattle.rows_of_facts.proofs.Lists.{unmoved}
-use Rattle.rows_of_facts.proofs.Lookups.{none_pass}
-use Rattle.facts_of_rows.specs.Decided.{discarded_rows}
+use Rattle.image_laws.specs.Image.{image, lot_name, name_of, sessions_by_id, stored_blank, stored_blanks, stored_lot, stored_lots, stored_session, stored_sessions}
+use Rattle.image_laws.proofs.Found.{some_there}
+use Rattle.image_laws.proofs.Lists.{unmoved}
+use Rattle.image_laws.proofs.Lookups.{none_pass}
+use Rattle.image_laws.specs.Decided.{discarded_rows}
 use Rattle.rows_answer.proofs.BlankRows.{lots_are, serials_are}
 use Rattle.rows_answer.proofs.Finding.{AllPairs-from_map, filter_all, unnumbered}
 use Rattle.audit_laws.specs.Audited.{IsAuditedBlank, IsAuditedLot, opened_rows}

@@ -13,10 +13,10 @@ use Rattle.job_facts.specs.Contents.{Contents}
 use Rattle.job_facts.specs.Facts.{Batch, Facts}
 use Rattle.job_facts.specs.Sound.{IsSound, IsSoundRecord}
 use Rattle.job_facts.specs.States.{is_batch_finished, is_closed, is_finished, is_spoiled, is_withdrawn as is_gone, record_state, records_named, remakes_of, state_by, states_of}
-use Rattle.rows_of_facts.proofs.Lists.{All-joined}
+use Rattle.image_laws.proofs.Lists.{All-joined}
 use Rattle.table_rows.specs.Tables.{StoredBatch, StoredRecord, Tables}
-use Rattle.rows_of_facts.specs.Image.{batches_by_id, image, place_in, placed_records, records_in, stored_batch, stored_batches, stored_record, stored_records}
-use Rattle.facts_of_rows.proofs.Sets.{withdrawn_stands}
+use Rattle.image_laws.specs.Image.{batches_by_id, image, place_in, placed_records, records_in, stored_batch, stored_batches, stored_record, stored_records}
+use Rattle.image_laws.proofs.Sets.{withdrawn_stands}
 use Rattle.rows_answer.proofs.RecordRows.{name_at}
 use Rattle.audit_laws.specs.Audited.{IsAuditedBatch, IsAuditedRecord, is_withdrawn, record_states_of, states_at}
 use Rattle.audit_laws.proofs.AuditedPlaces.{IsOwn, IsOwnRecord, batch_record_states, batch_session_states, own_batches, own_records, record_session_states}

@@ -9,11 +9,11 @@ use Rattle.store_data.proofs.RankLemmas.{flat_map-flat_map}
 use Rattle.job_facts.specs.Contents.{Contents}
 use Rattle.job_facts.specs.Facts.{Facts, Session}
 use Rattle.table_rows.specs.Tables.{StoredBatch, StoredSession, StoredWord}
-use Rattle.rows_of_facts.specs.Image.{batches_by_id, image, placed_records, records_in, sessions_by_id, stored_batch, stored_batches, stored_groupings, stored_record, stored_records, stored_remakes, stored_session, stored_sessions, stored_words, words_in}
-use Rattle.rows_of_facts.proofs.Lists.{flat_map_same}
-use Rattle.rows_of_facts.proofs.Lookups.{IsOfOne, none_pass, one_listed}
-use Rattle.rows_of_facts.proofs.Places.{map_joined}
-use Rattle.facts_of_rows.specs.Decided.{batch_of_row}
+use Rattle.image_laws.specs.Image.{batches_by_id, image, placed_records, records_in, sessions_by_id, stored_batch, stored_batches, stored_groupings, stored_record, stored_records, stored_remakes, stored_session, stored_sessions, stored_words, words_in}
+use Rattle.image_laws.proofs.Lists.{flat_map_same}
+use Rattle.image_laws.proofs.Lookups.{IsOfOne, none_pass, one_listed}
+use Rattle.image_laws.proofs.Places.{map_joined}
+use Rattle.image_laws.specs.Decided.{batch_of_row}
 use Rattle.rows_answer.proofs.Finding.{filter_all, unnumbered}
 use Rattle.rows_answer.proofs.RecordRows.{equal_self}
 use Rattle.audit_laws.specs.Audited.{file_groupings, file_keys, key_of, placed_words, turns_of, words_of}

@@ -4,7 +4,7 @@ use Rattle.std.proofs.lemmas.List.Sorted.{IsPermutation-sym}
 use Rattle.job_facts.specs.Contents.{AreSound, Contents}
 use Rattle.job_facts.specs.Sound.{AreBatches}
 use Rattle.table_rows.specs.Tables.{HaveSameRows, StoredBatch, StoredGrouping, StoredRecord, StoredRemake, StoredSession, StoredWord, Tables}
-use Rattle.rows_of_facts.specs.Image.{image, stored_batches, stored_groupings, stored_records, stored_remakes, stored_sessions, stored_words}
+use Rattle.image_laws.specs.Image.{image, stored_batches, stored_groupings, stored_records, stored_remakes, stored_sessions, stored_words}
 use Rattle.audit_laws.specs.Audited.{AreInOrder, IsAudited}
 use Rattle.audit_laws.proofs.AuditedBlanks as blanks
 use Rattle.audit_laws.proofs.AuditedCounts as counted

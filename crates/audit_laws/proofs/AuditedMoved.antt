@@ -17,9 +17,9 @@ use Rattle.job_facts.specs.States.{is_in, lot_of, product_named, records_of, row
 use Rattle.step_laws.proofs.BlankSums.{apart_once, bytes_eq_either, named_once}
 use Rattle.step_laws.proofs.Permuted.{IsPermutation-filter, at_most_one, count_moved, find_moved}
 use Rattle.table_rows.specs.Tables.{StoredBatch, StoredBlank, StoredLot, StoredSession, Tables}
-use Rattle.rows_of_facts.specs.Image.{place_in}
-use Rattle.rows_of_facts.proofs.OneRecord.{turned}
-use Rattle.facts_of_rows.specs.Decided.{batch_of_row, discarded_rows}
+use Rattle.image_laws.specs.Image.{place_in}
+use Rattle.image_laws.proofs.OneRecord.{turned}
+use Rattle.image_laws.specs.Decided.{batch_of_row, discarded_rows}
 use Rattle.rows_answer.proofs.RecordRows.{name_alone}
 use Rattle.audit_laws.specs.Audited.{IsAudited, IsAuditedBatch, IsAuditedBlank, IsAuditedLot, IsAuditedRecord, IsAuditedSession, file_groupings, file_keys, file_records, file_rows, opened_rows}
 use Rattle.audit_laws.proofs.InOrder.{pairs_moved}

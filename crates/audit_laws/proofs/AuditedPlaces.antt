@@ -18,10 +18,10 @@ use Rattle.job_facts.specs.States.{batch_named, record_state, records_named, rec
 use Rattle.job_facts.proofs.SoundFacts.{is_for}
 use Rattle.table_rows.proofs.Found.{filter_alike}
 use Rattle.table_rows.specs.Tables.{StoredRecord, StoredSession}
-use Rattle.rows_of_facts.specs.Image.{batch_id, batches_by_id, place_in, placed_records, sessions_by_id, stored_record, stored_records, stored_session, stored_sessions}
-use Rattle.rows_of_facts.proofs.Lists.{All-numbered}
-use Rattle.rows_of_facts.proofs.OneRecord.{ids, named_alone, places_in}
-use Rattle.facts_of_rows.proofs.Sets.{numbered_there}
+use Rattle.image_laws.specs.Image.{batch_id, batches_by_id, place_in, placed_records, sessions_by_id, stored_record, stored_records, stored_session, stored_sessions}
+use Rattle.image_laws.proofs.Lists.{All-numbered}
+use Rattle.image_laws.proofs.OneRecord.{ids, named_alone, places_in}
+use Rattle.image_laws.proofs.Sets.{numbered_there}
 use Rattle.table_rows.specs.Keys.{is_record_of}
 use Rattle.rows_answer.proofs.BatchRecords.{rows_of_batch}
 use Rattle.rows_answer.proofs.Finding.{kept_numbered, unnumbered}

@@ -16,7 +16,7 @@ use Rattle.job_facts.proofs.Lists.{find-All, item_there}
 use Rattle.job_facts.proofs.PlanLemmas.{plan_there}
 use Rattle.step_laws.proofs.Numbered.{session_sound}
 use Rattle.step_laws.proofs.Permuted.{at_most_one}
-use Rattle.rows_of_facts.specs.Image.{batch_id, image, stored_batch, stored_record, stored_session, stored_sessions, stored_words}
+use Rattle.image_laws.specs.Image.{batch_id, image, stored_batch, stored_record, stored_session, stored_sessions, stored_words}
 use Rattle.table_rows.specs.Keys.{is_running_on}
 use Rattle.rows_answer.proofs.BatchRows.{id_row}
 use Rattle.rows_answer.proofs.BlankRows.{lots_are}

@@ -10,11 +10,11 @@ use Rattle.job_facts.specs.Facts.{Batch, Facts, Session}
 use Rattle.job_facts.specs.States.{is_in}
 use Rattle.job_facts.specs.Accounts.{batch_totals, session_states}
 use Rattle.table_rows.specs.Tables.{HaveSameRows, StoredBatch, StoredBlank, StoredLot, StoredRecord, StoredRemake, StoredSession, Tables}
-use Rattle.rows_of_facts.specs.Image.{groupings_in, image, name_of, records_in, remakes_at, remakes_in, stored_batch, stored_batches, stored_blank, stored_blanks, stored_groupings, stored_lot, stored_lots, stored_record, stored_records, stored_remakes, stored_session, stored_sessions, stored_words, words_in}
-use Rattle.rows_of_facts.proofs.Lists.{flat_map_same, unmoved}
-use Rattle.rows_of_facts.proofs.Places.{map_joined}
-use Rattle.rows_of_facts.proofs.Staying.{batch_by, totals_are, totals_by}
-use Rattle.facts_of_rows.specs.Decided.{batch_name, batch_of_row, contents_of, discarded_rows, facts_of}
+use Rattle.image_laws.specs.Image.{groupings_in, image, name_of, records_in, remakes_at, remakes_in, stored_batch, stored_batches, stored_blank, stored_blanks, stored_groupings, stored_lot, stored_lots, stored_record, stored_records, stored_remakes, stored_session, stored_sessions, stored_words, words_in}
+use Rattle.image_laws.proofs.Lists.{flat_map_same, unmoved}
+use Rattle.image_laws.proofs.Places.{map_joined}
+use Rattle.image_laws.proofs.Staying.{batch_by, totals_are, totals_by}
+use Rattle.image_laws.specs.Decided.{batch_name, batch_of_row, contents_of, discarded_rows, facts_of}
 use Rattle.audit_laws.specs.Audited.{IsAudited, IsAuditedBatch, IsAuditedBlank, IsAuditedLot, IsAuditedSession, file_keys, file_records, key_of, named_session, opened_rows, record_states_of, session_states_of, turns_of}
 use Rattle.audit_laws.proofs.Tells.{IsToldBatch, IsToldRecord, IsToldSession, Tells}
 use Rattle.audit_laws.proofs.ImageLists.{flat_joined, made_again}

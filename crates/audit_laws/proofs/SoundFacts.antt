@@ -16,7 +16,7 @@ use Rattle.job_facts.specs.States.{batch_named, is_running, lot_of, records_name
 use Rattle.job_facts.proofs.Lists.{map_same}
 use Rattle.step_laws.proofs.Permuted.{at_most_one, count_moved}
 use Rattle.table_rows.specs.Tables.{StoredBlank, StoredRecord, StoredSession, Tables}
-use Rattle.facts_of_rows.specs.Decided.{batch_name, batch_of_row, discarded_rows, facts_of, record_name}
+use Rattle.image_laws.specs.Decided.{batch_name, batch_of_row, discarded_rows, facts_of, record_name}
 use Rattle.table_rows.specs.Keys.{is_running_on}
 use Rattle.rows_answer.proofs.Finding.{once_from_count}
 use Rattle.audit_laws.specs.Audited.{IsAudited, IsAuditedBlank, IsAuditedSession, file_records, key_of, named_session, opened_rows, words_of}

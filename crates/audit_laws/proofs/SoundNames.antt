@@ -14,14 +14,14 @@ use Rattle.job_facts.specs.States.{batch_named}
 use Rattle.job_facts.proofs.Lists.{find-All}
 use Rattle.step_laws.proofs.BlankSums.{bytes_eq_either, named_once}
 use Rattle.table_rows.proofs.Found.{find_passes}
-use Rattle.rows_of_facts.proofs.Lists.{All-joined}
+use Rattle.image_laws.proofs.Lists.{All-joined}
 use Rattle.table_rows.specs.Tables.{PassesOnce, StoredBatch, StoredRecord, Tables}
-use Rattle.rows_of_facts.specs.Image.{batch_id, batches_by_id, place_in}
-use Rattle.rows_of_facts.proofs.OneRecord.{has_name, records_once}
-use Rattle.rows_of_facts.proofs.Places.{HasPlace, found_alone, once_of, placed}
-use Rattle.facts_of_rows.specs.Decided.{batch_name, batch_of_row, batch_with, facts_of, found_from, record_name}
-use Rattle.facts_of_rows.proofs.Back.{found_from_is}
-use Rattle.facts_of_rows.proofs.Sets.{numbered_there}
+use Rattle.image_laws.specs.Image.{batch_id, batches_by_id, place_in}
+use Rattle.image_laws.proofs.OneRecord.{has_name, records_once}
+use Rattle.image_laws.proofs.Places.{HasPlace, found_alone, once_of, placed}
+use Rattle.image_laws.specs.Decided.{batch_name, batch_of_row, batch_with, facts_of, found_from, record_name}
+use Rattle.image_laws.proofs.Back.{found_from_is}
+use Rattle.image_laws.proofs.Sets.{numbered_there}
 use Rattle.table_rows.specs.Keys.{is_batch, is_record_at}
 use Rattle.rows_answer.proofs.Finding.{AllPairs-from_map, AllPairs-map, number_once, once_joined}
 use Rattle.audit_laws.specs.Audited.{IsAudited, file_keys, file_records, key_of}

@@ -18,9 +18,9 @@ use Rattle.job_facts.specs.States.{batch_named, is_batch_finished, is_finished, 
 use Rattle.job_facts.proofs.Lists.{find-All, find-None}
 use Rattle.step_laws.proofs.BlankSums.{bytes_eq_either}
 use Rattle.table_rows.proofs.Found.{filter_none, find_passes}
-use Rattle.rows_of_facts.proofs.Lists.{All-joined}
+use Rattle.image_laws.proofs.Lists.{All-joined}
 use Rattle.table_rows.specs.Tables.{StoredBatch, StoredRecord, StoredRemake, StoredSession, Tables}
-use Rattle.facts_of_rows.specs.Decided.{batch_name, batch_of_row, closed_rows, contents_of, facts_of, record_name, remade_of_row, withdrawn_of_row, withdrawn_rows}
+use Rattle.image_laws.specs.Decided.{batch_name, batch_of_row, closed_rows, contents_of, facts_of, record_name, remade_of_row, withdrawn_of_row, withdrawn_rows}
 use Rattle.table_rows.specs.Keys.{is_record_at}
 use Rattle.rows_answer.proofs.Finding.{AllPairs-from_map, AllPairs-map}
 use Rattle.audit_laws.specs.Audited.{IsAudited, IsAuditedBatch, IsAuditedRecord, IsAuditedSession, is_withdrawn, record_states_of, states_at, turns_of}

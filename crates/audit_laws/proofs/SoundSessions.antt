@@ -15,9 +15,9 @@ use Rattle.job_facts.specs.States.{batch_named, commands_for, commands_under, go
 use Rattle.job_facts.proofs.Lists.{map_same}
 use Rattle.table_rows.proofs.Found.{filter_alike}
 use Rattle.table_rows.specs.Tables.{StoredSession, StoredWord, Tables}
-use Rattle.rows_of_facts.specs.Image.{batch_id, place_in, sessions_by_id}
-use Rattle.facts_of_rows.specs.Decided.{batch_name, batch_of_row, facts_of, found_from, record_name, session_of_row, session_with, word_with}
-use Rattle.facts_of_rows.proofs.Back.{found_from_is}
+use Rattle.image_laws.specs.Image.{batch_id, place_in, sessions_by_id}
+use Rattle.image_laws.specs.Decided.{batch_name, batch_of_row, facts_of, found_from, record_name, session_of_row, session_with, word_with}
+use Rattle.image_laws.proofs.Back.{found_from_is}
 use Rattle.table_rows.specs.Keys.{is_batch, is_session}
 use Rattle.rows_answer.proofs.Finding.{filter_all, find-filter, find-map, kept_joined, number_found}
 use Rattle.audit_laws.specs.Audited.{IsAudited, IsAuditedSession, file_records, file_rows, key_of, named_session, placed_words, words_of}

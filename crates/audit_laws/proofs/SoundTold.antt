@@ -14,8 +14,8 @@ use Rattle.job_facts.specs.States.{batch_named, is_closed, is_record, is_spoiled
 use Rattle.job_facts.proofs.Lists.{map_same}
 use Rattle.step_laws.proofs.BlankSums.{bytes_eq_either}
 use Rattle.table_rows.specs.Tables.{StoredBatch, StoredRecord, StoredRemake, StoredSession, Tables}
-use Rattle.rows_of_facts.specs.Image.{batch_id}
-use Rattle.facts_of_rows.specs.Decided.{batch_name, batch_of_row, closed_rows, facts_of, record_name, remade_of_row, withdrawn_of_row, withdrawn_rows}
+use Rattle.image_laws.specs.Image.{batch_id}
+use Rattle.image_laws.specs.Decided.{batch_name, batch_of_row, closed_rows, facts_of, record_name, remade_of_row, withdrawn_of_row, withdrawn_rows}
 use Rattle.table_rows.specs.Keys.{is_batch, is_record_at, is_record_of}
 use Rattle.rows_answer.proofs.Finding.{filter_all, kept_joined, unnumbered}
 use Rattle.audit_laws.specs.Audited.{IsAudited, IsAuditedRecord, IsAuditedSession, file_keys, file_records, is_session_at, is_session_of, is_withdrawn, key_of, record_states_of, session_states_of, states_at, turns_of}

@@ -4,8 +4,8 @@ use Rattle.job_facts.specs.Accounts.{record_states, session_states}
 use Rattle.job_facts.specs.Facts.{Batch, Session}
 use Rattle.job_facts.specs.States.{is_closed, is_spoiled, is_withdrawn as is_gone, record_state, records_named, remakes_of, session_cursor, session_state, states_of}
 use Rattle.table_rows.specs.Tables.{StoredBatch, StoredRecord, StoredSession, Tables}
-use Rattle.rows_of_facts.specs.Image.{batch_id, batches_by_id, place_in, sessions_by_id}
-use Rattle.facts_of_rows.specs.Decided.{batch_name, batch_of_row, facts_of, record_name}
+use Rattle.image_laws.specs.Image.{batch_id, batches_by_id, place_in, sessions_by_id}
+use Rattle.image_laws.specs.Decided.{batch_name, batch_of_row, facts_of, record_name}
 use Rattle.audit_laws.specs.Audited.{is_withdrawn, named_session, record_states_of, session_states_of, states_at}
 
 pub record IsToldBatch (t : Tables) (b : StoredBatch) : Type 0 where

@@ -16,8 +16,8 @@ use Rattle.job_facts.specs.Facts.{Session}
 use Rattle.job_facts.specs.Sound.{AreBatches, AreLots, AreProducts, AreWords, IsName, IsSoundRecord}
 use Rattle.job_facts.specs.States.{going, is_finished, is_in, is_spoiled, lot_of, product_named, records_of, rows_of, rows_of_record, same_record_state, state_by, state_with}
 use Rattle.table_rows.specs.Tables.{StoredBatch, StoredBlank, StoredGrouping, StoredLot, StoredRecord, StoredRemake, StoredSession, StoredWord, Tables}
-use Rattle.rows_of_facts.specs.Image.{place_in}
-use Rattle.facts_of_rows.specs.Decided.{batch_name, batch_of_row, discarded_rows, record_name}
+use Rattle.image_laws.specs.Image.{place_in}
+use Rattle.image_laws.specs.Decided.{batch_name, batch_of_row, discarded_rows, record_name}
 use Rattle.table_rows.specs.Keys.{is_batch, is_record_at, is_record_of, is_running_on}
 
 -- ---- files

@@ -1,7 +1,7 @@
 //! What the audit tests of rows is just that they are those of sound contents. Each function does nothing; who calls it has its law.
 ghost use Rattle.job_facts.specs.Contents.{AreSound, Contents};
-ghost use Rattle.rows_of_facts.specs.Image.{image};
-ghost use Rattle.facts_of_rows.specs.Decided.{contents_of};
+ghost use Rattle.image_laws.specs.Image.{image};
+ghost use Rattle.image_laws.specs.Decided.{contents_of};
 ghost use Rattle.table_rows.specs.Tables.{HaveSameRows, Tables};
 ghost use Rattle.audit_laws.specs.Audited.{AreInOrder, IsAudited};
 

@@ -11,8 +11,8 @@ use Rattle.std.proofs.lemmas.Option.{slice_get_within}
 use Rattle.job_facts.specs.Facts.{Batch}
 use Rattle.job_facts.specs.Sound.{AreApart, AreLots, AreNamedOnce, AreProducts, IsBatch, IsName}
 use Rattle.table_rows.specs.Tables.{StoredBatch, StoredGrouping, StoredLot, StoredRecord, StoredSession, StoredWord, Tables}
-use Rattle.rows_of_facts.proofs.Lists.{flat_map_same}
-use Rattle.facts_of_rows.specs.Decided.{batch_of_row}
+use Rattle.image_laws.proofs.Lists.{flat_map_same}
+use Rattle.image_laws.specs.Decided.{batch_of_row}
 use Rattle.table_rows.specs.Keys.{is_batch, is_grouping_of, is_record_of}
 use Rattle.audit_laws.specs.Audited.{IsAudited, IsAuditedRecord, IsAuditedSession, file_groupings, file_keys, file_records, file_rows, grouping_of, is_session_of, key_of}
 use Rattle.audit_rows.specs.Audit.{AreFewOnce, AreOwned, IsIdOf}

@@ -7,7 +7,7 @@ use Rattle.std.proofs.lemmas.Bool.Decides.{nat_tests}
 use Rattle.std.proofs.lemmas.List.Sorted.{IsPermutation-sym, IsPermutation-trans, sum_by-IsPermutation}
 use Rattle.job_facts.specs.States.{is_in}
 use Rattle.table_rows.specs.Tables.{StoredBlank, StoredLot}
-use Rattle.facts_of_rows.specs.Decided.{discarded_rows}
+use Rattle.image_laws.specs.Decided.{discarded_rows}
 use Rattle.rows_answer.proofs.Finding.{AllPairs-from_map, AllPairs-map}
 use Rattle.rows_answer.proofs.TotalRows.{sum_by-map}
 use Rattle.audit_rows.proofs.NamedLemmas.{pairs_weaker}

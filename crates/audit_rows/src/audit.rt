@@ -13,7 +13,7 @@ use crate::replies::failing_reply;
 use crate::rule::Rule;
 use audit_cards::{has_files, has_remakes, has_words};
 use std::alloc::{AllocError, Global};
-use stored_rows::Tables;
+use table_rows::Tables;
 
 // Whether no machine runs two sessions.
 fn has_machines(alloc: Global, tables: &Tables) -> Result<bool, AllocError>

@@ -6,7 +6,7 @@ ghost use Rattle.std.specs.List.Sorted.{IsNonDecreasing};
 ghost use Rattle.job_facts.specs.States.{is_in, lot_of};
 ghost use Rattle.table_rows.specs.Tables.{StoredBlank as BlankValue, StoredLot as LotValue};
 ghost use Rattle.table_rows.specs.Tables.{StoredSession as SessionValue};
-ghost use Rattle.facts_of_rows.specs.Decided.{discarded_rows};
+ghost use Rattle.image_laws.specs.Decided.{discarded_rows};
 ghost use Rattle.audit_laws.specs.Audited.{IsAuditedBlank, IsAuditedLot, opened_rows};
 ghost use Rattle.audit_rows.specs.Rules.{IsFirstFailing, blank_rules};
 ghost use Rattle.ordered_rows.specs.Order.{AreReady, lots_of};
@@ -15,7 +15,7 @@ use crate::once::are_once;
 use crate::rule::Rule;
 use ordered_rows::lot_of;
 use std::alloc::{AllocError, Global};
-use stored_rows::{StoredBlank, StoredLot, StoredSession, Tables};
+use table_rows::{StoredBlank, StoredLot, StoredSession, Tables};
 
 // The serials of blanks.
 fn blank_serials(alloc: Global, blanks: &[StoredBlank]) -> Result<Vec<u64>, AllocError>

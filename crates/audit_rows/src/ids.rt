@@ -4,7 +4,7 @@ ghost use Rattle.std.specs.List.{range_with_len};
 ghost use Rattle.audit_rows.specs.Audit.{IsIdOf};
 
 use ordered_rows::Ranged;
-use stored_rows::{StoredBatch, StoredSession};
+use table_rows::{StoredBatch, StoredSession};
 
 /// Rows with an id.
 pub(crate) trait Counted {

@@ -9,7 +9,7 @@ use crate::once::are_once;
 use job_facts::SessionState;
 use std::alloc::{AllocError, Global};
 use store_data::Name;
-use stored_rows::StoredSession;
+use table_rows::StoredSession;
 
 // The machine of a session.
 fn machine_of(session: &StoredSession) -> Name

@@ -10,7 +10,7 @@ ghost use Rattle.audit_rows.specs.Audit.{IsRanged};
 
 use crate::once::{Apart, are_apart};
 use ordered_rows::{is_name, product_named};
-use stored_rows::{StoredBatch, StoredLot, StoredProduct};
+use table_rows::{StoredBatch, StoredLot, StoredProduct};
 
 /// Serials end below it.
 const END: u64 = 1_000_000_000_000_000_000;

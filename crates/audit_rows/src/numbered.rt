@@ -12,7 +12,7 @@ use crate::ids::{are_counted, have_ids};
 use crate::named::{are_lots, are_products};
 use crate::once::are_apart;
 use crate::rule::Rule;
-use stored_rows::{StoredBatch, StoredGrouping, StoredRecord, StoredSession, Tables};
+use table_rows::{StoredBatch, StoredGrouping, StoredRecord, StoredSession, Tables};
 
 // Whether batches are few, each with a name of its own.
 fn are_batches(batches: &[StoredBatch]) -> bool

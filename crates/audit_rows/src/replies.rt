@@ -12,7 +12,7 @@ use indexmap::IndexSet;
 use ordered_rows::is_name;
 use std::alloc::{AllocError, Global};
 use store_data::Name;
-use stored_rows::{StoredMark, StoredReply, Tables};
+use table_rows::{StoredMark, StoredReply, Tables};
 
 /// Numbers end below it.
 const END: u64 = 1_000_000_000_000_000_000;

@@ -1,7 +1,7 @@
 //! Whether rows are those of sound contents, and where not, which rule fails.
 ghost use Rattle.std.specs.Prelude.{◌↔◌, IfOk, IfSome, IsNone, IsTrue};
 ghost use Rattle.job_facts.specs.Contents.{AreSound, Contents};
-ghost use Rattle.rows_of_facts.specs.Image.{image};
+ghost use Rattle.image_laws.specs.Image.{image};
 ghost use Rattle.table_rows.specs.Tables.{HaveSameRows};
 ghost use Rattle.ordered_rows.specs.Order.{AreSorted};
 ghost use Rattle.audit_rows.specs.Rules.{FailsFirst, rules};
@@ -11,7 +11,7 @@ use crate::rule::Rule;
 use audit_laws::{audited_rows_are_sound, sound_rows_are_audited};
 use ordered_rows::sort_tables;
 use std::alloc::{AllocError, Global};
-use stored_rows::Tables;
+use table_rows::Tables;
 
 /// The first rule that the rows, in any order, break: none where they are those of sound contents.
 /// The rows all stay, and are sorted. Time is the rows' bytes, and their number times its logarithm.

@@ -6,7 +6,7 @@ use Rattle.sqlite.specs.State.{State}
 use Rattle.sqlite.specs.declared.error.Error.{Error}
 use Rattle.job_facts.specs.Contents.{AreSound, Contents}
 use Rattle.table_rows.specs.Tables.{HaveSameRows, Tables}
-use Rattle.rows_of_facts.specs.Image.{image}
+use Rattle.image_laws.specs.Image.{image}
 use Rattle.ordered_rows.specs.Order.{AreSorted}
 use Rattle.audit_rows.specs.Rules.{FailsFirst, rules}
 use Rattle.audit_rows.specs.declared.rule.Rule.{Rule}

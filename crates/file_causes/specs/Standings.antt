@@ -3,7 +3,7 @@ use Rattle.std.specs.Prelude.{Option, Some, None}
 use Rattle.sqlite.specs.Effect.{Database}
 use Rattle.job_facts.specs.Contents.{AreSound, Contents}
 use Rattle.table_rows.specs.Tables.{HaveSameRows, Tables}
-use Rattle.rows_of_facts.specs.Image.{image}
+use Rattle.image_laws.specs.Image.{image}
 use Rattle.ordered_rows.specs.Order.{AreSorted}
 use Rattle.audit_rows.specs.Rules.{FailsFirst, rules}
 use Rattle.sql_tables.specs.Ours.{AreThere}

@@ -3,7 +3,7 @@ ghost use Rattle.std.specs.Prelude.{◌≡◌, ◌≤◌, option_map};
 ghost use Rattle.job_facts.specs.States.{is_in, lot_of};
 ghost use Rattle.ordered_rows.specs.Order.{AreLotsInOrder, lots_of};
 
-use stored_rows::StoredLot;
+use table_rows::StoredLot;
 
 // Whether a serial that is not below the lot's first lies in it.
 fn is_around(lot: &StoredLot, serial: u64) -> bool

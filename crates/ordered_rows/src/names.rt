@@ -6,7 +6,7 @@ ghost use Rattle.job_facts.specs.Sound.{AreProducts, IsName};
 ghost use Rattle.job_facts.specs.States.{product_named};
 
 use store_data::{Name, Product};
-use stored_rows::StoredProduct;
+use table_rows::StoredProduct;
 
 /// Whether these bytes are a name.
 pub fn is_name(bytes: &[u8]) -> bool

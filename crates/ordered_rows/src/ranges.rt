@@ -2,7 +2,7 @@
 ghost use Rattle.std.specs.Prelude.{◌≡◌, ◌==◌, ℕ, filter};
 ghost use Rattle.std.specs.List.Sorted.{IsNonDecreasingBy};
 
-use stored_rows::{StoredGrouping, StoredRecord, StoredSession, StoredWord};
+use table_rows::{StoredGrouping, StoredRecord, StoredSession, StoredWord};
 
 /// Rows that are found by a number by which they are sorted.
 pub trait Ranged {

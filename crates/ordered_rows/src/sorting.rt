@@ -5,7 +5,7 @@ ghost use Rattle.ordered_rows.specs.Order.{AreSorted};
 
 use crate::order::{InOrder, sort_rows};
 use std::alloc::AllocError;
-use stored_rows::{
+use table_rows::{
     StoredBatch, StoredBlank, StoredGrouping, StoredLot, StoredRecord, StoredRemake, StoredSession,
     StoredWord, Tables,
 };

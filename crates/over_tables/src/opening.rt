@@ -3,7 +3,7 @@ ghost use Rattle.std.specs.Prelude.{◌≡◌, ◌↔◌, false, IfErr, IfOk, Is
 ghost use Rattle.sqlite.specs.Held.{state};
 ghost use Rattle.sqlite.specs.State.{HasCleanDisk};
 ghost use Rattle.job_facts.specs.Contents.{AreSound, Contents, no_contents};
-ghost use Rattle.rows_of_facts.specs.Image.{image};
+ghost use Rattle.image_laws.specs.Image.{image};
 ghost use Rattle.sql_base.specs.Ends.{IsKept};
 ghost use Rattle.sql_tables.specs.declared.versions.Version.{Version};
 ghost use Rattle.table_reads.specs.Holding.{HoldsRows, HoldsSoundRows, IsOfVersion};

@@ -9,7 +9,7 @@ use Rattle.job_facts.specs.Facts.{Batch, Facts}
 use Rattle.job_facts.specs.States.{batch_named, first_waiting, is_waiting, record_state, records_named, records_under}
 use Rattle.table_rows.specs.Keys.{is_record_of, is_waiting_of}
 use Rattle.table_rows.specs.Tables.{StoredBatch, StoredRecord}
-use Rattle.rows_of_facts.specs.Image.{batch_id, batches_by_id, placed_records, records_in, stored_batch, stored_batches, stored_record, stored_records}
+use Rattle.image_laws.specs.Image.{batch_id, batches_by_id, placed_records, records_in, stored_batch, stored_batches, stored_record, stored_records}
 use Rattle.rows_answer.specs.Telling.{waiting_in}
 use Rattle.rows_answer.proofs.BatchRows.{batch_at, named_row, own_name}
 use Rattle.rows_answer.proofs.Finding.{AllPairs-joined, AllPairs-map, filter_all, find-map, found_joined, found_numbered, kept_joined, number_once, numbers_rise, option_map-map}

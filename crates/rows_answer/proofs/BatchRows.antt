@@ -20,7 +20,7 @@ use Rattle.step_laws.proofs.BlankSums.{named_once}
 use Rattle.table_rows.specs.Keys.{is_batch, is_batch_named}
 use Rattle.table_rows.specs.Tables.{PassesOnce, totals_of}
 use Rattle.table_rows.proofs.Found.{filter_none, find_passes}
-use Rattle.rows_of_facts.specs.Image.{batch_id, batches_by_id, stored_batch, stored_batches}
+use Rattle.image_laws.specs.Image.{batch_id, batches_by_id, stored_batch, stored_batches}
 use Rattle.rows_answer.specs.Telling.{is_over_in, no_totals, totals_in}
 use Rattle.rows_answer.proofs.Finding.{AllPairs-map, AllPairs-numbered, find-map, found_numbered, number_found, number_once, option_map-map}
 

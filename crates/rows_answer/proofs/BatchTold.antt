@@ -17,7 +17,7 @@ use Rattle.job_facts.specs.Sound.{IsSound}
 use Rattle.job_facts.specs.States.{batch_named, is_closed, record_state, records_named, records_of, rows_of}
 use Rattle.table_rows.specs.Keys.{is_batch_named, is_batch_with}
 use Rattle.table_rows.specs.Tables.{StoredBatch}
-use Rattle.rows_of_facts.specs.Image.{batch_id, stored_batch, stored_batches, stored_groupings}
+use Rattle.image_laws.specs.Image.{batch_id, stored_batch, stored_batches, stored_groupings}
 use Rattle.rows_answer.specs.Telling.{batch_of_row, has_raw_in, size_of}
 use Rattle.rows_answer.proofs.BatchRows.{name_once, named_row, own_name, totals_are}
 use Rattle.rows_answer.proofs.Finding.{any_beside}

@@ -18,7 +18,7 @@ use Rattle.step_laws.specs.Sums.{discarded_in}
 use Rattle.step_laws.proofs.BlankSums.{apart_once, named_once}
 use Rattle.table_rows.specs.Keys.{is_blank, is_lot_across, is_lot_around, is_lot_named}
 use Rattle.table_rows.specs.Tables.{PassesOnce, StoredBlank, StoredLot}
-use Rattle.rows_of_facts.specs.Image.{stored_blank, stored_blanks, stored_lot, stored_lots}
+use Rattle.image_laws.specs.Image.{stored_blank, stored_blanks, stored_lot, stored_lots}
 use Rattle.rows_answer.proofs.Finding.{AllPairs-from_map, AllPairs-map, find-map, found_also}
 
 is_some_found : {X : Type 0} (p : X → Bool) (xs : List X) → is_some (find p xs) ≡ list_any p xs

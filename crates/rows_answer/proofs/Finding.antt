@@ -15,7 +15,7 @@ use Rattle.store_data.proofs.FaultLemmas.{All-from_map}
 use Rattle.job_facts.proofs.Lists.{find-All}
 use Rattle.table_rows.specs.Tables.{PassesOnce}
 use Rattle.table_rows.proofs.Found.{filter_none, find_none}
-use Rattle.rows_of_facts.proofs.Lists.{All-joined, All-numbered}
+use Rattle.image_laws.proofs.Lists.{All-joined, All-numbered}
 
 pub option_map-map : {X Y Z : Type 0} (g : Y → Z) (h : X → Y) (o : Option X) → option_map g (option_map h o) ≡ option_map (λ x. g (h x)) o
 option_map-map g h None = refl

@@ -23,8 +23,8 @@ use Rattle.job_facts.proofs.Lists.{map_same}
 use Rattle.table_rows.specs.Keys.{is_grouping_at, is_grouping_of, is_record_named}
 use Rattle.table_rows.specs.Tables.{StoredBatch, StoredGrouping, StoredRecord}
 use Rattle.table_rows.proofs.Found.{filter_alike}
-use Rattle.rows_of_facts.specs.Image.{batch_id, batches_by_id, groupings_in, place_in, stored_batch, stored_batches, stored_grouping, stored_groupings, stored_record, stored_records}
-use Rattle.rows_of_facts.proofs.Lists.{All-numbered}
+use Rattle.image_laws.specs.Image.{batch_id, batches_by_id, groupings_in, place_in, stored_batch, stored_batches, stored_grouping, stored_groupings, stored_record, stored_records}
+use Rattle.image_laws.proofs.Lists.{All-numbered}
 use Rattle.rows_answer.specs.Telling.{groupings_for, plan_in, row_of}
 use Rattle.rows_answer.proofs.BatchRows.{batch_at, named_row}
 use Rattle.rows_answer.proofs.Finding.{AllPairs-joined, AllPairs-map, filter_all, kept_joined, kept_numbered, number_once, numbers_rise}

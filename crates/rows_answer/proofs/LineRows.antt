@@ -22,7 +22,7 @@ use Rattle.job_facts.proofs.SoundFacts.{is_for}
 use Rattle.step_laws.proofs.BlankSums.{bytes_eq_either}
 use Rattle.table_rows.specs.Keys.{is_good_of, is_record_of}
 use Rattle.table_rows.specs.Tables.{StoredRecord, StoredSession}
-use Rattle.rows_of_facts.specs.Image.{batch_id, place_in, sessions_by_id, stored_batch, stored_batches, stored_record, stored_records, stored_session, stored_sessions}
+use Rattle.image_laws.specs.Image.{batch_id, place_in, sessions_by_id, stored_batch, stored_batches, stored_record, stored_records, stored_session, stored_sessions}
 use Rattle.rows_answer.specs.Telling.{cards, line_of, lines_at, lines_in}
 use Rattle.rows_answer.proofs.BatchRecords.{rows_of_batch}
 use Rattle.rows_answer.proofs.BatchRows.{named_row, own_name}

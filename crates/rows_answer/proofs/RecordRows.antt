@@ -22,8 +22,8 @@ use Rattle.job_facts.proofs.Lists.{mapped}
 use Rattle.step_laws.proofs.BlankSums.{bytes_eq_either}
 use Rattle.table_rows.specs.Keys.{is_batch_named, is_record_at, is_record_named}
 use Rattle.table_rows.specs.Tables.{PassesOnce, StoredBatch, StoredRecord}
-use Rattle.rows_of_facts.specs.Before.{IsPlaceOf}
-use Rattle.rows_of_facts.specs.Image.{batch_id, batches_by_id, place_in, placed_records, records_in, stored_batch, stored_batches, stored_record, stored_records}
+use Rattle.image_laws.specs.Before.{IsPlaceOf}
+use Rattle.image_laws.specs.Image.{batch_id, batches_by_id, place_in, placed_records, records_in, stored_batch, stored_batches, stored_record, stored_records}
 use Rattle.rows_answer.specs.Telling.{place_of, record_row}
 use Rattle.rows_answer.proofs.BatchRows.{batch_at, named_row, own_name, totals_are}
 use Rattle.rows_answer.proofs.Finding.{AllPairs-map, AllPairs-numbered, find-map, found_joined, found_numbered, number_found, number_once, once_joined}

@@ -7,7 +7,7 @@ use Rattle.job_facts.specs.Contents.{AreSound, Contents, Entry, Mark, has_mark, 
 use Rattle.job_facts.specs.Sound.{AreNamedOnce}
 use Rattle.table_rows.specs.Keys.{is_reply_to}
 use Rattle.table_rows.specs.Tables.{PassesOnce}
-use Rattle.rows_of_facts.specs.Image.{image}
+use Rattle.image_laws.specs.Image.{image}
 use Rattle.rows_answer.proofs.Finding.{AllPairs-map}
 use Rattle.rows_answer.proofs.RecordRows.{name_alone}
 

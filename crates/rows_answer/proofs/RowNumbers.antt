@@ -7,7 +7,7 @@ use Rattle.std.proofs.lemmas.List.FromFn.{get_or-enumerate_from, length-enumerat
 use Rattle.std.proofs.lemmas.Simd.{map-map}
 use Rattle.job_facts.specs.Facts.{Facts}
 use Rattle.table_rows.specs.Tables.{StoredBatch, StoredSession}
-use Rattle.rows_of_facts.specs.Image.{batches_by_id, sessions_by_id, stored_batch, stored_batches, stored_lot, stored_lots, stored_session, stored_sessions}
+use Rattle.image_laws.specs.Image.{batches_by_id, sessions_by_id, stored_batch, stored_batches, stored_lot, stored_lots, stored_session, stored_sessions}
 
 module _ {X : Type 0} where
   numbers_are : (n : ℕ) (xs : List X) → map (λ (e : ℕ × X). e.0) (enumerate_from n xs) ≡ range_with_len n (length xs)

@@ -11,8 +11,8 @@ use Rattle.job_facts.specs.States.{is_running, numbered, records_named, running_
 use Rattle.step_laws.proofs.Numbered.{session_sound}
 use Rattle.table_rows.specs.Keys.{is_batch, is_record_at, is_running_on, is_session}
 use Rattle.table_rows.specs.Tables.{PassesOnce, StoredBatch, StoredRecord, StoredSession}
-use Rattle.rows_of_facts.specs.Before.{IsPlaceOf, IsPlaceOfSession}
-use Rattle.rows_of_facts.specs.Image.{batch_id, place_in, sessions_by_id, stored_batch, stored_batches, stored_record, stored_records, stored_session, stored_sessions}
+use Rattle.image_laws.specs.Before.{IsPlaceOf, IsPlaceOfSession}
+use Rattle.image_laws.specs.Image.{batch_id, place_in, sessions_by_id, stored_batch, stored_batches, stored_record, stored_records, stored_session, stored_sessions}
 use Rattle.rows_answer.specs.Telling.{place_of, session_in, session_of}
 use Rattle.rows_answer.proofs.BatchRows.{id_row as batch_row, own_name}
 use Rattle.rows_answer.proofs.Finding.{AllPairs-map, AllPairs-numbered, find-map, number_before, number_found, number_once, once_from_count, option_map-map}

@@ -26,7 +26,7 @@ use Rattle.step_laws.proofs.BlankSums.{blank_sums, by_keys, count_beside, one, s
 use Rattle.step_laws.proofs.GoodCards.{count_among}
 use Rattle.table_rows.specs.Keys.{is_batch_for, is_lot_for}
 use Rattle.table_rows.specs.Tables.{StoredBatch, StoredLot}
-use Rattle.rows_of_facts.specs.Image.{batches_by_id, stored_batch, stored_batches, stored_lot, stored_lots}
+use Rattle.image_laws.specs.Image.{batches_by_id, stored_batch, stored_batches, stored_lot, stored_lots}
 use Rattle.rows_answer.specs.Telling.{blanks_of}
 use Rattle.rows_answer.proofs.CardCounts.{IsCardOf, good_counted, running_counted}
 use Rattle.rows_answer.proofs.Finding.{kept_numbered}

@@ -5,8 +5,8 @@ ghost use Rattle.job_facts.specs.Facts.{Facts};
 ghost use Rattle.job_facts.specs.Sound.{IsSound};
 ghost use Rattle.table_rows.specs.Keys.{is_batch_for, is_lot_for};
 ghost use Rattle.rows_answer.specs.Telling.{blanks_of, lines_in};
-ghost use Rattle.rows_of_facts.specs.Image.{stored_batches, stored_lots, stored_records};
-ghost use Rattle.rows_of_facts.specs.Image.{stored_sessions};
+ghost use Rattle.image_laws.specs.Image.{stored_batches, stored_lots, stored_records};
+ghost use Rattle.image_laws.specs.Image.{stored_sessions};
 
 /// The rows of a batch's records and of its good sessions tell the lines of its records.
 pub fn lines_by_rows()

@@ -8,8 +8,8 @@ ghost use Rattle.job_facts.specs.Sound.{IsSound};
 ghost use Rattle.job_facts.specs.States.{batch_named, is_batch_finished};
 ghost use Rattle.rows_answer.specs.Telling.{batch_of_row, has_raw_in, is_over_in, size_of};
 ghost use Rattle.rows_answer.specs.Telling.{totals_in};
-ghost use Rattle.rows_of_facts.specs.Image.{batch_id, stored_batch, stored_batches};
-ghost use Rattle.rows_of_facts.specs.Image.{stored_groupings};
+ghost use Rattle.image_laws.specs.Image.{batch_id, stored_batch, stored_batches};
+ghost use Rattle.image_laws.specs.Image.{stored_groupings};
 ghost use Rattle.table_rows.specs.Keys.{is_batch, is_batch_named, is_batch_with};
 ghost use Rattle.table_rows.specs.Tables.{PassesOnce};
 

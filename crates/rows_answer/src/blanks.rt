@@ -5,7 +5,7 @@ ghost use Rattle.job_facts.specs.declared.facts.Lot.{Lot as LotValue};
 ghost use Rattle.job_facts.specs.Facts.{Facts};
 ghost use Rattle.job_facts.specs.Sound.{IsSound};
 ghost use Rattle.job_facts.specs.States.{any_overlaps, is_charged, lot_named, lot_of};
-ghost use Rattle.rows_of_facts.specs.Image.{stored_blanks, stored_lot, stored_lots};
+ghost use Rattle.image_laws.specs.Image.{stored_blanks, stored_lot, stored_lots};
 ghost use Rattle.step_laws.specs.Sums.{discarded_in};
 ghost use Rattle.table_rows.specs.Keys.{is_blank, is_lot_across, is_lot_around, is_lot_named};
 ghost use Rattle.table_rows.specs.Tables.{PassesOnce, StoredLot};

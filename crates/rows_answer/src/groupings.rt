@@ -8,8 +8,8 @@ ghost use Rattle.job_facts.specs.Sound.{IsRecord};
 ghost use Rattle.job_facts.specs.States.{batch_named, plan_for, records_named, rows_of};
 ghost use Rattle.job_facts.specs.States.{rows_of_record};
 ghost use Rattle.rows_answer.specs.Telling.{plan_in, row_of};
-ghost use Rattle.rows_of_facts.specs.Image.{batch_id, place_in, stored_batches, stored_grouping};
-ghost use Rattle.rows_of_facts.specs.Image.{stored_groupings, stored_records};
+ghost use Rattle.image_laws.specs.Image.{batch_id, place_in, stored_batches, stored_grouping};
+ghost use Rattle.image_laws.specs.Image.{stored_groupings, stored_records};
 ghost use Rattle.table_rows.specs.Keys.{is_grouping_at, is_grouping_of};
 ghost use Rattle.table_rows.specs.Tables.{StoredGrouping};
 

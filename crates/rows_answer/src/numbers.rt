@@ -2,7 +2,7 @@
 ghost use Rattle.std.specs.Prelude.{◌≡◌, ◌≤◌, All, length, map};
 ghost use Rattle.std.specs.List.{range_with_len};
 ghost use Rattle.job_facts.specs.Facts.{Facts};
-ghost use Rattle.rows_of_facts.specs.Image.{stored_batches, stored_lots, stored_sessions};
+ghost use Rattle.image_laws.specs.Image.{stored_batches, stored_lots, stored_sessions};
 ghost use Rattle.table_rows.specs.Tables.{StoredBatch, StoredSession};
 
 /// There is a row for each session, batch and lot; the ids of sessions and batches begin at 1 and

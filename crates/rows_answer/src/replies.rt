@@ -2,7 +2,7 @@
 ghost use Rattle.std.specs.Prelude.{ℕ, List, map};
 ghost use Rattle.job_facts.specs.Contents.{AreSound, Contents, Mark, has_mark};
 ghost use Rattle.job_facts.specs.Sound.{AreNamedOnce};
-ghost use Rattle.rows_of_facts.specs.Image.{image};
+ghost use Rattle.image_laws.specs.Image.{image};
 ghost use Rattle.table_rows.specs.Keys.{is_reply_to};
 ghost use Rattle.table_rows.specs.Tables.{PassesOnce};
 

@@ -5,9 +5,9 @@ ghost use Rattle.job_facts.specs.Rows.{session_row_of};
 ghost use Rattle.job_facts.specs.Sound.{IsSound};
 ghost use Rattle.job_facts.specs.States.{running_session, session_numbered};
 ghost use Rattle.rows_answer.specs.Telling.{place_of, session_in};
-ghost use Rattle.rows_of_facts.specs.Before.{IsPlaceOfSession};
-ghost use Rattle.rows_of_facts.specs.Image.{stored_batches, stored_records, stored_session};
-ghost use Rattle.rows_of_facts.specs.Image.{stored_sessions};
+ghost use Rattle.image_laws.specs.Before.{IsPlaceOfSession};
+ghost use Rattle.image_laws.specs.Image.{stored_batches, stored_records, stored_session};
+ghost use Rattle.image_laws.specs.Image.{stored_sessions};
 ghost use Rattle.table_rows.specs.Keys.{is_batch, is_record_at, is_running_on, is_session};
 ghost use Rattle.table_rows.specs.Tables.{PassesOnce, StoredBatch, StoredRecord, StoredSession};
 

@@ -6,7 +6,7 @@ use Rattle.sqlite.specs.State.{HasCleanDisk, State, Survives}
 use Rattle.job_facts.specs.Contents.{AreSound, Contents}
 use Rattle.job_facts.specs.Store.{IsFound}
 use Rattle.table_rows.specs.Tables.{HaveSameRows, Tables}
-use Rattle.rows_of_facts.specs.Image.{image}
+use Rattle.image_laws.specs.Image.{image}
 use Rattle.sql_base.specs.Ends.{IsLeft}
 use Rattle.sql_tables.specs.declared.versions.Version.{Version}
 use Rattle.sql_rows.specs.Image.{IsImage}

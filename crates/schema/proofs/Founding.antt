@@ -6,7 +6,7 @@ use Rattle.job_facts.specs.Contents.{AreSound, Contents, no_contents}
 use Rattle.job_facts.specs.Store.{IsFound}
 use Rattle.job_facts.proofs.NextContents.{nothing_sound}
 use Rattle.table_rows.specs.Tables.{no_rows}
-use Rattle.rows_of_facts.specs.Image.{image, stored_batches, stored_blanks, stored_groupings, stored_lots, stored_records, stored_remakes, stored_sessions, stored_words}
+use Rattle.image_laws.specs.Image.{image, stored_batches, stored_blanks, stored_groupings, stored_lots, stored_records, stored_remakes, stored_sessions, stored_words}
 use Rattle.sql_base.specs.Columns.{no_schema}
 use Rattle.sql_base.specs.Ends.{Ends, IsLeft}
 use Rattle.sql_rows.specs.Image.{IsImage}

@@ -8,7 +8,7 @@ use Rattle.job_facts.specs.declared.store.StoreFault.{StoreFault}
 use Rattle.job_facts.specs.Contents.{AreSame, AreSound, Contents}
 use Rattle.job_facts.specs.Store.{Commits, IsFound, Reads, Stays}
 use Rattle.table_rows.specs.Tables.{HaveSameRows, Tables}
-use Rattle.rows_of_facts.specs.Image.{image}
+use Rattle.image_laws.specs.Image.{image}
 use Rattle.sql_base.specs.Ends.{Ends, IsKept, IsLeft}
 use Rattle.sql_rows.specs.Image.{IsImage}
 use Rattle.sql_rows.proofs.OneImage.{one_image}

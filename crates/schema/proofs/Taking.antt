@@ -12,8 +12,8 @@ use Rattle.job_facts.specs.Sound.{IsSound, IsSoundChange, changed}
 use Rattle.table_rows.specs.After.{rows_after, rows_after_release}
 use Rattle.table_rows.specs.Tables.{HaveSameRows, Tables, with_reply}
 use Rattle.table_rows.specs.declared.before.Before.{Before}
-use Rattle.rows_of_facts.specs.Before.{IsBefore}
-use Rattle.rows_of_facts.specs.Image.{image}
+use Rattle.image_laws.specs.Before.{IsBefore}
+use Rattle.image_laws.specs.Image.{image}
 use Rattle.sql_base.specs.Ends.{Ends, IsKept, IsLeft}
 use Rattle.sql_rows.specs.Image.{IsImage, Moves}
 use Rattle.sql_rows.proofs.SameRows.{same_rows}

@@ -4,7 +4,7 @@ use Rattle.sqlite.specs.Effect.{Database}
 use Rattle.sqlite.specs.State.{HasCleanDisk, State}
 use Rattle.sqlite.specs.Tree.{Trees}
 use Rattle.job_facts.specs.Contents.{Contents}
-use Rattle.rows_of_facts.specs.Image.{image}
+use Rattle.image_laws.specs.Image.{image}
 use Rattle.sql_base.specs.Columns.{no_schema}
 use Rattle.sql_base.specs.Ends.{IsLeft}
 use Rattle.sql_tables.specs.declared.versions.Version.{Version}

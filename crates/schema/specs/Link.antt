@@ -11,7 +11,7 @@ use Rattle.job_facts.specs.declared.store.StoreFault.{StoreFault}
 use Rattle.job_facts.specs.declared.store.StoreFault.TheVariants.{Device, Full, Memory}
 use Rattle.job_facts.specs.Contents.{AreSound, Contents}
 use Rattle.job_facts.specs.Store.{State}
-use Rattle.rows_of_facts.specs.Image.{image}
+use Rattle.image_laws.specs.Image.{image}
 use Rattle.sql_rows.specs.Image.{IsImage}
 use Rattle.sql_tables.specs.Tables.{our_schema}
 

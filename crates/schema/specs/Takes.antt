@@ -1,7 +1,7 @@
 -- What a commit makes of a database that has the rows of some contents.
 use Rattle.sqlite.specs.Effect.{Database}
 use Rattle.job_facts.specs.Contents.{AreSound, Contents}
-use Rattle.rows_of_facts.specs.Image.{image}
+use Rattle.image_laws.specs.Image.{image}
 use Rattle.sql_rows.specs.Image.{IsImage}
 
 -- of whatever sound contents it has the rows, if this is owed of them, it then has those of the next

@@ -15,8 +15,8 @@ use Rattle.row_reads.specs.declared.records.RecordAt.{RecordAt}
 use Rattle.row_reads.specs.CardDecoding.{record_at}
 use Rattle.row_reads.specs.Telling.{head_of, lot_row_of}
 use Rattle.rows_answer.specs.Telling.{place_of}
-use Rattle.rows_of_facts.specs.Before.{IsPlaceOf, IsPlaceOfSession}
-use Rattle.rows_of_facts.specs.Image.{stored_batches, stored_lots, stored_records}
+use Rattle.image_laws.specs.Before.{IsPlaceOf, IsPlaceOfSession}
+use Rattle.image_laws.specs.Image.{stored_batches, stored_lots, stored_records}
 use Rattle.step_laws.specs.Sums.{discarded_in}
 use Rattle.store_reads.proofs.Found.{found_some}
 

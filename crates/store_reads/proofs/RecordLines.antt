@@ -16,7 +16,7 @@ use Rattle.row_reads.specs.declared.records.RecordAt.{RecordAt}
 use Rattle.row_reads.specs.declared.sessions.GoodCard.{GoodCard}
 use Rattle.row_reads.specs.CardDecoding.{good_at, place_of, record_at}
 use Rattle.row_reads.specs.Extremes.{AreSorted}
-use Rattle.rows_of_facts.specs.Image.{placed_records, records_in, stored_batches, stored_record, stored_records, stored_sessions}
+use Rattle.image_laws.specs.Image.{placed_records, records_in, stored_batches, stored_record, stored_records, stored_sessions}
 use Rattle.sql_base.proofs.Selecting.{map_map}
 use Rattle.step_laws.proofs.Permuted.{count_moved, find_moved}
 use Rattle.table_rows.specs.Keys.{is_batch_named, is_good_of, is_record_of}

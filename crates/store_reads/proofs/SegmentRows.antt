@@ -18,7 +18,7 @@ use Rattle.row_reads.specs.declared.records.RecordAt.{RecordAt}
 use Rattle.row_reads.specs.CardDecoding.{grouping_at, line_of, record_at}
 use Rattle.row_reads.specs.Extremes.{AreSorted}
 use Rattle.row_reads.specs.Telling.{told_of}
-use Rattle.rows_of_facts.specs.Image.{stored_batches, stored_groupings, stored_records}
+use Rattle.image_laws.specs.Image.{stored_batches, stored_groupings, stored_records}
 use Rattle.sql_base.proofs.Selecting.{map_map}
 use Rattle.table_rows.specs.Keys.{is_batch_named, is_grouping_at, is_record_named}
 use Rattle.table_rows.specs.Tables.{StoredBatch, StoredGrouping, StoredRecord}

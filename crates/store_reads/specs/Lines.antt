@@ -4,7 +4,7 @@ use Rattle.job_facts.specs.declared.rows.RecordLine.{RecordLine}
 use Rattle.job_facts.specs.Facts.{Facts}
 use Rattle.row_reads.specs.declared.records.RecordAt.{RecordAt}
 use Rattle.row_reads.specs.declared.sessions.GoodCard.{GoodCard}
-use Rattle.rows_of_facts.specs.Image.{stored_records, stored_sessions}
+use Rattle.image_laws.specs.Image.{stored_records, stored_sessions}
 use Rattle.table_rows.specs.Keys.{is_good_of, is_record_of}
 use Rattle.rows_answer.specs.Telling.{cards, line_of}
 

@@ -6,7 +6,7 @@ use Rattle.store_data.specs.Sequence.{IsProduct}
 use Rattle.job_facts.specs.Facts.{Facts}
 use Rattle.job_facts.specs.States.{product_named}
 use Rattle.row_reads.specs.declared.groupings.GroupingAt.{GroupingAt}
-use Rattle.rows_of_facts.specs.Image.{stored_batches, stored_groupings, stored_records}
+use Rattle.image_laws.specs.Image.{stored_batches, stored_groupings, stored_records}
 use Rattle.table_rows.specs.Keys.{is_batch_named, is_grouping_at, is_record_named}
 use Rattle.table_rows.specs.Tables.{StoredBatch, StoredRecord}
 use Rattle.rows_answer.specs.Telling.{row_of}

@@ -3,7 +3,7 @@ use Rattle.std.specs.Prelude.{IfOk, IsTrue, Result}
 use Rattle.sqlite.specs.State.{HasCleanDisk, State}
 use Rattle.sqlite.specs.declared.error.Error.{Error}
 use Rattle.job_facts.specs.Contents.{AreSound, Contents}
-use Rattle.rows_of_facts.specs.Image.{image}
+use Rattle.image_laws.specs.Image.{image}
 use Rattle.sql_rows.specs.Image.{IsImage}
 
 -- an open connection answers, and this is so of whatever sound contents it has the rows

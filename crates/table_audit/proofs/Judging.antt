@@ -8,7 +8,7 @@ use Rattle.sql_tables.specs.Ours.{AreThere}
 use Rattle.sql_tables.specs.Versions.{schema_of}
 use Rattle.sql_tables.specs.declared.versions.Version.{Version}
 use Rattle.table_rows.specs.Tables.{Tables}
-use Rattle.rows_of_facts.specs.Image.{image}
+use Rattle.image_laws.specs.Image.{image}
 use Rattle.table_reads.specs.Holding.{HoldsRows, IsOfVersion}
 use Rattle.table_reads.specs.Reading.{HasRows, HoldsNoneOf, Reads}
 use Rattle.table_reads.proofs.AnyOrder.{any_order}

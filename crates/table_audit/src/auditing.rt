@@ -13,7 +13,7 @@ use audit_rows::is_sound;
 use sql_tables::{CreateFault, Version, version_in};
 use sqlite::{Alter, Connection, Error};
 use std::alloc::Global;
-use stored_rows::Tables;
+use table_rows::Tables;
 use table_reads::{read_all, says};
 
 /// What an audit found.

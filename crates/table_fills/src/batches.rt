@@ -13,7 +13,7 @@ use row_writes::{enc_code, record_code};
 use sql_base::int;
 use sqlite::types::ValueRef;
 use sqlite::{Alter, Error, Transaction};
-use stored_rows::{StoredBatch, StoredGrouping, StoredLot, StoredProduct, StoredRecord, Tables};
+use table_rows::{StoredBatch, StoredGrouping, StoredLot, StoredProduct, StoredRecord, Tables};
 
 impl Put for StoredProduct {
     ghost with_row = { with_product };

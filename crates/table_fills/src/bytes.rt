@@ -10,7 +10,7 @@ ghost use Rattle.table_fills.specs.Rows.{with_bytes, with_each};
 use crate::putting::fit;
 use row_writes::set_raw;
 use sqlite::{Alter, Error, Transaction};
-use stored_rows::StoredBatch;
+use table_rows::StoredBatch;
 
 // Sets the bytes of the batch with this id. An id that is none of SQL's is an error.
 fn set_its_bytes<S: Alter>(tx: &mut Transaction<'_, S>, batch: &StoredBatch) -> Result<usize, Error>

@@ -12,7 +12,7 @@ use row_writes::session_code;
 use sql_base::int;
 use sqlite::types::ValueRef;
 use sqlite::{Alter, Error, Transaction};
-use stored_rows::{StoredBlank, StoredSession, StoredWord, Tables};
+use table_rows::{StoredBlank, StoredSession, StoredWord, Tables};
 
 impl Put for StoredSession {
     ghost with_row = { with_session };

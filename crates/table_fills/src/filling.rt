@@ -12,7 +12,7 @@ use crate::batches::fill_batches;
 use crate::cards::fill_cards;
 use crate::replies::fill_replies;
 use sqlite::{Alter, Error, Transaction};
-use stored_rows::Tables;
+use table_rows::Tables;
 
 /// Puts in the rows of all tables, those before that others refer to. A row that a table does not
 /// take is an error, and so is a number that is none of SQL's, from 2^63 on. After an error the

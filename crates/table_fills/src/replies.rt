@@ -11,7 +11,7 @@ use crate::putting::{Put, fit, put_all};
 use sql_base::int;
 use sqlite::types::ValueRef;
 use sqlite::{Alter, Error, Transaction};
-use stored_rows::{StoredMark, StoredRemake, StoredReply, Tables};
+use table_rows::{StoredMark, StoredRemake, StoredReply, Tables};
 
 impl Put for StoredRemake {
     ghost with_row = { with_remake };

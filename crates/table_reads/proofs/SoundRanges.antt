@@ -9,8 +9,8 @@ use Rattle.job_facts.specs.Contents.{AreSound, Contents}
 use Rattle.job_facts.specs.Facts.{Batch, Facts, Session}
 use Rattle.job_facts.specs.Sound.{IsBatch, IsLot, IsSession}
 use Rattle.job_facts.specs.States.{rows_of, rows_or_none, rows_under}
-use Rattle.rows_of_facts.specs.Image.{batches_by_id, groupings_in, image, sessions_by_id, stored_grouping, stored_groupings, stored_lot, stored_lots, stored_words, words_in}
-use Rattle.rows_of_facts.proofs.Lists.{All-joined, All-numbered}
+use Rattle.image_laws.specs.Image.{batches_by_id, groupings_in, image, sessions_by_id, stored_grouping, stored_groupings, stored_lot, stored_lots, stored_words, words_in}
+use Rattle.image_laws.proofs.Lists.{All-joined, All-numbered}
 use Rattle.table_reads.specs.Shown.{FitsGrouping, FitsLot, FitsProduct, FitsWord}
 use Rattle.table_reads.specs.Reading.{Fit}
 

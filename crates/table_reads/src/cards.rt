@@ -15,7 +15,7 @@ use crate::values::{
 };
 use sqlite::{Error, Row};
 use std::alloc::Global;
-use stored_rows::{
+use table_rows::{
     StoredBlank, StoredGrouping, StoredMark, StoredRemake, StoredReply, StoredSession, StoredWord,
 };
 

@@ -8,7 +8,7 @@ ghost use Rattle.sql_tables.specs.Finds.{Finds};
 ghost use Rattle.sql_tables.specs.declared.versions.Version.{Version as OfVersion};
 ghost use Rattle.sql_rows.specs.Image.{IsImage};
 ghost use Rattle.sql_tables.specs.Tables.{our_schema};
-ghost use Rattle.rows_of_facts.specs.Image.{image};
+ghost use Rattle.image_laws.specs.Image.{image};
 ghost use Rattle.table_rows.specs.Tables.{HaveSameRows, Tables};
 ghost use Rattle.table_reads.specs.Holding.{HoldsRows};
 ghost use Rattle.table_reads.specs.Reading.{Fit};

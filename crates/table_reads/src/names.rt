@@ -12,7 +12,7 @@ use crate::values::{
 };
 use sqlite::{Error, Row};
 use std::alloc::Global;
-use stored_rows::{StoredBatch, StoredLot, StoredProduct, StoredRecord};
+use table_rows::{StoredBatch, StoredLot, StoredProduct, StoredRecord};
 
 impl Stored for StoredProduct {
     ghost encode = { product_row };

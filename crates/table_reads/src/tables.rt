@@ -10,7 +10,7 @@ use crate::reads::whole;
 use sql_tables::Version;
 use sqlite::{Alter, Connection, Error};
 use std::alloc::Global;
-use stored_rows::{
+use table_rows::{
     StoredBatch, StoredBlank, StoredGrouping, StoredLot, StoredMark, StoredProduct, StoredRecord,
     StoredRemake, StoredReply, StoredSession, StoredWord, Tables,
 };

@@ -8,7 +8,7 @@ ghost use Rattle.table_remakes.specs.Remakes.{Remakes};
 use order_anew::make_anew;
 use sql_tables::Version;
 use sqlite::{Alter, Connection, Error, Transaction};
-use stored_rows::Tables;
+use table_rows::Tables;
 use table_fills::fill;
 
 // Drops the tables of a version, makes ours and puts rows in, in an open transaction.

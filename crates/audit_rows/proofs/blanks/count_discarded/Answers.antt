@@ -2,7 +2,7 @@ use Rattle.std.proofs.Common.{List, ℕ, map, sym, subst}
 use Rattle.std.specs.Prelude.{IsPermutation}
 use Rattle.std.specs.List.Sorted.{IsNonDecreasing}
 use Rattle.table_rows.specs.Tables.{StoredBlank}
-use Rattle.facts_of_rows.specs.Decided.{discarded_rows}
+use Rattle.image_laws.specs.Decided.{discarded_rows}
 use Rattle.audit_rows.proofs.BlankLemmas.{by_rows, by_serials}
 use Rattle.audit_rows.proofs.blanks.count_discarded.Goals as goal
 

@@ -1,6 +1,6 @@
 use Rattle.std.proofs.Common.{◌≡◌, map, take}
 use Rattle.table_rows.specs.Tables.{StoredBlank}
-use Rattle.facts_of_rows.specs.Decided.{discarded_rows}
+use Rattle.image_laws.specs.Decided.{discarded_rows}
 use Rattle.audit_rows.proofs.blanks.discarded_serials.Given as goal
 
 abbrev pub invariant-loop-blank : goal.invariant-loop-blank

@@ -2,7 +2,7 @@ use Rattle.std.proofs.Common.{◌≡◌, ◌∙◌, All, List, ap, subst, sym}
 use Rattle.std.specs.Prelude.{count_by}
 use Rattle.job_facts.specs.States.{is_in}
 use Rattle.table_rows.specs.Tables.{StoredBlank, StoredLot, Tables}
-use Rattle.facts_of_rows.specs.Decided.{discarded_rows}
+use Rattle.image_laws.specs.Decided.{discarded_rows}
 use Rattle.ordered_rows.proofs.Told.{told_as}
 use Rattle.audit_rows.proofs.blanks.has_counts.Goals as goal
 

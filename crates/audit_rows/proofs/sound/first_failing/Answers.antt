@@ -1,5 +1,5 @@
-use Rattle.facts_of_rows.specs.Decided.{contents_of}
-use Rattle.rows_of_facts.specs.Image.{image}
+use Rattle.image_laws.specs.Decided.{contents_of}
+use Rattle.image_laws.specs.Image.{image}
 use Rattle.audit_rows.proofs.AuditLemmas.{rows_pass, rules_hold}
 use Rattle.audit_rows.proofs.RuleLemmas.{each_told, first_told, none_told}
 use Rattle.audit_rows.proofs.SoundLemmas.{same_back, same_through}

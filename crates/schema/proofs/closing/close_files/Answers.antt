@@ -1,5 +1,5 @@
 use Rattle.std.proofs.Common.{IsTrue, rules, subst}
-use Rattle.rows_of_facts.specs.Image.{image}
+use Rattle.image_laws.specs.Image.{image}
 use Rattle.sql_rows.specs.Image.{IsImage}
 use Rattle.schema.proofs.closing.close_files.Goals as goal
 

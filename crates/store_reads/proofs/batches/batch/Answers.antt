@@ -4,7 +4,7 @@ use Rattle.sqlite.specs.Held.{state}
 use Rattle.row_reads.specs.Telling.{told_of}
 use Rattle.table_rows.specs.Keys.{is_batch_named}
 use Rattle.rows_answer.proofs.Finding.{option_map-map}
-use Rattle.rows_of_facts.specs.Image.{stored_batches}
+use Rattle.image_laws.specs.Image.{stored_batches}
 use Rattle.store_reads.specs.Heads.{row_of}
 use Rattle.store_reads.proofs.Telling.{shown}
 use Rattle.store_reads.proofs.batches.batch.Goals as goal

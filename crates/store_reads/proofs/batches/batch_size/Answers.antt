@@ -2,7 +2,7 @@ use Rattle.std.proofs.Common.{sym, ◌∙◌}
 use Rattle.std.specs.Prelude.{find}
 use Rattle.sqlite.specs.Held.{state}
 use Rattle.table_rows.specs.Keys.{is_batch_named}
-use Rattle.rows_of_facts.specs.Image.{stored_batches, stored_groupings}
+use Rattle.image_laws.specs.Image.{stored_batches, stored_groupings}
 use Rattle.store_reads.proofs.Sizes.{no_size, size_told}
 use Rattle.store_reads.proofs.Telling.{shown, shown_then}
 use Rattle.store_reads.proofs.batches.batch_size.Goals as goal

@@ -5,7 +5,7 @@ use Rattle.row_reads.specs.Telling.{head_of}
 use Rattle.table_rows.specs.Keys.{is_batch_named}
 use Rattle.table_rows.specs.Tables.{StoredBatch}
 use Rattle.rows_answer.specs.Telling as rows
-use Rattle.rows_of_facts.specs.Image.{stored_batches}
+use Rattle.image_laws.specs.Image.{stored_batches}
 use Rattle.store_reads.specs.Heads.{is_over_in}
 use Rattle.store_reads.proofs.Telling.{shown}
 use Rattle.store_reads.proofs.batches.is_finished.Goals as goal

@@ -1,6 +1,6 @@
 use Rattle.std.proofs.Common.{sym, ◌∙◌}
 use Rattle.sqlite.specs.Held.{state}
-use Rattle.rows_of_facts.specs.Image.{stored_batches, stored_records}
+use Rattle.image_laws.specs.Image.{stored_batches, stored_records}
 use Rattle.store_reads.proofs.Telling.{shown, shown_then}
 use Rattle.store_reads.proofs.Waiting.{none_waits, waiting_told}
 use Rattle.store_reads.proofs.records.first_waiting.Goals as goal

@@ -1,6 +1,6 @@
 use Rattle.std.proofs.Common.{sym, ◌∙◌}
 use Rattle.sqlite.specs.Held.{state}
-use Rattle.rows_of_facts.specs.Image.{stored_batches, stored_records}
+use Rattle.image_laws.specs.Image.{stored_batches, stored_records}
 use Rattle.store_reads.proofs.Found.{no_batch_of, state_told}
 use Rattle.store_reads.proofs.Telling.{shown, shown_then}
 use Rattle.store_reads.proofs.records.record_state.Goals as goal

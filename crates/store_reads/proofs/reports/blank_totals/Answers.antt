@@ -3,7 +3,7 @@ use Rattle.std.specs.Prelude.{filter}
 use Rattle.sqlite.specs.Held.{state}
 use Rattle.row_reads.specs.Telling.{head_of, lot_row_of}
 use Rattle.table_rows.specs.Keys.{is_batch_for, is_lot_for}
-use Rattle.rows_of_facts.specs.Image.{stored_batches, stored_lots}
+use Rattle.image_laws.specs.Image.{stored_batches, stored_lots}
 use Rattle.store_reads.specs.Sums.{totals_told}
 use Rattle.store_reads.proofs.BlankSums.{blanks_told}
 use Rattle.store_reads.proofs.Told.{told}

@@ -4,7 +4,7 @@ use Rattle.sqlite.specs.Held.{state}
 use Rattle.row_reads.specs.CardDecoding.{good_at, place_of, record_at}
 use Rattle.row_reads.specs.Extremes.{AreSorted}
 use Rattle.table_rows.specs.Keys.{is_good_of, is_record_of}
-use Rattle.rows_of_facts.specs.Image.{stored_records, stored_sessions}
+use Rattle.image_laws.specs.Image.{stored_records, stored_sessions}
 use Rattle.store_reads.specs.Lines.{is_card_at, line_told}
 use Rattle.store_reads.proofs.RecordLines.{lines_are}
 use Rattle.store_reads.proofs.Told.{ok_both, told}

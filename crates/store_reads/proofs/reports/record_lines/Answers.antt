@@ -3,7 +3,7 @@ use Rattle.std.specs.Prelude.{find, option_map, unwrap_or}
 use Rattle.sqlite.specs.Held.{state}
 use Rattle.table_rows.specs.Keys.{is_batch_named}
 use Rattle.table_rows.specs.Tables.{StoredBatch}
-use Rattle.rows_of_facts.specs.Image.{stored_batches}
+use Rattle.image_laws.specs.Image.{stored_batches}
 use Rattle.store_reads.specs.Lines.{lines_with}
 use Rattle.store_reads.proofs.RecordLines.{lines_by_id}
 use Rattle.store_reads.proofs.Told.{told_then}

@@ -1,6 +1,6 @@
 use Rattle.std.proofs.Common.{sym, ◌∙◌}
 use Rattle.sqlite.specs.Held.{state}
-use Rattle.rows_of_facts.specs.Image.{stored_batches, stored_records, stored_sessions}
+use Rattle.image_laws.specs.Image.{stored_batches, stored_records, stored_sessions}
 use Rattle.store_reads.proofs.Found.{no_batch, no_record, no_session, session_told}
 use Rattle.store_reads.proofs.Telling.{shown, shown_then, shown_third}
 use Rattle.store_reads.proofs.sessions.session.Goals as goal

@@ -1,6 +1,6 @@
 use Rattle.std.proofs.Common.{subst, sym}
 use Rattle.sqlite.specs.Held.{state}
-use Rattle.rows_of_facts.specs.Image.{image}
+use Rattle.image_laws.specs.Image.{image}
 use Rattle.sql_tables.specs.declared.versions.Version.TheVariants.{Three}
 use Rattle.table_reads.specs.Holding.{HoldsRows}
 use Rattle.schema.proofs.again.SqlStoreReopen.reopen.Goals as goal

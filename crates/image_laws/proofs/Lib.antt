@@ -1,0 +1,27 @@
+pub mod Lists
+pub mod Places
+pub mod Lookups
+pub mod Found
+pub mod Staying
+pub mod Totals
+pub mod OneRecord
+pub mod Touching
+pub mod OneSession
+pub mod SessionRows
+pub mod Stopping
+pub mod Opening
+pub mod Remaking
+pub mod Products
+pub mod Lots
+pub mod Closing
+pub mod Releasing
+pub mod Importing
+pub mod Words
+pub mod Ending
+pub mod Changing
+mod Worked
+pub mod Counted
+pub mod Named
+pub mod Back
+pub mod Sets
+pub mod Contents

@@ -1,0 +1,177 @@
+-- The rows after a word.
+use Rattle.std.proofs.Common.{◌≡◌, ℕ, ◌+◌, false, List, ◌∷◌, map, refl, sym, ap, subst, ◌∙◌, IsPermutation}
+use Rattle.std.specs.Prelude.{bytes_eq, count_by, option_map}
+use Rattle.std.proofs.lemmas.Option.{same_Some}
+use Rattle.store_data.specs.declared.cursor.Cursor.{Cursor}
+use Rattle.job_facts.specs.declared.change.Change.{Change}
+use Rattle.job_facts.specs.declared.change.Change.TheVariants as change
+use Rattle.job_facts.specs.declared.facts.RecordState.{RecordState}
+use Rattle.job_facts.specs.declared.facts.RecordState.TheVariants as rec
+use Rattle.job_facts.specs.declared.facts.SessionState.{SessionState}
+use Rattle.job_facts.specs.declared.facts.SessionState.TheVariants as session
+use Rattle.job_facts.specs.declared.rows.BatchTotals.{BatchTotals}
+use Rattle.job_facts.specs.declared.rows.SessionRow.{SessionRow}
+use Rattle.job_facts.specs.Accounts.{batch_totals, session_states}
+use Rattle.job_facts.specs.Contents.{Contents, Entry, Mark}
+use Rattle.job_facts.specs.Facts.{Facts, Session, with_word, worded}
+use Rattle.job_facts.specs.Rows.{session_row}
+use Rattle.job_facts.specs.Sound.{IsSound, IsSoundChange, changed}
+use Rattle.job_facts.specs.States.{is_record, is_spoiled, plan_for, record_state, remakes_of, session_cursor, session_state, states_of}
+use Rattle.job_facts.proofs.SessionLemmas.{session_changed}
+use Rattle.step_laws.specs.Later.{KnowsMore}
+use Rattle.step_laws.specs.Records.{StandsSame}
+use Rattle.step_laws.proofs.ChangeStands.{record_of_there, touched_stands, touched_stood}
+use Rattle.step_laws.proofs.Kept.{no_more, state_same}
+use Rattle.step_laws.proofs.RecordStands.{named}
+use Rattle.table_rows.specs.After.{record_after, rows_after}
+use Rattle.table_rows.specs.Tables.{HaveSameRows, session_set, with_session_set}
+use Rattle.table_rows.specs.Tables as tables
+use Rattle.table_rows.specs.declared.before.Before.{Before}
+use Rattle.table_rows.specs.declared.before.Before.TheVariants as before
+use Rattle.image_laws.specs.Before.{IsBefore}
+use Rattle.image_laws.specs.Image.{image, stored_blanks, stored_groupings, stored_lots, stored_remakes, stored_sessions, stored_words}
+use Rattle.image_laws.proofs.Lists.{unmoved}
+use Rattle.image_laws.proofs.OneRecord.{batches_set, records_set}
+use Rattle.image_laws.proofs.OneSession.{blanks_same, sessions_elsewhere, sessions_same, stand_same}
+use Rattle.image_laws.proofs.SessionRows.{word_put, word_set}
+use Rattle.image_laws.proofs.Staying.{batches_stay, records_stay}
+use Rattle.image_laws.proofs.Stopping.{other_records, own_place, spoiled_good, spoiled_more, totals_good, totals_spoiled}
+use Rattle.image_laws.proofs.Touching.{groupings_stay, lots_stay, place_of, remakes_stay}
+
+module _ (f : Facts) (s index sw : ℕ) (stands : SessionState) (cursor : Cursor) (keeps : IsSoundChange f (change.AddsWord s index sw stands cursor)) where
+  abbrev word_change : Change
+  word_change = change.AddsWord s index sw stands cursor
+
+  abbrev worded_facts : Facts
+  worded_facts = with_word f s sw
+
+  abbrev own : Session
+  own = keeps.before.0
+
+  row_then : keeps.after.0 ≡ session_row worded_facts (worded sw own)
+  row_then =
+      sym (same_Some (session_row worded_facts (worded sw own)) keeps.after.0
+      (sym (ap (option_map (session_row worded_facts)) (session_changed f.sessions s own (worded sw) keeps.before.1)) ∙ keeps.after.1))
+
+  stands_then : session_state f (worded sw own) ≡ stands
+  stands_then =
+      sym (state_same f worded_facts.sessions (worded sw own)) ∙ sym (ap (λ (r : SessionRow). r.stands) row_then) ∙ keeps.after.2
+
+  cursor_alone : (sessions : List Session) (z : Session) → session_cursor (record f { sessions = sessions }) z ≡ session_cursor f z
+  unfolding session_cursor plan_for
+  cursor_alone sessions z = refl
+
+  cursor_then : session_cursor f (worded sw own) ≡ cursor
+  cursor_then = sym (cursor_alone worded_facts.sessions (worded sw own)) ∙ sym (ap (λ (r : SessionRow). r.cursor) row_then) ∙ keeps.after.3
+
+  sessions_then : stored_sessions worded_facts ≡ map (session_set s stands (index + 1) cursor) (stored_sessions f)
+  sessions_then = word_set f s own keeps.before.1 sw stands (index + 1) cursor stands_then (ap (λ n. n + 1) keeps.before.3) cursor_then
+
+  words_then : IsPermutation (stored_words worded_facts) (record { session = s; place = index; sw = sw } ∷ stored_words f)
+  words_then = subst (λ n. IsPermutation (stored_words worded_facts) (record { session = s; place = n; sw = sw } ∷ stored_words f)) keeps.before.3
+      (word_put f s own (worded sw) keeps.before.1 sw refl)
+
+  blanks_then : stored_blanks worded_facts ≡ stored_blanks f
+  blanks_then = blanks_same f s own (worded sw) keeps.before.1 refl refl refl
+
+  lots_then : stored_lots worded_facts ≡ stored_lots f
+  lots_then = lots_stay f f.remakes f.withdrawn worded_facts.sessions
+
+  groupings_then : stored_groupings worded_facts ≡ stored_groupings f
+  groupings_then = groupings_stay f f.remakes f.withdrawn worded_facts.sessions
+
+  remakes_then : stored_remakes worded_facts ≡ stored_remakes f
+  remakes_then = remakes_stay f f.remakes f.withdrawn worded_facts.sessions refl
+
+  -- ---- of its record
+
+  elsewhere : (d : List ℕ) → bytes_eq own.batch d ≡ false → session_states worded_facts d ≡ session_states f d
+  elsewhere = sessions_elsewhere f s own (worded sw) keeps.before.1 refl refl
+
+  knows : KnowsMore f worded_facts
+  knows = record {
+    products = no_more f.products;
+    lots = no_more f.lots;
+    batches = no_more f.batches;
+    discarded = no_more f.discarded;
+    remakes = no_more f.remakes;
+    withdrawn = no_more f.withdrawn;
+    closed = no_more f.closed;
+  }
+
+  module _ (sound : IsSound f) where
+    others : (d q : List ℕ) → is_record d q (named own.batch own.rec) ≡ false → StandsSame f worded_facts d q
+    others = other_records f s own keeps.before.1 word_change refl sound keeps.before
+
+    ran : record_state f own.batch own.rec ≡ rec.Running
+    ran = touched_stood f word_change sound keeps.before (named own.batch own.rec) rec.Running (record_of_there f s own keeps.before.1) refl
+
+    -- the rows, where its record comes to stand so
+    rows_over : (kept : List Entry) (marks : List Mark) (state : RecordState) (spoiled : ℕ) (totals : BatchTotals) → record_state worded_facts own.batch own.rec ≡ state
+        → count_by is_spoiled (states_of worded_facts own.batch own.rec) ≡ spoiled → batch_totals worded_facts own.batch ≡ totals
+        → HaveSameRows (image (record { facts = worded_facts; kept = kept; marks = marks }))
+        (record_after (place_of f own.batch own.rec) state spoiled (remakes_of f own.batch own.rec) totals
+        (with_session_set s stands (index + 1) cursor (tables.with_word (record { session = s; place = index; sw = sw }) (image (record { facts = f; kept = kept; marks = marks })))))
+    rows_over kept marks state spoiled totals now spoiled_are totals_are = record {
+      products = unmoved _ _ refl;
+      lots = unmoved _ _ lots_then;
+      batches = unmoved _ _ (batches_set f worded_facts.sessions f.remakes f.withdrawn own.batch own.rec sound others elsewhere totals totals_are);
+      records = unmoved _ _ (records_set f worded_facts.sessions f.remakes f.withdrawn own.batch own.rec sound others state spoiled (remakes_of f own.batch own.rec) now spoiled_are refl);
+      groupings = unmoved _ _ groupings_then;
+      sessions = unmoved _ _ sessions_then;
+      words = words_then;
+      blanks = unmoved _ _ blanks_then;
+      remakes = unmoved _ _ remakes_then;
+      replies = unmoved _ _ refl;
+      marks = unmoved _ _ refl;
+    }
+
+pub rows_after_word : (c : Contents) (s index sw : ℕ) (stands : SessionState) (cursor : Cursor) (told : Before) → IsSound c.facts
+    → IsSoundChange c.facts (change.AddsWord s index sw stands cursor) → IsBefore c.facts (change.AddsWord s index sw stands cursor) told
+    → HaveSameRows (image (record c { facts = changed c.facts (change.AddsWord s index sw stands cursor) })) (rows_after (change.AddsWord s index sw stands cursor) told (image c))
+rows_after_word c s index sw session.Running cursor before.Nothing sound keeps is =
+    let f : Facts = c.facts in
+    let runs = session.Running in
+    let x : Session = keeps.before.0 in
+    let g : Facts = with_word f s sw in
+    let stands : session_state f (worded sw x) ≡ session_state f x = stands_then f s index sw runs cursor keeps ∙ sym keeps.before.2 in
+    let same : (b r : List ℕ) → StandsSame f g b r = stand_same f s x (worded sw) keeps.before.1 refl refl stands in
+    let more_known = knows f s index sw runs cursor keeps in
+    record {
+      products = unmoved _ _ refl;
+      lots = unmoved _ _ (lots_then f s index sw runs cursor keeps);
+      batches = unmoved _ _ (batches_stay f g sound more_known refl same (sessions_same f s x (worded sw) keeps.before.1 refl refl stands) refl);
+      records = unmoved _ _ (records_stay f g sound more_known refl same);
+      groupings = unmoved _ _ (groupings_then f s index sw runs cursor keeps);
+      sessions = unmoved _ _ (sessions_then f s index sw runs cursor keeps);
+      words = words_then f s index sw runs cursor keeps;
+      blanks = unmoved _ _ (blanks_then f s index sw runs cursor keeps);
+      remakes = unmoved _ _ (remakes_then f s index sw runs cursor keeps);
+      replies = unmoved _ _ refl;
+      marks = unmoved _ _ refl;
+    }
+rows_after_word c s index sw session.Good cursor (before.OfRecord p) sound keeps is =
+    let f : Facts = c.facts in
+    let good = session.Good in
+    let x : Session = keeps.before.0 in
+    let there = keeps.before.1 in
+    let word = change.AddsWord s index sw good cursor in
+    let stands = stands_then f s index sw good cursor keeps in
+    let now : record_state (with_word f s sw) x.batch x.rec ≡ rec.Good = touched_stands f word sound keeps.before keeps.after (named x.batch x.rec) rec.Good (record_of_there f s x there) refl in
+    let spoiled = spoiled_good f s x (worded sw) there refl refl keeps.before.2 stands in
+    let totals = totals_good f s x (worded sw) there refl refl keeps.before.2 sound (others f s index sw good cursor keeps sound) (ran f s index sw good cursor keeps sound) stands now in
+    subst (λ q. HaveSameRows (image (record c { facts = with_word f s sw })) (rows_after word (before.OfRecord q) (image c))) (sym (own_place f s x there p is))
+    (rows_over f s index sw good cursor keeps sound c.kept c.marks rec.Good _ _ now spoiled totals)
+rows_after_word c s index sw session.Spoiled cursor (before.OfRecord p) sound keeps is =
+    let f : Facts = c.facts in
+    let over = session.Spoiled in
+    let x : Session = keeps.before.0 in
+    let there = keeps.before.1 in
+    let word = change.AddsWord s index sw over cursor in
+    let stands = stands_then f s index sw over cursor keeps in
+    let now : record_state (with_word f s sw) x.batch x.rec ≡ rec.Failed = touched_stands f word sound keeps.before keeps.after (named x.batch x.rec) rec.Failed (record_of_there f s x there) refl in
+    let spoiled = spoiled_more f s x (worded sw) there refl refl keeps.before.2 stands in
+    let totals = totals_spoiled f s x (worded sw) there refl refl keeps.before.2 sound (others f s index sw over cursor keeps sound) (ran f s index sw over cursor keeps sound) stands now in
+    subst (λ q. HaveSameRows (image (record c { facts = with_word f s sw })) (rows_after word (before.OfRecord q) (image c))) (sym (own_place f s x there p is))
+    (rows_over f s index sw over cursor keeps sound c.kept c.marks rec.Failed _ _ now spoiled totals)
+rows_after_word c s index sw _ cursor _ sound keeps is = absurd is

@@ -1,0 +1,24 @@
+//! The rows of the next contents. Each function does nothing; who calls it has its law.
+ghost use Rattle.job_facts.specs.declared.change.Change.{Change};
+ghost use Rattle.job_facts.specs.declared.change.Change.TheVariants as change;
+ghost use Rattle.job_facts.specs.Contents.{Contents, Entry, committed};
+ghost use Rattle.job_facts.specs.Sound.{IsSound, IsSoundChange, changed};
+ghost use Rattle.image_laws.specs.Before.{IsBefore};
+ghost use Rattle.image_laws.specs.Image.{image};
+ghost use Rattle.table_rows.specs.declared.before.Before.{Before};
+ghost use Rattle.table_rows.specs.After.{rows_after};
+ghost use Rattle.table_rows.specs.Tables.{HaveSameRows, with_reply};
+
+/// A reply with no change is one row more in its table.
+pub fn rows_with_reply()
+    ensures { (c : Contents) (entry : Entry) → HaveSameRows
+        (image (committed c change.Nothing entry)) (with_reply entry (image c)) }
+{}
+
+/// The rows after any change, by the change and by how what it touches stood before it.
+pub fn rows_after_change()
+    ensures { (c : Contents) (change : Change) (told : Before) → IsSound c.facts
+        → IsSoundChange c.facts change → IsBefore c.facts change told
+        → HaveSameRows (image (record c { facts = changed c.facts change }))
+        (rows_after change told (image c)) }
+{}

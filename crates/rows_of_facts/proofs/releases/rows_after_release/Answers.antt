@@ -1,5 +1,0 @@
-use Rattle.rows_of_facts.proofs.Releasing.{rows_after_release_are}
-use Rattle.rows_of_facts.proofs.releases.rows_after_release.Goals as goal
-
-pub returns : goal.returns
-returns call c upto entry = rows_after_release_are c upto entry
