@@ -11,9 +11,9 @@ use crate::ours::can_stay;
 use sql_tables::Version;
 use sqlite::{Alter, Connection};
 use std::alloc::Global;
-use table_rows::Tables;
 use table_reads::our_rows_are_an_image;
 use table_remakes::remake;
+use table_rows::Tables;
 
 /// Tables that stand as our own are made stay as they are. Others are made anew, and their rows put
 /// in, in one transaction. A crash leaves what it could leave before, or all of it.

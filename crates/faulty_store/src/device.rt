@@ -8,7 +8,6 @@ ghost use Rattle.faulty_store.specs.Faulty.{ends, left, struck};
 
 use job_facts::StoreFault;
 
-
 /// What a device does wrong.
 #[derive(Clone, Copy)]
 pub enum Fault {

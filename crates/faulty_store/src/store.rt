@@ -1,6 +1,9 @@
 //! The store.
 use crate::device::{Device, Fault, Plan};
-use job_facts::{BatchRow, BatchSize, BatchTotals, BlankTotals, Change, FaultCounts, JobStore, KeptReply, Lot, RecordLine, RecordState, SegmentRow, ServerStore, SessionRow, StoreFault};
+use job_facts::{
+    BatchRow, BatchSize, BatchTotals, BlankTotals, Change, FaultCounts, JobStore, KeptReply, Lot,
+    RecordLine, RecordState, SegmentRow, ServerStore, SessionRow, StoreFault,
+};
 use list_store::ListStore;
 use std::alloc::Global;
 use store_data::{Name, Product};

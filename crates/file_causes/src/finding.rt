@@ -21,8 +21,8 @@ use sql_tables::{CreateFault, Version, tables_of, version_in};
 use sqlite::{Alter, Connection, Error};
 use sqlite_schema::schema::Schema;
 use std::alloc::Global;
-use table_rows::Tables;
 use table_reads::{read_all, says};
+use table_rows::Tables;
 
 // What is made in memory to compare a schema with is empty before, so the first fault doesn't come.
 fn error_of(fault: CreateFault) -> Error {

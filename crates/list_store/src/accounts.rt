@@ -14,7 +14,9 @@ use crate::lists::{FactLists, KeptSession};
 use crate::records::record_names;
 use crate::sessions::session_state;
 use crate::states::{count_sessions, record_state, states_among};
-use job_facts::{BatchTotals, BlankTotals, Lot, RecordLine, RecordState, SessionState, StoreFault, lot_among};
+use job_facts::{
+    BatchTotals, BlankTotals, Lot, RecordLine, RecordState, SessionState, StoreFault, lot_among,
+};
 use std::alloc::Global;
 use store_data::Name;
 

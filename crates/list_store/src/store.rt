@@ -1,7 +1,11 @@
 //! The store.
 use crate::lists::{FactLists, KeptMark, KeptRow};
 use crate::{accounts, blanks, changes, kept, marks, names, records, segments, sessions, states};
-use job_facts::{BatchRow, BatchSize, BatchTotals, BlankTotals, Change, FaultCounts, JobStore, KeptReply, Lot, RecordLine, RecordState, SegmentRow, ServerStore, SessionRow, StoreFault, any_overlaps, lot_among};
+use job_facts::{
+    BatchRow, BatchSize, BatchTotals, BlankTotals, Change, FaultCounts, JobStore, KeptReply, Lot,
+    RecordLine, RecordState, SegmentRow, ServerStore, SessionRow, StoreFault, any_overlaps,
+    lot_among,
+};
 use std::alloc::Global;
 use store_data::{Name, Product};
 

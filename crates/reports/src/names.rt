@@ -4,7 +4,6 @@ ghost use Rattle.reports.specs.Names.{closed_name, state_name};
 
 use job_facts::RecordState;
 
-
 /// The name of a record's state (this project's profile).
 pub(crate) fn state_name(state: RecordState) -> &'static str
     ensures { result.now ≡ state_name state }

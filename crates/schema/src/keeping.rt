@@ -7,8 +7,8 @@ ghost use Rattle.sql_base.specs.Ends.{Ends, IsKept, IsLeft};
 ghost use Rattle.schema.specs.Takes.{Takes};
 ghost use Rattle.table_rows.specs.Kept.{kept_reply};
 
-use job_facts::Change;
 use image_laws::{rows_after_change, rows_after_release, rows_with_reply};
+use job_facts::Change;
 use sqlite::{Alter, Connection, Error};
 use std::alloc::Global;
 use store_commits::{Writing, commit};

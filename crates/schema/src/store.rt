@@ -6,7 +6,10 @@ ghost use Rattle.schema.specs.Link.{link};
 use crate::faults::Counts;
 use crate::keeping::{keep, release};
 use image_laws::same_rows_same_contents;
-use job_facts::{BatchRow, BatchSize, BatchTotals, BlankTotals, Change, FaultCounts, JobStore, KeptReply, Lot, RecordLine, RecordState, SegmentRow, SessionRow, StoreFault};
+use job_facts::{
+    BatchRow, BatchSize, BatchTotals, BlankTotals, Change, FaultCounts, JobStore, KeptReply, Lot,
+    RecordLine, RecordState, SegmentRow, SessionRow, StoreFault,
+};
 use sqlite::{Alter, Connection, Error};
 use std::alloc::Global;
 use store_data::{Name, Product};

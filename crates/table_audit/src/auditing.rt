@@ -13,8 +13,8 @@ use audit_rows::is_sound;
 use sql_tables::{CreateFault, Version, version_in};
 use sqlite::{Alter, Connection, Error};
 use std::alloc::Global;
-use table_rows::Tables;
 use table_reads::{read_all, says};
+use table_rows::Tables;
 
 /// What an audit found.
 #[derive(Drop)]

@@ -8,8 +8,8 @@ ghost use Rattle.table_remakes.specs.Remakes.{Remakes};
 use order_anew::make_anew;
 use sql_tables::Version;
 use sqlite::{Alter, Connection, Error, Transaction};
-use table_rows::Tables;
 use table_fills::fill;
+use table_rows::Tables;
 
 // Drops the tables of a version, makes ours and puts rows in, in an open transaction.
 fn write_anew<S: Alter>(

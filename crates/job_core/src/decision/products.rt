@@ -12,9 +12,9 @@ ghost use Rattle.job_facts.specs.Store.{CountsFaults, Reads, Stays};
 ghost use Rattle.job_facts.specs.declared.request.Request.TheVariants as request;
 ghost use Rattle.job_facts.specs.declared.store.StoreFault.TheVariants.{Memory};
 
-use job_facts::{BatchRow, BatchSize, Change, JobStore, Lot, Made, Refusal, Reply, StoreFault};
 use super::{Decision, refused};
 use batch_import::{ImportFault, check_batch};
+use job_facts::{BatchRow, BatchSize, Change, JobStore, Lot, Made, Refusal, Reply, StoreFault};
 use std::alloc::Global;
 use store_data::{Name, Product};
 

@@ -10,8 +10,8 @@ ghost use Rattle.job_facts.specs.declared.change.Change.TheVariants.{Discards, W
 ghost use Rattle.job_facts.specs.declared.reply.Reply.TheVariants.{Discarded, Withdrawn};
 ghost use Rattle.job_facts.specs.declared.request.Request.TheVariants as request;
 
-use job_facts::{BatchRow, Change, JobStore, Lot, RecordState, Refusal, Reply, StoreFault};
 use super::{Decision, refused};
+use job_facts::{BatchRow, Change, JobStore, Lot, RecordState, Refusal, Reply, StoreFault};
 use store_data::Name;
 
 /// The decision on a discard.

@@ -19,10 +19,13 @@ ghost use Rattle.job_facts.specs.declared.rows.SegmentRow.{SegmentRow as Segment
 ghost use Rattle.job_facts.specs.declared.rows.SessionRow.{SessionRow as SessionRowValue};
 ghost use Rattle.std.specs.List.{slice_get};
 
-use job_facts::{BatchRow, Change, JobStore, Lot, Refusal, Reply, SegmentRow, SessionRow, SessionState, StoreFault};
 use super::commands::{command, command_from, view};
 use super::records::in_batch;
 use super::{Decision, refused};
+use job_facts::{
+    BatchRow, Change, JobStore, Lot, Refusal, Reply, SegmentRow, SessionRow, SessionState,
+    StoreFault,
+};
 use std::alloc::Global;
 use store_data::{Bytes, Class, Cursor, Name, class};
 
