@@ -4,6 +4,5 @@ pub mod NameLemmas
 pub mod RouteLemmas
 pub mod ClientLemmas
 pub mod FormLemmas
-pub mod AskLemmas
 pub mod MeantLemmas
 pub mod PostLemmas

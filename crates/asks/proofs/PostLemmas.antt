@@ -16,7 +16,8 @@ use Rattle.text_io.specs.Inputs.{most_input}
 use Rattle.heads.specs.Messages.{Brings, IsHeardAs, MessageParts}
 use Rattle.heads.specs.RequestHeads.{IsHeardBefore, IsTarget, is_visible, posted, request_head}
 use Rattle.heads.proofs.SentHeads.{digits_are_digits}
-use Rattle.asks.specs.Asks.{arrival_of, ask_with, asked_at, import_of, import_tail, is_number, name_in, number_in, or_malformed}
+use Rattle.asks.specs.Asks.{arrival_of, ask_with, asked_at, import_of, import_tail, name_in, or_malformed}
+use Rattle.text_io.specs.Numbers.{is_number, number_in}
 use Rattle.asks.specs.Meant.{Means, meant_by}
 use Rattle.asks.specs.Posts.{post_with, posted_with, target_with}
 use Rattle.asks.specs.Requests.{call_in}

@@ -3,6 +3,7 @@ use Rattle.std.specs.Prelude.{◌≡◌, ℕ, ◌==◌, ◌&&◌, nat_le, not, B
 use Rattle.std.specs.List.{list_all}
 use Rattle.std.specs.Char.{is_ascii_digit}
 use Rattle.std.specs.Str.Parse.{digits_value}
+use Rattle.text_io.specs.Numbers.{number_in}
 use Rattle.store_data.specs.Name.{is_name}
 use Rattle.job_facts.specs.declared.request.Call.{Call}
 use Rattle.job_facts.specs.declared.request.Call.TheVariants as call
@@ -22,14 +23,7 @@ use Rattle.asks.specs.Members.{passing}
 use Rattle.asks.specs.Requests.{call_in}
 use Rattle.asks.specs.Routes.{Route, Job, Import, Batch, Report, Blanks, method_of, route_in}
 
--- ---- a number, and what a repeat has to have alike
-
--- 1 to 18 decimal digits, the first of which is not 0
-abbrev pub is_number : List ℕ → Bool
-is_number text = nat_le 1 (length text) && nat_le (length text) 18 && list_all is_ascii_digit text && not (slice_index text 0 == 48)
-
-abbrev pub number_in : List ℕ → Option ℕ
-number_in text = if is_number text then Some (digits_value 10 text) else None
+-- ---- what a repeat has to have alike
 
 -- what follows the number in an import's target
 abbrev pub import_tail : List ℕ → List ℕ → List ℕ

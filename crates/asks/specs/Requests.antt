@@ -3,6 +3,7 @@ use Rattle.std.specs.Prelude.{ℕ, ◌-◌, ◌+◌, ◌^◌, ◌==◌, ◌&&◌
 use Rattle.std.specs.List.{list_all}
 use Rattle.std.specs.Char.{is_ascii_hexdigit}
 use Rattle.std.specs.Str.Parse.{digits_value}
+use Rattle.text_io.specs.Numbers.{is_word}
 use Rattle.serde_json.specs.Data.{Data, Members, no_members, member}
 use Rattle.serde_json.specs.Find.{get, as_bool, as_object}
 use Rattle.job_facts.specs.declared.facts.Lot.{Lot}
@@ -49,10 +50,6 @@ serial_at key d = number_within 0 (10 ^ 18 - 1) key d
 
 abbrev pub session_in : Data → Option ℕ
 session_in d = number_within 1 (10 ^ 18 - 1) (codes "session") d
-
--- four hexadecimal digits, of either case
-abbrev pub is_word : List ℕ → Bool
-is_word text = (length text == 4) && list_all is_ascii_hexdigit text
 
 unfoldable pub word_in : Data → Option ℕ
 word_in d = option_map (digits_value 16) (option_and_then (passing is_word) (text_at (codes "sw") d))

@@ -1,13 +1,10 @@
 //! What a message asks for.
-ghost use Rattle.std.specs.Prelude.{◌≡◌, ◌<◌, ◌≤◌, ◌^◌, ◌++◌, [], ◌∷◌, Err, IfOk, IfSome, Ok, OnOk};
-ghost use Rattle.std.specs.Prelude.{bytes_eq, codes, if◌then◌else◌, true};
-ghost use Rattle.std.specs.Char.{is_ascii_digit};
-ghost use Rattle.std.specs.List.{list_all};
-ghost use Rattle.std.specs.Str.Parse.{digits_value};
+ghost use Rattle.std.specs.Prelude.{◌≡◌, ◌++◌, [], ◌∷◌, Err, IfOk, Ok, OnOk};
+ghost use Rattle.std.specs.Prelude.{bytes_eq, if◌then◌else◌};
 ghost use Rattle.store_data.specs.Name.{is_name};
 ghost use Rattle.job_facts.specs.Sound.{IsName};
 ghost use Rattle.asks.specs.Asks.{IsAsked, IsInRange, ask_in, ask_with, asked_of, import_tail};
-ghost use Rattle.asks.specs.Asks.{is_number, method_text, number_in, or_malformed};
+ghost use Rattle.asks.specs.Asks.{method_text, or_malformed};
 ghost use Rattle.heads.specs.Messages.{as_parts};
 ghost use Rattle.asks.specs.RouterRows.{shown};
 ghost use Rattle.asks.specs.Routes.{Import, Job};
@@ -21,9 +18,7 @@ use std::alloc::{AllocError, Global};
 use std::error::Error;
 use std::fmt;
 use store_data::{Bytes, Name};
-
-/// The most digits of a request's number (this project's profile).
-const MOST_DIGITS: usize = 18;
+use text_io::number_in;
 
 /// The most bytes of what follows the number in a target: two names of at most 32 characters with what stands before them.
 const MOST_TAIL: usize = 72;
@@ -233,40 +228,4 @@ fn push_body(ask: &mut Vec<u8>, body: &[u8]) -> Result<(), AllocError>
 {
     ask.push(0)?;
     ask.extend_from_slice(body)
-}
-
-// A request's number, if these are its digits.
-fn number_in(text: &[u8]) -> Option<u64>
-    ensures value { result ≡ number_in text.now }
-    ensures range { IfSome result (λ n. (1 ≤ n) × (n < 10 ^ 18)) }
-{
-    if is_number(text) {
-        Some(decimal(text))
-    } else {
-        None
-    }
-}
-
-/// Whether a text is a number of a request: 1 to 18 decimal digits, the first of which is not 0 (this project's profile).
-pub fn is_number(text: &[u8]) -> bool
-    ensures { result ≡ is_number text.now }
-{
-    1 <= text.len() && text.len() <= MOST_DIGITS && are_digits(text) && text[0] != b'0'
-}
-
-fn are_digits(text: &[u8]) -> bool
-    ensures { result ≡ list_all is_ascii_digit text.now }
-{
-    text.iter().all(|byte| byte.is_ascii_digit())
-}
-
-fn decimal(digits: &[u8]) -> u64
-    requires { is_number digits.now ≡ true }
-    ensures { result ≡ digits_value 10 digits.now }
-{
-    let mut number = 0;
-    for digit in digits {
-        number = number * 10 + u64::from(*digit - b'0');
-    }
-    number
 }

@@ -8,6 +8,6 @@ mod post;
 mod request;
 mod route;
 
-pub use ask::{AskFault, Asked, Wanted, is_number, push_import_tail, to_ask};
+pub use ask::{AskFault, Asked, Wanted, push_import_tail, to_ask};
 pub use meaning::{Meaning, read_meaning};
 pub use post::{import_text, job_text};

@@ -1,15 +1,11 @@
 //! Requests in JSON (RFC 8259).
-ghost use Rattle.std.specs.Prelude.{◌≡◌, ◌<◌, ◌≤◌, ◌^◌, IfOk, IfSome, IsTrue, option_map};
-ghost use Rattle.std.specs.Char.{is_ascii_hexdigit};
-ghost use Rattle.std.specs.List.{list_all};
-ghost use Rattle.std.specs.Str.Parse.{digits_value};
+ghost use Rattle.std.specs.Prelude.{◌≡◌, ◌<◌, ◌≤◌, ◌^◌, IfOk, IfSome, IsTrue};
 ghost use Rattle.store_data.specs.Name.{is_name};
 ghost use Rattle.job_facts.specs.Requests.{IsCall, IsRequest};
 ghost use Rattle.serde_json.specs.View.{view};
-ghost use Rattle.asks.specs.Members.{passing};
 ghost use Rattle.asks.specs.Requests.{abort_in, answer_in, call_by_word, call_in, call_of_value};
 ghost use Rattle.asks.specs.Requests.{close_in, count_in, discard_in, flag_at, release_in};
-ghost use Rattle.asks.specs.Requests.{is_word, lot_in, number_within, open_in, product_in};
+ghost use Rattle.asks.specs.Requests.{lot_in, number_within, open_in, product_in};
 ghost use Rattle.asks.specs.Requests.{remake_in, request_by_word};
 ghost use Rattle.asks.specs.Requests.{serial_at, session_in, withdraw_in, word_in};
 
@@ -18,6 +14,7 @@ use job_facts::{Call, Lot, Request};
 use serde_json::Value;
 use std::alloc::{AllocError, Global};
 use store_data::Product;
+use text_io::status_word;
 
 /// The largest serial, session and number (this project's profile).
 const MOST_SERIAL: u64 = 999_999_999_999_999_999;
@@ -248,28 +245,5 @@ fn session_in(value: &Value) -> Option<u64>
 fn word_in(value: &Value) -> Option<u16>
     ensures { result ≡ word_in (view value.now) }
 {
-    word_of(text_at(value, "sw")?)
-}
-
-// The number of four hexadecimal digits, of either case.
-fn word_of(text: &str) -> Option<u16>
-    ensures { result ≡ option_map (digits_value 16) (passing is_word text.now) }
-{
-    if is_word(text) {
-        u16::from_str_radix(text, 16).ok()
-    } else {
-        None
-    }
-}
-
-fn is_word(text: &str) -> bool
-    ensures { result ≡ is_word text.now }
-{
-    text.len() == 4 && are_hex_digits(text.as_bytes())
-}
-
-fn are_hex_digits(text: &[u8]) -> bool
-    ensures { result ≡ list_all is_ascii_hexdigit text.now }
-{
-    text.iter().all(|byte| byte.is_ascii_hexdigit())
+    status_word(text_at(value, "sw")?.as_bytes())
 }

@@ -1,6 +1,6 @@
 -- The lines of a drill that bring a packet to the server (this project's profile).
 use Rattle.std.specs.Prelude.{ℕ, List, bytes_eq, codes, Option, Some, None, option_map, option_and_then, if◌then◌else◌}
-use Rattle.line_words.specs.Lines.{word_of}
+use Rattle.text_io.specs.Lines.{word_of}
 use Rattle.feeder.specs.declared.world.Stop.{Stop}
 use Rattle.feeder.specs.declared.world.Stop.TheVariants as stop
 use Rattle.shop_floor.specs.Turns.{count_of}

@@ -2,8 +2,9 @@
 use Rattle.std.specs.Prelude.{ℕ, ◌==◌, ◌&&◌, not, nat_lt, List, ◌++◌, length, bytes_eq, codes, Option, Some, None, option_map, option_and_then, if◌then◌else◌}
 use Rattle.std.specs.List.{flat_map, list_any}
 use Rattle.store_data.specs.Name.{is_name}
-use Rattle.line_words.specs.Lines.{cut, word_of}
-use Rattle.wire.specs.Asks.{import_tail, is_number}
+use Rattle.text_io.specs.Lines.{cut, word_of}
+use Rattle.wire.specs.Asks.{import_tail}
+use Rattle.text_io.specs.Numbers.{is_number}
 use Rattle.text_io.specs.Written.{line}
 use Rattle.wire.specs.RequestHeads.{request_head}
 use Rattle.drill.specs.declared.script.Step.{Step as Parsed}

@@ -3,7 +3,7 @@ ghost use Rattle.std.specs.Prelude.{◌≡◌, ◌≤◌, IfSome};
 ghost use Rattle.drill.specs.Deliveries.{delivery_of, delivery_to, stop_of};
 
 use feeder::Stop;
-use line_words::word_of;
+use text_io::word_of;
 use shop_floor::count_of;
 
 /// A packet that arrives, and whether the server stops then.

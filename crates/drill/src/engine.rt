@@ -7,7 +7,7 @@ ghost use Rattle.drill.specs.Ends.{DrillsOver, Goes, GoesOn, Runs};
 use crate::step::step;
 use crate::stop::DrillStop;
 use job_facts::{Reopen, StoreFault};
-use line_words::lines_of;
+use text_io::lines_of;
 use shop_floor::Floor;
 use std::alloc::Global;
 use std::io::{Read, Write};

@@ -8,10 +8,9 @@ ghost use Rattle.drill.specs.Scripts.{asked, get, import_of, numbered, office_of
 ghost use Rattle.drill.specs.Scripts.{post, shown, step_by, step_of, target_of};
 
 use itoa::Buffer;
-use line_words::word_of;
 use std::alloc::{AllocError, Global};
 use store_data::Name;
-use wire::is_number;
+use text_io::{is_number, word_of};
 
 /// The message that a line asks for, and how many of the lines behind it are its file.
 pub(crate) fn asked(

@@ -9,9 +9,9 @@ use Rattle.std.specs.Str.Parse.{digits_value}
 use Rattle.std.proofs.lemmas.Bool.{and_left, and_right, cond_both, eqb-true, or_cases}
 use Rattle.std.proofs.lemmas.Slice.Eq.{bytes_eq-Decides}
 use Rattle.asks.specs.Asks.{number_in}
-use Rattle.asks.specs.Requests.{is_word}
-use Rattle.line_words.specs.Lines.{words}
-use Rattle.line_words.specs.Numbers.{number_within, status_word, within}
+use Rattle.text_io.specs.Numbers.{is_word}
+use Rattle.text_io.specs.Lines.{words}
+use Rattle.text_io.specs.Numbers.{number_within, status_word, within}
 use Rattle.feeding.specs.declared.flaw.Flaw.{Flaw}
 use Rattle.feeding.specs.declared.flaw.Flaw.TheVariants.{Empty, EndsInCr, Space, Serial, Word}
 use Rattle.feeding.specs.Cards.{Card, all_of, card_by, card_of, new_card}

@@ -2,8 +2,8 @@
 use Rattle.std.proofs.Common.{◌≡◌, ◌≤◌, ◌<◌, ◌^◌, ◌-◌, ◌+◌, ℕ, List, [], ◌∷◌, ◌++◌, length, map, drop, get_or, Bor, Option, Some, None, sym, refl, ap, ◌∙◌, append_assoc, append-nil}
 use Rattle.std.specs.Prelude.{option_map, option_and_then}
 use Rattle.std.proofs.lemmas.List.{drop_all, drop_more}
-use Rattle.line_words.specs.Lines.{words}
-use Rattle.line_words.specs.Numbers.{number_within, status_word}
+use Rattle.text_io.specs.Lines.{words}
+use Rattle.text_io.specs.Numbers.{number_within, status_word}
 use Rattle.feeding.specs.Cards.{Card, all_of, card_by, card_of, new_card}
 
 abbrev pub word_bytes : Bor (List ℕ) → List ℕ

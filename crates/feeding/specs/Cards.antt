@@ -4,8 +4,8 @@ use Rattle.std.specs.Fmt.{decimal}
 use Rattle.hex.specs.Hex.{encode_upper}
 use Rattle.text_io.specs.Written.{line}
 use Rattle.wire.specs.Sending.{word_text}
-use Rattle.line_words.specs.Lines.{words}
-use Rattle.line_words.specs.Numbers.{number_within, status_word}
+use Rattle.text_io.specs.Lines.{words}
+use Rattle.text_io.specs.Numbers.{number_within, status_word}
 
 -- a card's serial, the words that it gives in turn, and how many of them it has given
 pub record Card : Type 0 where

@@ -6,7 +6,7 @@ use Rattle.feeder.specs.declared.feeder.InsertFault.{InsertFault}
 use Rattle.feeder.specs.declared.feeder.Stand.{Stand}
 use Rattle.feeder.specs.declared.feeder.Stand.TheVariants.{Idle, Asks, HasCommand, Stale}
 use Rattle.feeder.specs.Table.{Act, Apply, Done, Eject, FeederState, Send, Wait, after_card, after_insert, after_reply, asked, started}
-use Rattle.line_words.specs.Lines.{lines}
+use Rattle.text_io.specs.Lines.{lines}
 use Rattle.feeding.specs.Cards.{Card, applied_line, card_of, end_line, gives, new_card, next_word}
 
 pub record Feed : Type 0 where

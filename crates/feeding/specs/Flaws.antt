@@ -2,9 +2,9 @@
 use Rattle.std.specs.Prelude.{ℕ, ◌-◌, ◌^◌, ◌==◌, nat_eq, not, if◌then◌else◌, List, [], ◌∷◌, length, codes, Option, Some, None}
 use Rattle.std.specs.List.{ends_with, list_any}
 use Rattle.std.specs.Option.{is_some}
-use Rattle.asks.specs.Requests.{is_word}
-use Rattle.line_words.specs.Lines.{words}
-use Rattle.line_words.specs.Numbers.{number_within}
+use Rattle.text_io.specs.Numbers.{is_word}
+use Rattle.text_io.specs.Lines.{words}
+use Rattle.text_io.specs.Numbers.{number_within}
 use Rattle.feeding.specs.declared.flaw.Flaw.{Flaw}
 use Rattle.feeding.specs.declared.flaw.Flaw.TheVariants.{Empty, EndsInCr, Space, Serial, Word}
 

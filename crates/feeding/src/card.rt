@@ -1,7 +1,7 @@
 //! The cards of a feed, and the lines that are printed of them.
 ghost use Rattle.std.specs.Prelude.{◌≡◌, ◌<◌, ◌^◌, ◌++◌, IfOk, IfSome, OnOk, map, option_map};
 ghost use Rattle.std.specs.Prelude.{string_bytes};
-ghost use Rattle.line_words.specs.Numbers.{status_word};
+ghost use Rattle.text_io.specs.Numbers.{status_word};
 ghost use Rattle.wire.specs.Sending.{word_text};
 ghost use Rattle.hex.specs.Hex.{encode_upper};
 ghost use Rattle.feeding.specs.Cards.{all_of, applied_line, card_by, card_line, card_of};
@@ -9,7 +9,7 @@ ghost use Rattle.feeding.specs.Cards.{end_line, gives, next_word};
 ghost use Rattle.feeding.specs.Views.{card_view};
 
 use itoa::Buffer;
-use line_words::{number_within, status_word, words_of};
+use text_io::{number_within, status_word, words_of};
 use std::alloc::{AllocError, Global};
 
 /// The greatest serial.

@@ -15,7 +15,7 @@ use crate::feed::Feed;
 use event_lines::{EventLog, Level};
 use feeder::Stand;
 use job_facts::{Call, Reply};
-use line_words::lines_of;
+use text_io::lines_of;
 use std::alloc::{AllocError, Global};
 use std::error::Error;
 use std::fmt;

@@ -1,12 +1,12 @@
 //! What is wrong with a line that has no form of a card's.
 ghost use Rattle.std.specs.Prelude.{◌≡◌, ◌↔◌, ◌==◌, IfOk, IsSome, None, length, map, not};
 ghost use Rattle.std.specs.List.{list_any};
-ghost use Rattle.asks.specs.Requests.{is_word};
+ghost use Rattle.text_io.specs.Numbers.{is_word};
 ghost use Rattle.feeding.specs.Cards.{card_of};
 ghost use Rattle.feeding.specs.Flaws.{flaw_by, flaw_name, flaw_of};
 
 use crate::card::MOST_SERIAL;
-use line_words::{number_within, status_word, words_of};
+use text_io::{number_within, status_word, words_of};
 use std::alloc::{AllocError, Global};
 
 /// What is wrong with a line of a feed's list.

@@ -12,6 +12,7 @@ use Rattle.std.proofs.lemmas.List.Sums.{AllPass-from_list_all}
 use Rattle.std.proofs.lemmas.Option.{get_or_from_slice_get, slice_get_within}
 use Rattle.httparse.specs.declared.spans.HeaderSpan.{HeaderSpan}
 use Rattle.httparse.specs.Spans.{header_bytes, span_bytes}
+use Rattle.text_io.proofs.NumberLemmas.{digit_of}
 use Rattle.heads.specs.declared.fixed.FixedReply.TheVariants.{Malformed}
 use Rattle.heads.specs.Heads.{Pair, body_size, is_named, size_in}
 use Rattle.text_io.specs.Inputs.{most_input}
@@ -19,9 +20,6 @@ use Rattle.heads.specs.HeadTests.{counted, one_more, size_after, size_by, values
 
 pub all_at : (p : ℕ → Bool) (xs : List ℕ) (i : ℕ) → list_all p xs ≡ true → i < length xs → p (slice_index xs i) ≡ true
 all_at p xs i h inside = AllPass-from_list_all p xs h i 0 inside
-
-pub digit_of : (c : ℕ) → is_ascii_digit c ≡ true → digit_value c ≡ c - 48
-digit_of c h = grind (arith, nat_tests)
 
 pub capped_more : (v d : ℕ) → min (min v (most_input + 1) * 10 + d) (most_input + 1) ≡ min (v * 10 + d) (most_input + 1)
 capped_more v d = omega arith

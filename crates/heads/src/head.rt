@@ -161,7 +161,7 @@ fn found_more<'a>(found: Found<'a>, value: &'a [u8]) -> Found<'a>
 fn size_text(text: &[u8]) -> Result<usize, FixedReply>
     ensures { result ≡ size_text text.now }
 {
-    if !are_digits(text) {
+    if !is_decimal(text) {
         return Err(FixedReply::Malformed);
     }
     let size = capped(text);
@@ -171,16 +171,10 @@ fn size_text(text: &[u8]) -> Result<usize, FixedReply>
     Ok(size)
 }
 
-fn are_digits(text: &[u8]) -> bool
+fn is_decimal(text: &[u8]) -> bool
     ensures { result ≡ (nat_lt 0 (length text.now) && list_all is_ascii_digit text.now) }
 {
-    !text.is_empty() && all_digits(text)
-}
-
-fn all_digits(text: &[u8]) -> bool
-    ensures { result ≡ list_all is_ascii_digit text.now }
-{
-    text.iter().all(|byte| byte.is_ascii_digit())
+    !text.is_empty() && are_digits(text)
 }
 
 // The number of decimal digits, or one more than the most where it is larger.

@@ -1,8 +1,8 @@
 -- The lines of a drill that move a machine or a reply (this project's profile).
 use Rattle.std.specs.Prelude.{◌≤◌, ◌<◌, ◌^◌, ◌-◌, ℕ, List, bytes_eq, codes, Option, Some, None, option_map, option_and_then, if◌then◌else◌, ⊤}
 use Rattle.store_data.specs.Name.{is_name}
-use Rattle.line_words.specs.Lines.{word_of}
-use Rattle.line_words.specs.Numbers.{number_within, status_word}
+use Rattle.text_io.specs.Lines.{word_of}
+use Rattle.text_io.specs.Numbers.{number_within, status_word}
 use Rattle.shop_floor.specs.declared.turn.Turn.{Turn}
 use Rattle.shop_floor.specs.declared.turn.Turn.TheVariants as turn
 

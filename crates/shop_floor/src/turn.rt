@@ -3,7 +3,7 @@ ghost use Rattle.std.specs.Prelude.{◌≡◌, ◌≤◌, IfSome};
 ghost use Rattle.shop_floor.specs.Turns.{IsTurn, card_of, count_of, insert_of, machine_of};
 ghost use Rattle.shop_floor.specs.Turns.{power_of, turn_by, turn_of};
 
-use line_words::{number_within, status_word, word_of};
+use text_io::{number_within, status_word, word_of};
 use store_data::Name;
 
 /// The greatest number of 18 digits: of a serial or a reply.

@@ -1,2 +1,4 @@
 pub mod Inputs
 pub mod Written
+pub mod Lines
+pub mod Numbers

@@ -6,7 +6,7 @@ ghost use Rattle.wire.specs.ReplyText.{AreToldApart};
 mod parse;
 mod sending;
 
-pub use asks::{AskFault, Asked, Wanted, is_number, to_ask};
+pub use asks::{AskFault, Asked, Wanted, to_ask};
 pub use heads::{
     ByteSource, Content, FixedReply, Message, Method, Pieces, Reading, read_message, reply_head,
     reply_parts,

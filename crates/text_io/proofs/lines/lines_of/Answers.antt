@@ -1,8 +1,8 @@
 use Rattle.std.proofs.Common.{rules, tests, ◌≡◌, ◌==◌, sym, ◌∙◌, false, length}
 use Rattle.std.proofs.lemmas.Iterator.Splits.{YieldsList-from_slice_split}
 use Rattle.std.proofs.lemmas.Iterator.Consumers.{map_from_collect}
-use Rattle.line_words.specs.Lines.{without_end}
-use Rattle.line_words.proofs.lines.lines_of.Goals as goal
+use Rattle.text_io.specs.Lines.{without_end}
+use Rattle.text_io.proofs.lines.lines_of.Goals as goal
 
 pub returns : goal.returns
 returns c =

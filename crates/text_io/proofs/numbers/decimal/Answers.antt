@@ -1,7 +1,7 @@
 use Rattle.std.proofs.Common.{◌≡◌, ◌+◌, ◌*◌, ◌∙◌, arith, take}
 use Rattle.std.specs.Str.Parse.{digits_value}
-use Rattle.asks.proofs.AskLemmas.{is_number_is, number_more, so_far_small}
-use Rattle.line_words.proofs.numbers.decimal.Goals as goal
+use Rattle.text_io.proofs.NumberLemmas.{is_number_is, number_more, so_far_small}
+use Rattle.text_io.proofs.numbers.decimal.Goals as goal
 
 more : (c : goal.After-from) → c.loop-digit.number * 10 + c.from.result ≡ digits_value 10 (take (c.loop-digit.digit-index + 1) c.args.digits.now)
 more c =

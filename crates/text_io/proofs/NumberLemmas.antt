@@ -1,4 +1,4 @@
--- The number of a request.
+-- Decimal numbers from 1, of at most 18 digits.
 use Rattle.std.proofs.Common.{◌≡◌, ℕ, ◌+◌, ◌*◌, ◌-◌, ◌^◌, ◌<◌, ◌≤◌, ◌==◌, true, List, [], ◌∷◌, length, take, get_or, sym, ap, ◌∙◌, arith}
 use Rattle.std.specs.Prelude.{◌&&◌, nat_le, not}
 use Rattle.std.specs.Char.{digit_value, is_ascii_digit}
@@ -10,8 +10,7 @@ use Rattle.std.proofs.lemmas.Bool.Decides.{nat_tests}
 use Rattle.std.proofs.lemmas.List.Sums.{AllPass-from_list_all}
 use Rattle.std.proofs.lemmas.Int.Digits.{digits_value-lt, digits_value_more}
 use Rattle.std.proofs.lemmas.Str.Parse.{digits_value-take-le}
-use Rattle.heads.proofs.HeadLemmas.{digit_of}
-use Rattle.asks.specs.Asks.{is_number}
+use Rattle.text_io.specs.Numbers.{is_number}
 
 -- what digits have to be to be a number
 pub record IsNumber (text : List ℕ) : Type 0 where
@@ -31,6 +30,9 @@ is_number_is text h =
       digits = front.1;
       first = λ zero. grind (arith, nat_tests, all.1, zero);
     }
+
+pub digit_of : (c : ℕ) → is_ascii_digit c ≡ true → digit_value c ≡ c - 48
+digit_of c h = grind (arith, nat_tests)
 
 at_least_0 : (c : ℕ) → is_ascii_digit c ≡ true → 48 ≤ c
 at_least_0 c h = grind (arith, nat_tests)

@@ -1,6 +1,6 @@
 //! Lines, and words.
 ghost use Rattle.std.specs.Prelude.{◌≡◌, ◌==◌, IfOk, map, option_map, position};
-ghost use Rattle.line_words.specs.Lines.{lines, word_of, without_end, words};
+ghost use Rattle.text_io.specs.Lines.{lines, word_of, without_end, words};
 
 use std::alloc::{AllocError, Global};
 

@@ -1,7 +1,7 @@
-use Rattle.std.proofs.Common.{◌≡◌, sym, subst, ◌∙◌}
+use Rattle.std.proofs.Common.{sym, subst, ◌∙◌}
 use Rattle.std.specs.Str.Parse.{ParsesUnsigned}
-use Rattle.line_words.proofs.Words.{none_unread, read_alike, word_number, word_text}
-use Rattle.line_words.proofs.numbers.status_word.Goals as goal
+use Rattle.text_io.proofs.WordLemmas.{none_unread, read_alike, word_number, word_text}
+use Rattle.text_io.proofs.numbers.status_word.Goals as goal
 
 pub returns-in_err-digits : goal.returns-in_err-digits
 returns-in_err-digits c =

@@ -1,6 +1,6 @@
 use Rattle.std.proofs.Common.{◌∙◌, sym, arith}
-use Rattle.asks.proofs.AskLemmas.{is_number_is, number_is_small, number_is_some}
-use Rattle.asks.proofs.ask.number_in.Goals as goal
+use Rattle.text_io.proofs.NumberLemmas.{is_number_is, number_is_small, number_is_some}
+use Rattle.text_io.proofs.numbers.number_in.Goals as goal
 
 pub returns-then-is_number-clause-range : goal.returns-then-is_number-clause-range
 returns-then-is_number-clause-range c =

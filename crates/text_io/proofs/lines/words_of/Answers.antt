@@ -1,7 +1,7 @@
 use Rattle.std.proofs.Common.{rules, tests, ◌==◌}
 use Rattle.std.proofs.lemmas.Iterator.Splits.{YieldsList-from_slice_split}
 use Rattle.std.proofs.lemmas.Iterator.Consumers.{map_from_collect}
-use Rattle.line_words.proofs.lines.words_of.Goals as goal
+use Rattle.text_io.proofs.lines.words_of.Goals as goal
 
 pub returns : goal.returns
 returns c =
