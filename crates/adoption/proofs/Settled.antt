@@ -14,7 +14,7 @@ use Rattle.sql_tables.specs.Tables.{our_schema}
 use Rattle.table_reads.specs.Rowids.{HasApart}
 use Rattle.table_reads.specs.Holding.{HoldsRows}
 use Rattle.sql_rows.specs.Image.{IsImage}
-use Rattle.table_remakes.specs.Remakes.{Remakes}
+use Rattle.remaking.specs.Remakes.{Remakes}
 use Rattle.adoption.specs.Adopts.{Settles}
 use Rattle.adoption.specs.Comes.{Comes}
 

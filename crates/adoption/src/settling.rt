@@ -12,7 +12,7 @@ use sql_tables::Version;
 use sqlite::{Alter, Connection};
 use std::alloc::Global;
 use table_reads::our_rows_are_an_image;
-use table_remakes::remake;
+use remaking::remake;
 use table_rows::Tables;
 
 /// Tables that stand as our own are made stay as they are. Others are made anew, and their rows put

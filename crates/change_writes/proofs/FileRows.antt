@@ -27,7 +27,7 @@ use Rattle.sql_rows.proofs.SameRows.{same_rows}
 use Rattle.table_rows.specs.After.{batch_rows_after, new_batch, new_grouping, new_record}
 use Rattle.table_rows.specs.Tables.{HaveSameRows, StoredGrouping, Tables, with_batch, with_grouping}
 use Rattle.change_writes.specs.Imports.{IsImported, names_of, record_if_new, with_file_row, with_file_rows}
-use Rattle.change_writes.specs.Many.{GoesOn, with_records}
+use Rattle.sql_rows.specs.Many.{GoesOn, with_records}
 
 abbrev rec_of : Row → List ℕ
 rec_of row = row.rec

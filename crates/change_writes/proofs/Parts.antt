@@ -8,7 +8,7 @@ use Rattle.sqlite.proofs.InsideLemmas.{keeps_then}
 use Rattle.sql_base.specs.Ends.{Inside, Wrote}
 use Rattle.sql_rows.specs.Image.{Moves}
 use Rattle.table_rows.specs.Tables.{Tables}
-use Rattle.change_writes.specs.Many.{GoesOn, WroteMany}
+use Rattle.sql_rows.specs.Many.{GoesOn, WroteMany}
 
 -- what went well inside a transaction goes on in it
 pub wrote_many : {X : Type 0} (R : Database → Database → Type 0) (a b : State) (r : Result X Error) → Inside R a b → KeepsCommit a b → WroteMany R a b r

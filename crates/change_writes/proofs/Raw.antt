@@ -10,14 +10,7 @@ use Rattle.sql_rows.proofs.OneId.{others_differ}
 use Rattle.table_rows.specs.After.{batch_rows_after, new_batch}
 use Rattle.table_rows.specs.Tables.{StoredBatch, Tables}
 use Rattle.row_writes.specs.Raw.{raw_set, with_raw_set}
-
-pub itself : (n : ℕ) → (n == n) ≡ true
-itself n = grind (arith, nat_tests)
-
--- batches with other ids stay
-pub stay : (id : ℕ) (raw : List ℕ) (bs : List StoredBatch) → AllByRecursion (λ (b : StoredBatch). (b.id == id) ≡ false) bs → map (raw_set id raw) bs ≡ bs
-stay id raw [] differ = refl
-stay id raw (b ∷ bs) differ = rw (differ.0, stay id raw bs differ.1) refl
+use Rattle.row_writes.proofs.RawLemmas.{itself, stay}
 
 module _ (id : ℕ) (name code raw : List ℕ) (rows : List Row) where
   abbrev count : ℕ

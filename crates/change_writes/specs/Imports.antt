@@ -10,7 +10,7 @@ use Rattle.batch_import.specs.Walks.{rows_then}
 use Rattle.sql_rows.specs.Image.{Moves}
 use Rattle.table_rows.specs.After.{new_grouping, new_record}
 use Rattle.table_rows.specs.Tables.{StoredRecord, Tables, with_grouping}
-use Rattle.change_writes.specs.Many.{GoesOn, with_groupings, with_records}
+use Rattle.sql_rows.specs.Many.{GoesOn, with_groupings, with_records}
 
 -- the names of the rows' records, by first appearance
 abbrev pub names_of : List Row → List (List ℕ)

@@ -5,7 +5,7 @@ ghost use Rattle.sqlite.specs.Held.{state};
 ghost use Rattle.sqlite.specs.State.{Survives};
 ghost use Rattle.table_rows.specs.After.{rows_after};
 ghost use Rattle.table_rows.specs.declared.before.Before.TheVariants as before;
-ghost use Rattle.change_writes.specs.Many.{WritesMany};
+ghost use Rattle.sql_rows.specs.Many.{WritesMany};
 
 use crate::cards::{write_discard, write_end, write_opened, write_record_word, write_word};
 use crate::counters::{fit, is_readable};

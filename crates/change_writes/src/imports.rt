@@ -12,7 +12,7 @@ ghost use Rattle.job_facts.specs.States.{rows_or_none};
 ghost use Rattle.sql_rows.specs.Writes.{WritesRows};
 ghost use Rattle.table_rows.specs.After.{batch_rows_after};
 ghost use Rattle.change_writes.specs.Imports.{record_if_new, with_file_row, with_file_rows};
-ghost use Rattle.change_writes.specs.Many.{WritesMany, with_records};
+ghost use Rattle.sql_rows.specs.Many.{WritesMany, with_records};
 ghost use Rattle.change_writes.specs.Refused.{refused};
 
 use batch_import::{BatchRows, ImportFault, check_batch, rows};

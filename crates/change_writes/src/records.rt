@@ -8,7 +8,7 @@ ghost use Rattle.job_facts.specs.declared.facts.SessionState.TheVariants as sess
 ghost use Rattle.sql_rows.specs.Writes.{WritesRows};
 ghost use Rattle.table_rows.specs.After.{less, more, passed, record_after, stopped};
 ghost use Rattle.table_rows.specs.Tables.{StoredRemake, with_remake};
-ghost use Rattle.change_writes.specs.Many.{WritesMany};
+ghost use Rattle.sql_rows.specs.Many.{WritesMany};
 
 use crate::counters::{fit, less, more, one_more, one_spoiled, totals_fit};
 use job_facts::{BatchTotals, RecordState, SessionState};

@@ -7,11 +7,10 @@ ghost use Rattle.drill.specs.Ends.{DrillsOver, Goes, GoesOn, Runs};
 use crate::step::step;
 use crate::stop::DrillStop;
 use job_facts::{Reopen, StoreFault};
-use text_io::lines_of;
 use shop_floor::Floor;
 use std::alloc::Global;
 use std::io::{Read, Write};
-use text_io::{read_whole, write_text};
+use text_io::{lines_of, read_whole, write_text};
 
 /// Does the lines of a script in turn, over this store and a shop floor without machines, and
 /// prints of each what it came to, as it goes. The lines are `office N JSON`, `import N BATCH

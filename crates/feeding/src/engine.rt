@@ -15,13 +15,12 @@ use crate::feed::Feed;
 use event_lines::{EventLog, Level};
 use feeder::Stand;
 use job_facts::{Call, Reply};
-use text_io::lines_of;
 use std::alloc::{AllocError, Global};
 use std::error::Error;
 use std::fmt;
 use std::io::{self, Read, Write};
 use store_data::Name;
-use text_io::{ReadFault, WriteFailed, read_whole, write_text};
+use text_io::{ReadFault, WriteFailed, lines_of, read_whole, write_text};
 use wire::{parse_reply, request_text};
 
 /// So many tries in a row may change nothing.

@@ -6,3 +6,4 @@ pub mod PuttingBatches
 pub mod PuttingCards
 pub mod Setting
 pub mod Removing
+pub mod RawLemmas

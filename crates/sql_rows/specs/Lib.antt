@@ -2,3 +2,4 @@ pub mod Encoding
 pub mod Image
 pub mod Decoding
 pub mod Writes
+pub mod Many

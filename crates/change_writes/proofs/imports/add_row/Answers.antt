@@ -3,7 +3,7 @@ use Rattle.sqlite.specs.Held.{state}
 use Rattle.sql_rows.specs.Image.{Moves}
 use Rattle.table_rows.specs.Tables.{with_grouping}
 use Rattle.change_writes.specs.Imports.{record_if_new, with_file_row}
-use Rattle.change_writes.specs.Many.{with_records}
+use Rattle.sql_rows.specs.Many.{with_records}
 use Rattle.change_writes.proofs.FileRows.{grouping_at, row_put}
 use Rattle.change_writes.proofs.Parts.{wrote_after}
 use Rattle.change_writes.proofs.imports.add_row.Goals as goal

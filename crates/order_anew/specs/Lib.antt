@@ -1,3 +1,0 @@
-pub mod Drop
-pub mod Texts
-pub mod Anew

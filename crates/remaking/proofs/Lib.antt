@@ -1,0 +1,10 @@
+pub mod Drop
+pub mod Joining
+pub mod Emptied
+pub mod Gathered
+pub mod DropAll
+pub mod BytesLast
+pub mod PutMeanings
+pub mod PuttingRows
+pub mod Several
+mod Refilled

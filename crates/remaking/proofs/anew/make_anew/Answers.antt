@@ -1,0 +1,26 @@
+use Rattle.std.proofs.Common.{Ok, arith}
+use Rattle.sqlite.specs.Held.{state}
+use Rattle.sql_base.proofs.Ending.{failed_wrote, wrote_then}
+use Rattle.sql_tables.specs.Opening.{MakesAll}
+use Rattle.remaking.specs.Anew.{DropsAll, MakesAnew}
+use Rattle.remaking.proofs.anew.make_anew.Goals as goal
+
+pub returns-clause-made : goal.returns-clause-made
+returns-clause-made g c clean =
+    let a = state g.S.Store c.args.tx.now.conn.now in
+    let b = state g.S.Store c.drop_all.new.tx.conn.now in
+    let one = c.in_ok-drop_all.ensures.made (omega (arith, c.make_all.ensures.survives.clean)) in
+    let two = c.in_ok-make_all.ensures.made clean in
+    wrote_then (DropsAll c.args.version) MakesAll (MakesAnew c.args.version) a b _ (Ok tt) (λ drops makes sound just. makes (drops sound just)) one.well one.kept
+    (record { well = two.well; kept = two.kept })
+
+pub returns-in_err-make_all-clause-made : goal.returns-in_err-make_all-clause-made
+returns-in_err-make_all-clause-made g c clean =
+    let a = state g.S.Store c.args.tx.now.conn.now in
+    let b = state g.S.Store c.drop_all.new.tx.conn.now in
+    let one = c.in_ok-drop_all.ensures.made (omega (arith, c.make_all.ensures.survives.clean)) in
+    wrote_then (DropsAll c.args.version) MakesAll (MakesAnew c.args.version) a b _ c.from_residual-in_err-make_all.result (λ drops makes sound just. makes (drops sound just)) one.well one.kept
+    (failed_wrote MakesAll b _ _ c.from_residual-in_err-make_all.ensures.0 (c.in_err-make_all.ensures.made clean).kept)
+
+pub returns-in_err-drop_all-clause-made : goal.returns-in_err-drop_all-clause-made
+returns-in_err-drop_all-clause-made g c clean = failed_wrote (MakesAnew c.args.version) _ _ c.from_residual.result c.from_residual.ensures.0 (c.in_err-drop_all.ensures.made clean).kept

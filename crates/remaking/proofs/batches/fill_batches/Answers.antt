@@ -1,0 +1,22 @@
+use Rattle.std.proofs.Common.{ap, subst, arith}
+use Rattle.sqlite.specs.Held.{state}
+use Rattle.sqlite.specs.State.{HasCleanDisk}
+use Rattle.sql_rows.specs.Image.{Moves}
+use Rattle.table_rows.specs.Tables.{Tables}
+use Rattle.sql_rows.specs.Many.{WroteMany}
+use Rattle.remaking.specs.Rows.{with_batches, with_bytes, with_each, without_bytes}
+use Rattle.remaking.proofs.BytesLast.{bytes_last}
+use Rattle.remaking.proofs.Several.{many_then}
+use Rattle.remaking.proofs.batches.fill_batches.Goals as goal
+
+pub returns-clause-wrote : goal.returns-clause-wrote
+returns-clause-wrote g c clean =
+    let rows = c.args.tables.now in
+    let s0 = state g.S.Store c.args.tx.now.conn.now in
+    let s1 = state g.S.Store c.fill_bare.new.tx.conn.now in
+    let s2 = state g.S.Store c.set_bytes.new.tx.conn.now in
+    let clean1 : HasCleanDisk s1 = omega (arith, c.set_bytes.ensures.survives.clean) in
+    let read = ap (λ (t : Tables). t.batches) c.tables.view_is in
+    let given = subst (λ bs. WroteMany (Moves (with_each with_bytes bs)) s1 s2 c.set_bytes.result) read (rw (c.as_slice.ensures.value) at (c.set_bytes.ensures.wrote clean)) in
+    many_then (with_batches (without_bytes rows)) (with_each with_bytes rows.batches) (with_batches rows) s0 s1 s2
+    (bytes_last rows s0.now s1.now s2.now) _ c.set_bytes.result (c.in_ok-fill_bare.ensures.wrote clean1) given

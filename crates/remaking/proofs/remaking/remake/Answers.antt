@@ -1,0 +1,65 @@
+use Rattle.std.proofs.Common.{◌≡◌, OnOk, OnErr, subst, rules, arith}
+use Rattle.sqlite.specs.State.{HasCleanDisk, Survives}
+use Rattle.sqlite.specs.Held.{state}
+use Rattle.sql_base.specs.Ends.{Ends, IsKept, IsLeft}
+use Rattle.sql_base.proofs.Ending.{crash_of, ok_of, err_of, dropped, crash_undone, settled_if}
+use Rattle.remaking.specs.Remakes.{Remakes}
+use Rattle.remaking.proofs.remaking.remake.Goals as goal
+
+pub returns-clause-ok : goal.returns-clause-ok
+returns-clause-ok g c clean =
+    let taken = Remakes c.args.version c.args.tables.now in
+    let old = c.args.conn.now in
+    let mid = c.write_anew.new.tx.conn.now in
+    let end = c.commit.new.self.0 in
+    let same : end ≡ c.conn-2-1.given.0 = search rules in
+    let late : HasCleanDisk (state g.S.Store end) = search rules in
+    let wrote = rw c.transaction-tx.ensures.begun at (c.in_ok-write_anew.ensures.wrote (omega (arith, c.commit.ensures.survives.clean))) in
+    subst (λ h. OnOk c.commit.result (Ends taken (state g.S.Store old) (state g.S.Store h))) same
+    (ok_of g.S.Store g.met.S.Store.settled taken old mid end c.commit.result wrote.well (c.commit.ensures.ok late))
+
+pub returns-clause-err : goal.returns-clause-err
+returns-clause-err g c clean =
+    let taken = Remakes c.args.version c.args.tables.now in
+    let old = c.args.conn.now in
+    let mid = c.write_anew.new.tx.conn.now in
+    let end = c.commit.new.self.0 in
+    let same : end ≡ c.conn-2-1.given.0 = search rules in
+    let late : HasCleanDisk (state g.S.Store end) = search rules in
+    let wrote = rw c.transaction-tx.ensures.begun at (c.in_ok-write_anew.ensures.wrote (omega (arith, c.commit.ensures.survives.clean))) in
+    let settled = settled_if c.is_autocommit-settled.result old.in_transaction _ c.is_autocommit-settled.ensures.value c.requires.idle c.is_autocommit-settled.ensures.settled in
+    subst (λ h. OnErr c.commit.result (IsKept (state g.S.Store old) (state g.S.Store h))) same
+    (err_of g.S.Store g.met.S.Store.settled taken old mid end c.commit.result settled wrote.well wrote.kept (c.commit.ensures.err late))
+
+pub returns-clause-crash : goal.returns-clause-crash
+returns-clause-crash g c =
+    let taken = Remakes c.args.version c.args.tables.now in
+    let old = c.args.conn.now in
+    let mid = c.write_anew.new.tx.conn.now in
+    let end = c.commit.new.self.0 in
+    let same : end ≡ c.conn-2-1.given.0 = search rules in
+    subst (λ h. Survives (state g.S.Store old) (state g.S.Store h) (IsLeft taken (state g.S.Store old))) same
+    (crash_of g.S.Store g.met.S.Store.settled taken old mid end (λ clean. (rw c.transaction-tx.ensures.begun at (c.in_ok-write_anew.ensures.wrote clean)).well) (rw c.transaction-tx.ensures.begun at c.write_anew.ensures.survives) c.commit.ensures.survives)
+
+pub returns-in_err-write_anew-clause-err : goal.returns-in_err-write_anew-clause-err
+returns-in_err-write_anew-clause-err g c clean =
+    let taken = Remakes c.args.version c.args.tables.now in
+    let old = c.args.conn.now in
+    let mid = c.write_anew.new.tx.conn.now in
+    let end = c.drop-tx.new.self.0 in
+    let same : end ≡ c.conn-1.given.0 = search rules in
+    let late : HasCleanDisk (state g.S.Store end) = search rules in
+    let wrote = rw c.transaction-tx.ensures.begun at (c.in_err-write_anew.ensures.wrote (omega (arith, c.drop-tx.ensures.survives.clean))) in
+    let settled = settled_if c.is_autocommit-settled.result old.in_transaction _ c.is_autocommit-settled.ensures.value c.requires.idle c.is_autocommit-settled.ensures.settled in
+    subst (λ h. OnErr c.from_residual.result (IsKept (state g.S.Store old) (state g.S.Store h))) same
+    (dropped g.S.Store g.met.S.Store.settled taken old mid end c.from_residual.result settled wrote.kept (c.drop-tx.ensures.undone late))
+
+pub returns-in_err-write_anew-clause-crash : goal.returns-in_err-write_anew-clause-crash
+returns-in_err-write_anew-clause-crash g c =
+    let taken = Remakes c.args.version c.args.tables.now in
+    let old = c.args.conn.now in
+    let mid = c.write_anew.new.tx.conn.now in
+    let end = c.drop-tx.new.self.0 in
+    let same : end ≡ c.conn-1.given.0 = search rules in
+    subst (λ h. Survives (state g.S.Store old) (state g.S.Store h) (IsLeft taken (state g.S.Store old))) same
+    (crash_undone g.S.Store g.met.S.Store.settled taken old mid end (rw c.transaction-tx.ensures.begun at c.write_anew.ensures.survives) c.drop-tx.ensures.survives)

@@ -1,0 +1,33 @@
+//! Rows of all tables are put in, in an open transaction. A crash before its end leaves nothing of
+//! it.
+ghost use Rattle.std.specs.Prelude.{◌≡◌, OnOk};
+ghost use Rattle.sqlite.specs.Held.{state};
+ghost use Rattle.sqlite.specs.State.{HasCleanDisk, Survives};
+ghost use Rattle.sql_rows.specs.Image.{IsImage};
+ghost use Rattle.table_rows.specs.Tables.{no_rows};
+ghost use Rattle.sql_rows.specs.Many.{WritesMany};
+ghost use Rattle.remaking.specs.Rows.{with_all};
+
+use crate::batches::fill_batches;
+use crate::cards::fill_cards;
+use crate::replies::fill_replies;
+use sqlite::{Alter, Error, Transaction};
+use table_rows::Tables;
+
+/// Puts in the rows of all tables, those before that others refer to. A row that a table does not
+/// take is an error, and so is a number that is none of SQL's, from 2^63 on. After an error the
+/// caller drops the transaction.
+pub(crate) fn fill<S: Alter>(tx: &mut Transaction<'_, S>, tables: &Tables) -> Result<(), Error>
+    ensures same_reference { tx.new.conn.ghost_name ≡ tx.old.conn.ghost_name }
+    ensures wrote { WritesMany (with_all tables.now) (state S.Store tx.old.conn.now)
+        (state S.Store tx.new.conn.now) result }
+    ensures alone { HasCleanDisk (state S.Store tx.new.conn.now)
+        → OnOk result (IsImage no_rows (state S.Store tx.old.conn.now).now
+        → IsImage tables.now (state S.Store tx.new.conn.now).now) }
+    ensures survives { Survives (state S.Store tx.old.conn.now) (state S.Store tx.new.conn.now)
+        (λ _. ⊥) }
+{
+    fill_batches(tx, tables)?;
+    fill_cards(tx, tables)?;
+    fill_replies(tx, tables)
+}

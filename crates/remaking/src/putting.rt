@@ -1,0 +1,56 @@
+//! A row is put into its table, and a list of rows, in an open transaction. A crash before its end
+//! leaves nothing of it.
+ghost use Rattle.std.specs.Prelude.{◌≡◌, ◌<◌, ◌^◌, IsTrue};
+ghost use Rattle.sqlite.specs.Held.{state};
+ghost use Rattle.sqlite.specs.State.{Survives};
+ghost use Rattle.sql_rows.specs.Writes.{WritesRows};
+ghost use Rattle.table_rows.specs.Tables.{Tables};
+ghost use Rattle.sql_rows.specs.Many.{WritesMany};
+ghost use Rattle.remaking.specs.Rows.{with_each};
+
+use sqlite::{Alter, Error, Transaction};
+
+/// SQL's numbers end here.
+const LIMIT: u64 = 1 << 63;
+
+/// Whether they are numbers of SQL's.
+pub(crate) fn fit(first: u64, second: u64, third: u64, fourth: u64) -> bool
+    ensures first { IsTrue result → first < 2 ^ 63 }
+    ensures second { IsTrue result → second < 2 ^ 63 }
+    ensures third { IsTrue result → third < 2 ^ 63 }
+    ensures fourth { IsTrue result → fourth < 2 ^ 63 }
+    ensures all { first < 2 ^ 63 → second < 2 ^ 63 → third < 2 ^ 63 → fourth < 2 ^ 63
+        → IsTrue result }
+{
+    first < LIMIT && second < LIMIT && third < LIMIT && fourth < LIMIT
+}
+
+/// A row that can be put into its table.
+pub(crate) trait Put {
+    ghost with_row: { Self → Tables → Tables };
+
+    /// Puts the row in. A number that is none of SQL's is an error.
+    fn put<S: Alter>(&self, tx: &mut Transaction<'_, S>) -> Result<usize, Error>
+        ensures same_reference { tx.new.conn.ghost_name ≡ tx.old.conn.ghost_name }
+        ensures wrote { WritesRows (with_row self.now) (state S.Store tx.old.conn.now)
+            (state S.Store tx.new.conn.now) result }
+        ensures survives { Survives (state S.Store tx.old.conn.now)
+            (state S.Store tx.new.conn.now) (λ _. ⊥) };
+}
+
+/// Puts rows in, one after the other, up to the first error.
+pub(crate) fn put_all<T: Put, S: Alter>(
+    tx: &mut Transaction<'_, S>,
+    rows: &[T],
+) -> Result<(), Error>
+    ensures same_reference { tx.new.conn.ghost_name ≡ tx.old.conn.ghost_name }
+    ensures wrote { WritesMany (with_each T.with_row rows.now) (state S.Store tx.old.conn.now)
+        (state S.Store tx.new.conn.now) result }
+    ensures survives { Survives (state S.Store tx.old.conn.now) (state S.Store tx.new.conn.now)
+        (λ _. ⊥) }
+{
+    for row in rows {
+        row.put(tx)?;
+    }
+    Ok(())
+}

@@ -1,0 +1,52 @@
+//! A database of our tables of any version is made anew, with rows, in one transaction.
+ghost use Rattle.std.specs.Prelude.{◌≡◌, false, OnErr, OnOk};
+ghost use Rattle.sqlite.specs.Held.{state};
+ghost use Rattle.sqlite.specs.State.{HasCleanDisk, Survives};
+ghost use Rattle.sql_base.specs.Ends.{Ends, IsKept, IsLeft, Wrote};
+ghost use Rattle.remaking.specs.Remakes.{Remakes};
+
+use crate::anew::make_anew;
+use sql_tables::Version;
+use sqlite::{Alter, Connection, Error, Transaction};
+use crate::filling::fill;
+use table_rows::Tables;
+
+// Drops the tables of a version, makes ours and puts rows in, in an open transaction.
+fn write_anew<S: Alter>(
+    tx: &mut Transaction<'_, S>,
+    version: Version,
+    tables: &Tables,
+) -> Result<(), Error>
+    ensures same_reference { tx.new.conn.ghost_name ≡ tx.old.conn.ghost_name }
+    ensures wrote { HasCleanDisk (state S.Store tx.new.conn.now)
+        → Wrote (Remakes version tables.now) (state S.Store tx.old.conn.now)
+        (state S.Store tx.new.conn.now) result }
+    ensures survives { Survives (state S.Store tx.old.conn.now) (state S.Store tx.new.conn.now)
+        (λ _. ⊥) }
+{
+    make_anew(tx, version)?;
+    fill(tx, tables)
+}
+
+/// Drops the tables of a version, makes our own and puts rows in, or does nothing. A row that a
+/// table does not take is an error, and so is a number that is none of SQL's, from 2^63 on. A crash
+/// leaves what it could leave before, or all of it.
+pub fn remake<S: Alter>(
+    conn: &mut Connection<S>,
+    version: Version,
+    tables: &Tables,
+) -> Result<(), Error>
+    requires idle { conn.old.in_transaction ≡ false }
+    ensures ok { HasCleanDisk (state S.Store conn.new) → OnOk result
+        (Ends (Remakes version tables.now) (state S.Store conn.old) (state S.Store conn.new)) }
+    ensures err { HasCleanDisk (state S.Store conn.new)
+        → OnErr result (IsKept (state S.Store conn.old) (state S.Store conn.new)) }
+    ensures idle { conn.new.in_transaction ≡ false }
+    ensures crash { Survives (state S.Store conn.old) (state S.Store conn.new)
+        (IsLeft (Remakes version tables.now) (state S.Store conn.old)) }
+{
+    let _settled = conn.is_autocommit();
+    let mut tx = conn.transaction();
+    write_anew(&mut tx, version, tables)?;
+    tx.commit()
+}

@@ -1,4 +1,0 @@
-pub mod BytesLast
-pub mod PutMeanings
-pub mod PuttingRows
-pub mod Several
