@@ -20,7 +20,7 @@ use table_rows::{Before, RecordPlace};
 
 /// Writes what a change makes of the rows, by what is told of before it; where that is not of the
 /// change, nothing. After an error the caller drops the transaction.
-pub fn write_change<S: Alter>(
+pub(crate) fn write_change<S: Alter>(
     tx: &mut Transaction<'_, S>,
     alloc: Global,
     change: &Change<'_>,

@@ -28,7 +28,7 @@ const FIRST_DATA_ROW: u32 = 2;
 /// Writes the batch of a file: its row, its records and its groupings. A file with a fault is an
 /// error, and so is refused memory. After an error the caller drops the transaction. The bytes are
 /// set last: each row that refers to the batch has its row read whole.
-pub fn write_batch<'x, S: Alter>(
+pub(crate) fn write_batch<'x, S: Alter>(
     tx: &mut Transaction<'_, S>,
     alloc: Global,
     id: u64,

@@ -1,13 +1,14 @@
-//! The statements of each change, in turn.
+//! Each change of the facts, and each release: its statements in turn, with its reply in one transaction.
 #![tactic(auto)]
 
 mod cards;
 mod changes;
+mod commits;
 mod counters;
 mod imports;
 mod records;
 mod releases;
+pub mod writing;
 
-pub use changes::write_change;
-pub use imports::write_batch;
-pub use releases::write_release;
+pub use commits::commit;
+pub use writing::Writing;

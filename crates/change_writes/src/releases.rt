@@ -14,7 +14,7 @@ use store_data::Name;
 
 /// Writes what a release makes of the rows: the client's replies up to a number go, its mark is
 /// there, and the reply to the release is kept.
-pub fn write_release<'x, S: Alter>(
+pub(crate) fn write_release<'x, S: Alter>(
     tx: &mut Transaction<'_, S>,
     client: &'x Name,
     number: u64,

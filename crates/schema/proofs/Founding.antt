@@ -10,7 +10,7 @@ use Rattle.image_laws.specs.Image.{image, stored_batches, stored_blanks, stored_
 use Rattle.sql_base.specs.Columns.{no_schema}
 use Rattle.sql_base.specs.Ends.{Ends, IsLeft}
 use Rattle.sql_rows.specs.Image.{IsImage}
-use Rattle.store_commits.specs.Founds.{Founds}
+use Rattle.change_writes.specs.Founds.{Founds}
 use Rattle.schema.specs.Link.{link}
 use Rattle.schema.proofs.Link.{RowsLaw, found}
 

@@ -17,8 +17,8 @@ use Rattle.image_laws.specs.Image.{image}
 use Rattle.sql_base.specs.Ends.{Ends, IsKept, IsLeft}
 use Rattle.sql_rows.specs.Image.{IsImage, Moves}
 use Rattle.sql_rows.proofs.SameRows.{same_rows}
-use Rattle.store_commits.specs.Written.{rows_written}
-use Rattle.store_commits.specs.declared.writing.Writing.TheVariants as writing
+use Rattle.change_writes.specs.Written.{rows_written}
+use Rattle.change_writes.specs.declared.writing.Writing.TheVariants as writing
 use Rattle.schema.specs.Takes.{Takes}
 
 -- one more reply on both sides

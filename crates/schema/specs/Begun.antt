@@ -9,7 +9,7 @@ use Rattle.sql_base.specs.Columns.{no_schema}
 use Rattle.sql_base.specs.Ends.{IsLeft}
 use Rattle.sql_tables.specs.declared.versions.Version.{Version}
 use Rattle.table_reads.specs.Holding.{HoldsRows}
-use Rattle.store_commits.specs.Founds.{Founds}
+use Rattle.change_writes.specs.Founds.{Founds}
 
 -- the trees that it could leave before, or, where the database was empty, those of our tables without a row
 abbrev pub LeavesNoOther : State → State → Type 0

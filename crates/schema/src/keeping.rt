@@ -11,7 +11,7 @@ use image_laws::{rows_after_change, rows_after_release, rows_with_reply};
 use job_facts::Change;
 use sqlite::{Alter, Connection, Error};
 use std::alloc::Global;
-use store_commits::{Writing, commit};
+use change_writes::{Writing, commit};
 use store_data::Name;
 use store_reads::before;
 

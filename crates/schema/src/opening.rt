@@ -21,7 +21,7 @@ use image_laws::same_rows_same_contents;
 use job_facts::StoreFault;
 use sqlite::{Alter, Connection};
 use std::alloc::Global;
-use store_commits::{CreateFault, create};
+use change_writes::{CreateFault, create};
 use table_reads::{held_rows_are_one, rows_are_held_in_any_order};
 
 /// Why no store was made over a database.

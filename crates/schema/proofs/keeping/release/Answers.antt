@@ -2,8 +2,8 @@ use Rattle.sqlite.specs.Held.{state}
 use Rattle.job_facts.specs.Contents.{IsOwedRelease, released}
 use Rattle.sql_rows.specs.Image.{Moves}
 use Rattle.table_rows.specs.Kept.{kept_reply}
-use Rattle.store_commits.specs.Written.{rows_written}
-use Rattle.store_commits.specs.declared.writing.Writing.TheVariants as writing
+use Rattle.change_writes.specs.Written.{rows_written}
+use Rattle.change_writes.specs.declared.writing.Writing.TheVariants as writing
 use Rattle.schema.specs.Takes.{Takes}
 use Rattle.schema.proofs.Taking.{ends_as, left_as, release_taken}
 use Rattle.schema.proofs.keeping.release.Goals as goal

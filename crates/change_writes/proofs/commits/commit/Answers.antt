@@ -3,10 +3,10 @@ use Rattle.sqlite.specs.State.{HasCleanDisk, Survives}
 use Rattle.sqlite.specs.Held.{state}
 use Rattle.sql_base.specs.Ends.{Ends, IsKept, IsLeft}
 use Rattle.sql_rows.specs.Image.{Moves}
-use Rattle.store_commits.specs.Written.{rows_written}
+use Rattle.change_writes.specs.Written.{rows_written}
 use Rattle.sql_base.proofs.Ending.{crash_of, ok_of, err_of, dropped, crash_undone, settled_if}
 use Rattle.table_rows.specs.Kept.{kept_reply}
-use Rattle.store_commits.proofs.commits.commit.Goals as goal
+use Rattle.change_writes.proofs.commits.commit.Goals as goal
 
 pub returns-clause-ok : goal.returns-clause-ok
 returns-clause-ok g c clean =

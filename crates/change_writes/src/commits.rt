@@ -8,10 +8,11 @@ ghost use Rattle.sql_rows.specs.Writes.{WritesRows};
 ghost use Rattle.table_rows.specs.After.{rows_after};
 ghost use Rattle.table_rows.specs.Kept.{kept_reply};
 ghost use Rattle.table_rows.specs.Tables.{with_reply};
-ghost use Rattle.store_commits.specs.Written.{rows_written};
+ghost use Rattle.change_writes.specs.Written.{rows_written};
 
 use crate::writing::Writing;
-use change_writes::{write_change, write_release};
+use crate::changes::write_change;
+use crate::releases::write_release;
 use job_facts::Change;
 use row_writes::add_reply;
 use sqlite::{Alter, Connection, Error, Transaction};

@@ -3,7 +3,7 @@ use Rattle.sqlite.specs.State.{HasCleanDisk}
 use Rattle.sqlite.specs.Held.{state}
 use Rattle.sqlite.proofs.InsideLemmas.{keeps_then}
 use Rattle.table_rows.specs.After.{rows_after}
-use Rattle.store_commits.proofs.commits.write_with_reply.Goals as goal
+use Rattle.change_writes.proofs.commits.write_with_reply.Goals as goal
 
 pub returns-clause-wrote : goal.returns-clause-wrote
 returns-clause-wrote g c clean =

@@ -3,8 +3,8 @@ use Rattle.sqlite.specs.Held.{state}
 use Rattle.sql_base.specs.Ends.{Wrote}
 use Rattle.sql_rows.specs.Image.{Moves}
 use Rattle.table_rows.specs.Kept.{kept_reply}
-use Rattle.store_commits.specs.Written.{rows_written}
-use Rattle.store_commits.proofs.commits.write_all.Goals as goal
+use Rattle.change_writes.specs.Written.{rows_written}
+use Rattle.change_writes.proofs.commits.write_all.Goals as goal
 
 pub returns-in-Change-clause-wrote : goal.returns-in-Change-clause-wrote
 returns-in-Change-clause-wrote g c clean =
