@@ -1,2 +1,3 @@
+pub mod Judging
 mod Settled
 mod Taken

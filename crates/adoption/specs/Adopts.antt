@@ -1,5 +1,4 @@
 -- What is taken, and what is made of it.
-use Rattle.std.specs.Prelude.{◌≢◌}
 use Rattle.sqlite.specs.Effect.{Database}
 use Rattle.job_facts.specs.Contents.{AreSound, Contents}
 use Rattle.table_rows.specs.Tables.{Tables}
@@ -7,8 +6,6 @@ use Rattle.image_laws.specs.Image.{image}
 use Rattle.sql_tables.specs.declared.versions.Version.{Version}
 use Rattle.sql_rows.specs.Image.{IsImage}
 use Rattle.table_reads.specs.Holding.{HoldsRows}
-use Rattle.adoption.specs.declared.faults.AdoptFault.{AdoptFault}
-use Rattle.adoption.specs.declared.faults.AdoptFault.TheVariants as fault
 
 -- rows that stand in the tables of this version come to stand in our own
 abbrev pub Settles : Version → Tables → Database → Database → Type 0
@@ -21,7 +18,3 @@ pub record Adopts (old new : Database) : Type 0 where
   pub sound : AreSound contents
   pub held : HoldsRows version (image contents) old
   pub stands : IsImage (image contents) new
-
--- it tells nothing of the database
-abbrev pub IsOther : AdoptFault → Type 0
-IsOther e = (e ≢ fault.NotOurs) × (e ≢ fault.Damaged)

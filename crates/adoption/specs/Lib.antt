@@ -1,2 +1,4 @@
+pub mod Telling
 pub mod Comes
 pub mod Adopts
+pub mod Faults

@@ -8,25 +8,25 @@ ghost use Rattle.table_reads.specs.Holding.{HoldsSoundRows, IsOfVersion};
 ghost use Rattle.adoption.specs.Adopts.{Adopts};
 ghost use Rattle.adoption.specs.Comes.{Comes};
 
-use crate::faults::AdoptFault;
+use crate::faults::OpenFault;
 use crate::settling::settle;
 use sqlite::{Alter, Connection};
 use std::alloc::Global;
-use table_audit::{Found, audit};
+use crate::auditing::{Found, audit};
 use table_reads::rows_are_held_in_any_order;
 
 /// Takes a database whose tables, of any version, hold the rows of sound contents: they then stand
 /// in our own tables. Any other is refused, and stays as it is. A crash leaves what it could leave
 /// before, or the same contents in our own tables.
-pub fn adopt<S: Alter>(alloc: Global, conn: &mut Connection<S>) -> Result<(), AdoptFault>
+pub fn adopt<S: Alter>(alloc: Global, conn: &mut Connection<S>) -> Result<(), OpenFault>
     requires { conn.old.in_transaction ≡ false }
     ensures ok { HasCleanDisk (state S.Store conn.new) → OnOk result
         (Comes Adopts (state S.Store conn.old) (state S.Store conn.new)) }
     ensures not_ours { HasCleanDisk (state S.Store conn.new) → IfErr result
-        (λ e. e ≡ AdoptFault.NotOurs
+        (λ e. e ≡ OpenFault.NotOurs
         → (v : Version) → ¬ IsOfVersion v (state S.Store conn.old).now) }
     ensures damaged { HasCleanDisk (state S.Store conn.new) → IfErr result
-        (λ e. e ≡ AdoptFault.Damaged
+        (λ e. e ≡ OpenFault.Damaged
         → ((v : Version) × IsOfVersion v (state S.Store conn.old).now)
         × ((v : Version) → ¬ HoldsSoundRows v (state S.Store conn.old).now)) }
     ensures kept { HasCleanDisk (state S.Store conn.new)
@@ -37,8 +37,8 @@ pub fn adopt<S: Alter>(alloc: Global, conn: &mut Connection<S>) -> Result<(), Ad
 {
     rows_are_held_in_any_order();
     match audit(alloc, conn)? {
-        Found::NotOurs => Err(AdoptFault::NotOurs),
-        Found::Unsound => Err(AdoptFault::Damaged),
-        Found::Sound { version, tables } => settle(alloc, conn, version, &tables),
+        Found::NotOurs => Err(OpenFault::NotOurs),
+        Found::Unsound => Err(OpenFault::Damaged),
+        Found::Sound { version, tables } => Ok(settle(alloc, conn, version, &tables)?),
     }
 }

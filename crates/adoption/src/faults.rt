@@ -1,40 +1,44 @@
 //! Why a database is not taken.
-use sql_tables::CreateFault;
-use sqlite::Error;
+ghost use Rattle.std.specs.Prelude.{◌≡◌};
+ghost use Rattle.adoption.specs.Faults.{fault_for};
 
-/// Why a database was not taken.
-#[derive(Clone, Copy, Debug)]
-pub enum AdoptFault {
-    /// Its tables are those of no version, or their version is not told.
+use job_facts::StoreFault;
+use sqlite::{Error, ErrorCode};
+
+/// Why no store was made over a database.
+#[derive(Clone, Copy, Debug, PartialEq, Eq)]
+pub enum OpenFault {
+    /// Its tables are not as they must be, none where a store begins, and ours where one goes on:
+    /// refusal 81.
     NotOurs,
-    /// Its rows are those of no sound contents.
+    /// Its tables are ours, and their rows are those of no sound contents: refusal 82.
     Damaged,
-    /// SQLite's own error.
-    Sqlite { error: Error },
+    /// The store's own fault.
+    Store { fault: StoreFault },
 }
 
-impl From<Error> for AdoptFault {
+impl From<Error> for OpenFault {
     ghost use Rattle.std.specs.Prelude.{◌≡◌};
-    ghost use Rattle.adoption.specs.declared.faults.AdoptFault.TheVariants as fault;
+    ghost use Rattle.adoption.specs.declared.faults.OpenFault.TheVariants as open;
+    ghost use Rattle.adoption.specs.Faults.{fault_for};
 
-    ghost from_gives = { λ error e. e ≡ fault.Sqlite error };
+    ghost from_gives = { λ error e. e ≡ open.Store (fault_for error) };
 
-    fn from(error: Error) -> AdoptFault {
-        AdoptFault::Sqlite { error }
+    fn from(error: Error) -> OpenFault {
+        OpenFault::Store {
+            fault: fault_of(error),
+        }
     }
 }
 
-impl From<CreateFault> for AdoptFault {
-    ghost use Rattle.std.specs.Prelude.{◌≢◌};
-    ghost use Rattle.adoption.specs.declared.faults.AdoptFault.TheVariants as fault;
-
-    ghost from_gives = { λ _ e. (e ≢ fault.NotOurs) × (e ≢ fault.Damaged) };
-
-    fn from(fault: CreateFault) -> AdoptFault {
-        let error = match fault {
-            CreateFault::NotEmpty => Error::InvalidQuery,
-            CreateFault::Sqlite { error } => error,
-        };
-        AdoptFault::Sqlite { error }
+/// What a store says of SQLite's error. Rows of sound contents are refused nothing, so an error that
+/// says neither that memory is refused nor that the disk is full is one of the device.
+pub fn fault_of(error: Error) -> StoreFault
+    ensures { result ≡ fault_for error }
+{
+    match error {
+        Error::SqliteFailure(ErrorCode::OutOfMemory) => StoreFault::Memory,
+        Error::SqliteFailure(ErrorCode::DiskFull) => StoreFault::Full,
+        _ => StoreFault::Device,
     }
 }

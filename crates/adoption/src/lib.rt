@@ -2,9 +2,10 @@
 #![tactic(auto)]
 
 mod adopting;
+mod auditing;
 mod faults;
 mod ours;
 mod settling;
 
 pub use adopting::adopt;
-pub use faults::AdoptFault;
+pub use faults::{OpenFault, fault_of};

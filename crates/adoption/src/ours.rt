@@ -1,27 +1,24 @@
 //! Whether a database has our tables as they are made.
-ghost use Rattle.std.specs.Prelude.{◌≡◌, false, IfErr, IfOk, IsTrue};
+ghost use Rattle.std.specs.Prelude.{◌≡◌, false, IfOk, IsTrue};
 ghost use Rattle.sqlite.specs.Held.{state};
 ghost use Rattle.sqlite.specs.State.{HasCleanDisk, Survives};
 ghost use Rattle.sql_base.specs.Ends.{IsKept};
 ghost use Rattle.sql_tables.specs.declared.versions.Version.TheVariants.{Three};
 ghost use Rattle.sql_tables.specs.Tables.{our_schema};
 ghost use Rattle.table_reads.specs.Rowids.{HasApart};
-ghost use Rattle.adoption.specs.Adopts.{IsOther};
 
-use crate::faults::AdoptFault;
 use sql_tables::{Version, has_our_tables, our_tables};
-use sqlite::{Alter, Connection};
+use sqlite::{Alter, Connection, Error};
 use std::alloc::Global;
 use table_reads::has_apart_rowids;
 
 // Whether our tables stand as they are made, with rowids that rise.
-fn stands_as_made<S: Alter>(alloc: Global, conn: &mut Connection<S>) -> Result<bool, AdoptFault>
+fn stands_as_made<S: Alter>(alloc: Global, conn: &mut Connection<S>) -> Result<bool, Error>
     requires { conn.old.in_transaction ≡ false }
     ensures told { HasCleanDisk (state S.Store conn.new) → IfOk result (λ stands. IsTrue stands
         → IsTrue (state S.Store conn.old).is_open
         × ((state S.Store conn.old).now.schema ≡ our_schema)
         × HasApart (state S.Store conn.old).now) }
-    ensures other { IfErr result IsOther }
     ensures kept { HasCleanDisk (state S.Store conn.new)
         → IsKept (state S.Store conn.old) (state S.Store conn.new) }
     ensures idle { conn.new.in_transaction ≡ false }
@@ -31,7 +28,7 @@ fn stands_as_made<S: Alter>(alloc: Global, conn: &mut Connection<S>) -> Result<b
     if !has_our_tables(conn, &ours) {
         return Ok(false);
     }
-    Ok(has_apart_rowids(conn)?)
+    has_apart_rowids(conn)
 }
 
 /// Whether the tables of a version stand as our own are made, so that they can stay.
@@ -39,13 +36,12 @@ pub(crate) fn can_stay<S: Alter>(
     alloc: Global,
     conn: &mut Connection<S>,
     version: Version,
-) -> Result<bool, AdoptFault>
+) -> Result<bool, Error>
     requires { conn.old.in_transaction ≡ false }
     ensures told { HasCleanDisk (state S.Store conn.new) → IfOk result (λ stay. IsTrue stay
         → IsTrue (state S.Store conn.old).is_open × (version ≡ Three)
         × ((state S.Store conn.old).now.schema ≡ our_schema)
         × HasApart (state S.Store conn.old).now) }
-    ensures other { IfErr result IsOther }
     ensures kept { HasCleanDisk (state S.Store conn.new)
         → IsKept (state S.Store conn.old) (state S.Store conn.new) }
     ensures idle { conn.new.in_transaction ≡ false }

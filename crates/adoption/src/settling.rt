@@ -1,15 +1,14 @@
 //! Rows that a database holds come to stand in our own tables.
-ghost use Rattle.std.specs.Prelude.{◌≡◌, false, IfErr, OnErr, OnOk};
+ghost use Rattle.std.specs.Prelude.{◌≡◌, false, OnErr, OnOk};
 ghost use Rattle.sqlite.specs.Held.{state};
 ghost use Rattle.sqlite.specs.State.{HasCleanDisk, Survives};
 ghost use Rattle.sql_base.specs.Ends.{IsKept, IsLeft};
-ghost use Rattle.adoption.specs.Adopts.{IsOther, Settles};
+ghost use Rattle.adoption.specs.Adopts.{Settles};
 ghost use Rattle.adoption.specs.Comes.{Comes};
 
-use crate::faults::AdoptFault;
 use crate::ours::can_stay;
 use sql_tables::Version;
-use sqlite::{Alter, Connection};
+use sqlite::{Alter, Connection, Error};
 use std::alloc::Global;
 use table_reads::our_rows_are_an_image;
 use remaking::remake;
@@ -22,11 +21,10 @@ pub(crate) fn settle<S: Alter>(
     conn: &mut Connection<S>,
     version: Version,
     tables: &Tables,
-) -> Result<(), AdoptFault>
+) -> Result<(), Error>
     requires idle { conn.old.in_transaction ≡ false }
     ensures ok { HasCleanDisk (state S.Store conn.new) → OnOk result
         (Comes (Settles version tables.now) (state S.Store conn.old) (state S.Store conn.new)) }
-    ensures other { IfErr result IsOther }
     ensures kept { HasCleanDisk (state S.Store conn.new)
         → OnErr result (IsKept (state S.Store conn.old) (state S.Store conn.new)) }
     ensures idle { conn.new.in_transaction ≡ false }
@@ -39,5 +37,5 @@ pub(crate) fn settle<S: Alter>(
         return Ok(());
     }
     let _live = conn.schema();
-    Ok(remake(conn, version, tables)?)
+    remake(conn, version, tables)
 }

@@ -17,38 +17,11 @@ use crate::damage::Damage;
 use crate::difference::Difference;
 use crate::schemas::{nearest, schema_difference};
 use audit_rows::{Rule, first_failing};
-use sql_tables::{CreateFault, Version, tables_of, version_in};
+use sql_tables::{Version, tables_of, version_in};
 use sqlite::{Alter, Connection, Error};
-use sqlite_schema::schema::Schema;
 use std::alloc::Global;
 use table_reads::{read_all, says};
 use table_rows::Tables;
-
-// What is made in memory to compare a schema with is empty before, so the first fault doesn't come.
-fn error_of(fault: CreateFault) -> Error {
-    match fault {
-        CreateFault::Sqlite { error } => error,
-        CreateFault::NotEmpty => Error::InvalidQuery,
-    }
-}
-
-// The tables' version, by the schema alone.
-fn schema_version<S: Alter>(alloc: Global, conn: &Connection<S>) -> Result<Option<Version>, Error>
-    ensures exact { IfOk result (λ found. MatchOption found
-        ((v : _) → ¬ HasJust (state S.Store conn.now).now.schema (schema_of v))
-        (λ v. HasJust (state S.Store conn.now).now.schema (schema_of v))) }
-    ensures there { IsTrue (state S.Store conn.now).is_open → IfOk result (λ found. IfSome found
-        (λ v. AreThere (state S.Store conn.now).now.schema (schema_of v).tables)) }
-{
-    version_in(alloc, conn).map_err(error_of)
-}
-
-// Our tables of the version that a schema is nearest to.
-fn nearest_tables(alloc: Global, schema: &Schema) -> Result<Schema, Error>
-    ensures { IfOk result (λ ours. ours ≡ schema_of (nearest schema.now)) }
-{
-    tables_of(alloc, nearest(schema)).map_err(error_of)
-}
 
 // How the tables differ from those of the nearest version.
 fn nearest_difference<S: Alter>(alloc: Global, conn: &Connection<S>) -> Result<Difference, Error>
@@ -57,7 +30,7 @@ fn nearest_difference<S: Alter>(alloc: Global, conn: &Connection<S>) -> Result<D
         (state S.Store conn.now).now.schema) }
 {
     let schema = conn.schema();
-    let ours = nearest_tables(alloc, schema)?;
+    let ours = tables_of(alloc, nearest(schema))?;
     Ok(schema_difference(alloc, schema, &ours)?)
 }
 
@@ -80,7 +53,7 @@ fn standing_of<S: Alter>(alloc: Global, conn: &mut Connection<S>) -> Result<Stan
     ensures idle { conn.new.in_transaction ≡ false }
     ensures survives { Survives (state S.Store conn.old) (state S.Store conn.new) (λ _. ⊥) }
 {
-    let Some(version) = schema_version(alloc, conn)? else {
+    let Some(version) = version_in(alloc, conn)? else {
         let difference = nearest_difference(alloc, conn)?;
         return Ok(Standing::NotOurs { difference });
     };

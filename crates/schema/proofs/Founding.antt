@@ -1,4 +1,4 @@
--- From tables with no row to a store without contents.
+-- From newly made tables to a store without contents.
 use Rattle.std.proofs.Common.{◌≡◌, ◌⊎◌, Option, inl, inr, refl, sym, subst, IsTrue}
 use Rattle.sqlite.specs.Effect.{Database}
 use Rattle.sqlite.specs.State.{State}
@@ -10,7 +10,8 @@ use Rattle.image_laws.specs.Image.{image, stored_batches, stored_blanks, stored_
 use Rattle.sql_base.specs.Columns.{no_schema}
 use Rattle.sql_base.specs.Ends.{Ends, IsLeft}
 use Rattle.sql_rows.specs.Image.{IsImage}
-use Rattle.change_writes.specs.Founds.{Founds}
+use Rattle.sql_rows.proofs.Newly.{newly_filled}
+use Rattle.sql_tables.specs.Opening.{MakesAll}
 use Rattle.schema.specs.Link.{link}
 use Rattle.schema.proofs.Link.{RowsLaw, found}
 
@@ -18,20 +19,20 @@ nothing_is : image no_contents ≡ no_rows
 unfolding stored_batches stored_blanks stored_groupings stored_lots stored_records stored_remakes stored_sessions stored_words
 nothing_is = refl
 
-founded : (a b : Database) → a.schema ≡ no_schema → Founds a b → IsImage (image no_contents) b
-founded a b none founds = subst (λ t. IsImage t b) (sym nothing_is) (founds none)
+founded : (a b : Database) → a.schema ≡ no_schema → MakesAll a b → IsImage (image no_contents) b
+founded a b none makes = subst (λ t. IsImage t b) (sym nothing_is) (newly_filled b (makes none))
 
-pub holds_nothing : (old new : State) → (old.now.schema ≡ no_schema) × Ends Founds old new → AreSound no_contents × (IsTrue new.is_open → IsImage (image no_contents) new.now)
+pub holds_nothing : (old new : State) → (old.now.schema ≡ no_schema) × Ends MakesAll old new → AreSound no_contents × (IsTrue new.is_open → IsImage (image no_contents) new.now)
 holds_nothing old new it = (nothing_sound, λ live. founded old.now new.now it.0 it.1.made)
 
 -- what an open may find
 module _ (law : RowsLaw) (old new : State) (d : Option Contents) (left : (link new 0 0).may_leave d) where
-  left_nothing : (db : Database) → old.now.schema ≡ no_schema → Founds old.now db → left.0 ≡ db.trees → IsFound d no_contents
+  left_nothing : (db : Database) → old.now.schema ≡ no_schema → MakesAll old.now db → left.0 ≡ db.trees → IsFound d no_contents
   left_nothing db none founds is = found law no_contents nothing_sound db (founded old.now db none founds) left.0 is d left.2
 
-  pub only_nothing : (old.now.schema ≡ no_schema) × Ends Founds old new → IsFound d no_contents
+  pub only_nothing : (old.now.schema ≡ no_schema) × Ends MakesAll old new → IsFound d no_contents
   only_nothing it = left_nothing new.now it.0 it.1.made (it.1.only left.0 left.1)
 
-  pub before_or_nothing : old.may_leave left.0 ⊎ ((old.now.schema ≡ no_schema) × IsLeft Founds old left.0) → (link old 0 0).may_leave d ⊎ IsFound d no_contents
+  pub before_or_nothing : old.may_leave left.0 ⊎ ((old.now.schema ≡ no_schema) × IsLeft MakesAll old left.0) → (link old 0 0).may_leave d ⊎ IsFound d no_contents
   before_or_nothing (inl before) = inl (left.0, before, left.2)
   before_or_nothing (inr it) = inr (left_nothing it.1.1.0 it.0 it.1.1.1 it.1.1.2)

@@ -14,7 +14,8 @@ use Rattle.job_facts.specs.declared.store.StoreFault.{StoreFault}
 use Rattle.job_facts.specs.Contents.{Contents}
 use Rattle.image_laws.specs.Image.{image}
 use Rattle.sql_rows.specs.Image.{IsImage}
-use Rattle.schema.specs.Link.{fault_for, link}
+use Rattle.schema.specs.Link.{link}
+use Rattle.adoption.specs.Faults.{fault_for}
 
 module _ {D : Type 0} {g : Ghosts D} where
   -- Its two files were given back. Where their disks have returned what was written, the database file alone has the last commit, and the last commit has the rows of the contents.

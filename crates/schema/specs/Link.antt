@@ -4,15 +4,13 @@ use Rattle.sqlite.specs.Effect.{Database}
 use Rattle.sqlite.specs.State as sqlite
 use Rattle.sqlite.specs.Tree.{Trees}
 use Rattle.sqlite.specs.declared.error.Error.{Error}
-use Rattle.sqlite.specs.declared.error.Error.TheVariants.{SqliteFailure}
-use Rattle.sqlite.specs.declared.error.ErrorCode.TheVariants.{DiskFull, OutOfMemory}
 use Rattle.sqlite_trees.specs.View.{doubt}
 use Rattle.job_facts.specs.declared.store.StoreFault.{StoreFault}
-use Rattle.job_facts.specs.declared.store.StoreFault.TheVariants.{Device, Full, Memory}
 use Rattle.job_facts.specs.Contents.{AreSound, Contents}
 use Rattle.job_facts.specs.Store.{State}
 use Rattle.image_laws.specs.Image.{image}
 use Rattle.sql_rows.specs.Image.{IsImage}
+use Rattle.adoption.specs.Faults.{fault_for}
 use Rattle.sql_tables.specs.Tables.{our_schema}
 
 abbrev pub ours_at : Trees → Database
@@ -32,12 +30,6 @@ link s failed full = record {
   full = full;
   may_leave = λ d. (trees : Trees) × s.may_leave trees × Stands d trees;
 }
-
--- want of memory and of room are told as such, and any other error of the device
-abbrev pub fault_for : Error → StoreFault
-fault_for (SqliteFailure OutOfMemory) = Memory
-fault_for (SqliteFailure DiskFull) = Full
-fault_for _ = Device
 
 -- what went well is told as it is, and an error as its fault
 abbrev pub IsTold : {T : Type 0} → Result T Error → Result T StoreFault → Type 0

@@ -1,6 +1,6 @@
 //! The tables of a database are closed, and adopted again.
-use crate::opening::OpenFault;
 use crate::store::SqlStore;
+use adoption::OpenFault;
 use job_facts::{Reopen, StoreFault};
 use sqlite::Alter;
 use std::alloc::Global;

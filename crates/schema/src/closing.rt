@@ -2,8 +2,8 @@
 ghost use Rattle.std.specs.Prelude.{◌≡◌, false, IfErr, OnOk};
 ghost use Rattle.schema.specs.Closing.{FailsToFinish, LeavesWholeFile};
 
-use crate::faults::fault_of;
 use crate::store::SqlStore;
+use adoption::fault_of;
 use job_facts::{FaultCounts, ServerStore, StoreFault};
 use sqlite::{Connection, FileStore, MemStore};
 use sqlite_disk::Disk;

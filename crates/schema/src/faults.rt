@@ -1,27 +1,17 @@
 //! What a store says of an error, and how often it said so.
 ghost use Rattle.std.specs.Prelude.{◌≡◌};
 ghost use Rattle.job_facts.specs.Store.{failed_after, full_after};
-ghost use Rattle.schema.specs.Link.{IsTold, fault_for};
+ghost use Rattle.schema.specs.Link.{IsTold};
 
+use adoption::fault_of;
 use job_facts::StoreFault;
-use sqlite::{Error, ErrorCode};
+use sqlite::Error;
 
 /// How often a store answered that its device failed, and that it is full.
 #[derive(Clone, Copy)]
 pub(crate) struct Counts {
     pub(crate) failed: u64,
     pub(crate) full: u64,
-}
-
-// Rows of sound contents are refused nothing, so what is no want of memory is told of the device.
-pub(crate) fn fault_of(error: Error) -> StoreFault
-    ensures { result ≡ fault_for error }
-{
-    match error {
-        Error::SqliteFailure(ErrorCode::OutOfMemory) => StoreFault::Memory,
-        Error::SqliteFailure(ErrorCode::DiskFull) => StoreFault::Full,
-        _ => StoreFault::Device,
-    }
 }
 
 impl Counts {

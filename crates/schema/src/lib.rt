@@ -8,5 +8,5 @@ mod keeping;
 pub mod opening;
 pub mod store;
 
-pub use opening::OpenFault;
+pub use adoption::OpenFault;
 pub use store::SqlStore;

@@ -11,62 +11,18 @@ ghost use Rattle.sql_tables.specs.declared.versions.Version.{Version};
 ghost use Rattle.table_reads.specs.Holding.{HoldsRows, HoldsSoundRows, IsOfVersion};
 ghost use Rattle.adoption.specs.Adopts.{Adopts};
 ghost use Rattle.schema.specs.Begun.{LeavesNoOther, WasHeld};
-ghost use Rattle.schema.specs.Link.{fault_for, link};
+ghost use Rattle.schema.specs.Link.{link};
 ghost use Rattle.schema.specs.Stores.{connection, stands_for};
 
-use crate::faults::{Counts, fault_of};
+use crate::faults::Counts;
 use crate::store::SqlStore;
-use adoption::{AdoptFault, adopt};
+use adoption::{OpenFault, adopt};
 use image_laws::same_rows_same_contents;
-use job_facts::StoreFault;
+use sql_base::is_empty;
+use sql_tables::make_tables;
 use sqlite::{Alter, Connection};
 use std::alloc::Global;
-use change_writes::{CreateFault, create};
 use table_reads::{held_rows_are_one, rows_are_held_in_any_order};
-
-/// Why no store was made over a database.
-#[derive(Clone, Copy, Debug, PartialEq, Eq)]
-pub enum OpenFault {
-    /// Its tables are not as they must be, none where a store begins, and ours where one goes on:
-    /// refusal 81.
-    NotOurs,
-    /// Its tables are ours, and their rows are those of no sound contents: refusal 82.
-    Damaged,
-    /// The store's own fault.
-    Store { fault: StoreFault },
-}
-
-fn told(fault: CreateFault) -> OpenFault
-    ensures not_ours { result ≡ OpenFault.NotOurs → fault ≡ CreateFault.NotEmpty }
-    ensures unread { result ≢ OpenFault.Damaged }
-    ensures full { fault ≡ CreateFault.NotEmpty → result ≡ OpenFault.NotOurs }
-    ensures own { (error : _) → fault ≡ CreateFault.Sqlite error
-        → result ≡ OpenFault.Store (fault_for error) }
-{
-    match fault {
-        CreateFault::NotEmpty => OpenFault::NotOurs,
-        CreateFault::Sqlite { error } => OpenFault::Store {
-            fault: fault_of(error),
-        },
-    }
-}
-
-fn refusal(fault: AdoptFault) -> OpenFault
-    ensures not_ours { result ≡ OpenFault.NotOurs → fault ≡ AdoptFault.NotOurs }
-    ensures damaged { result ≡ OpenFault.Damaged → fault ≡ AdoptFault.Damaged }
-    ensures theirs { fault ≡ AdoptFault.NotOurs → result ≡ OpenFault.NotOurs }
-    ensures unsound { fault ≡ AdoptFault.Damaged → result ≡ OpenFault.Damaged }
-    ensures own { (error : _) → fault ≡ AdoptFault.Sqlite error
-        → result ≡ OpenFault.Store (fault_for error) }
-{
-    match fault {
-        AdoptFault::NotOurs => OpenFault::NotOurs,
-        AdoptFault::Damaged => OpenFault::Damaged,
-        AdoptFault::Sqlite { error } => OpenFault::Store {
-            fault: fault_of(error),
-        },
-    }
-}
 
 impl<S: Alter> SqlStore<S> {
     /// A store without facts, in an empty database. Any other is refused and stays as it is, and
@@ -99,7 +55,10 @@ impl<S: Alter> SqlStore<S> {
             (λ e. LeavesNoOther (state S.Store conn) (state S.Store e.0)) }
     {
         same_rows_same_contents();
-        match create(&mut conn) {
+        if !is_empty(conn.schema()) {
+            return Err((conn, OpenFault::NotOurs));
+        }
+        match make_tables(&mut conn) {
             Ok(()) => {
                 let counts = Counts { failed: 0, full: 0 };
                 Ok(SqlStore {
@@ -108,7 +67,7 @@ impl<S: Alter> SqlStore<S> {
                     counts,
                 })
             }
-            Err(fault) => Err((conn, told(fault))),
+            Err(error) => Err((conn, OpenFault::from(error))),
         }
     }
 
@@ -164,7 +123,7 @@ impl<S: Alter> SqlStore<S> {
                     counts,
                 })
             }
-            Err(fault) => Err((conn, refusal(fault))),
+            Err(fault) => Err((conn, fault)),
         }
     }
 }

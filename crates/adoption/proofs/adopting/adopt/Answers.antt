@@ -1,7 +1,7 @@
 use Rattle.std.proofs.Common.{arith, subst}
 use Rattle.sqlite.specs.Held.{state}
 use Rattle.sqlite.specs.State.{HasCleanDisk}
-use Rattle.table_audit.specs.Telling.{Tells}
+use Rattle.adoption.specs.Telling.{Tells}
 use Rattle.adoption.proofs.Taken.{left_taken, taken}
 use Rattle.adoption.proofs.adopting.adopt.Goals as goal
 

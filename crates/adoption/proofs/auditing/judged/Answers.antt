@@ -1,6 +1,6 @@
 use Rattle.std.proofs.Common.{refl}
 use Rattle.audit_rows.proofs.SoundLemmas.{same_through}
-use Rattle.table_audit.proofs.auditing.judged.Goals as goal
+use Rattle.adoption.proofs.auditing.judged.Goals as goal
 
 pub returns-then-branch : goal.returns-then-branch
 returns-then-branch c =

@@ -15,9 +15,9 @@ use Rattle.table_reads.proofs.AnyOrder.{any_order}
 use Rattle.table_reads.proofs.OneHeld.{one_held}
 use Rattle.table_reads.proofs.OneVersion.{one_version}
 use Rattle.table_reads.proofs.SoundRanges.{sound_fit}
-use Rattle.table_audit.specs.Telling.{Judges, Tells}
-use Rattle.table_audit.specs.declared.auditing.Found.{Found}
-use Rattle.table_audit.specs.declared.auditing.Found.TheVariants.{NotOurs, Sound, Unsound}
+use Rattle.adoption.specs.Telling.{Judges, Tells}
+use Rattle.adoption.specs.declared.auditing.Found.{Found}
+use Rattle.adoption.specs.declared.auditing.Found.TheVariants.{NotOurs, Sound, Unsound}
 
 -- no rows were read
 none_read : (v : Version) (db : Database) → IsOfVersion v db → HoldsNoneOf v db → Tells Unsound db

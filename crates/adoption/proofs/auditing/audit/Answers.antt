@@ -1,8 +1,8 @@
 use Rattle.std.proofs.Common.{arith}
 use Rattle.sqlite.specs.Held.{state}
 use Rattle.sqlite.specs.State.{HasCleanDisk}
-use Rattle.table_audit.proofs.Judging.{judged, refused, version_is}
-use Rattle.table_audit.proofs.auditing.audit.Goals as goal
+use Rattle.adoption.proofs.Judging.{judged, refused, version_is}
+use Rattle.adoption.proofs.auditing.audit.Goals as goal
 
 pub returns-in_default-2-clause-told : goal.returns-in_default-2-clause-told
 returns-in_default-2-clause-told g c clean =

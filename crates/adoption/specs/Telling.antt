@@ -6,8 +6,8 @@ use Rattle.job_facts.specs.Contents.{AreSound, Contents}
 use Rattle.table_rows.specs.Tables.{HaveSameRows, Tables}
 use Rattle.image_laws.specs.Image.{image}
 use Rattle.table_reads.specs.Holding.{HoldsRows, HoldsSoundRows, IsOfVersion}
-use Rattle.table_audit.specs.declared.auditing.Found.{Found}
-use Rattle.table_audit.specs.declared.auditing.Found.TheVariants.{NotOurs, Sound, Unsound}
+use Rattle.adoption.specs.declared.auditing.Found.{Found}
+use Rattle.adoption.specs.declared.auditing.Found.TheVariants.{NotOurs, Sound, Unsound}
 
 -- the rows are those of sound contents
 abbrev pub AreOfSoundContents : Tables → Type 0

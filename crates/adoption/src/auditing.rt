@@ -7,10 +7,10 @@ ghost use Rattle.sql_tables.specs.Alike.{HasJust};
 ghost use Rattle.sql_tables.specs.Ours.{AreThere};
 ghost use Rattle.sql_tables.specs.Versions.{schema_of};
 ghost use Rattle.table_reads.specs.Holding.{IsOfVersion};
-ghost use Rattle.table_audit.specs.Telling.{Judges, Tells};
+ghost use Rattle.adoption.specs.Telling.{Judges, Tells};
 
 use audit_rows::is_sound;
-use sql_tables::{CreateFault, Version, version_in};
+use sql_tables::{Version, version_in};
 use sqlite::{Alter, Connection, Error};
 use std::alloc::Global;
 use table_reads::{read_all, says};
@@ -18,29 +18,13 @@ use table_rows::Tables;
 
 /// What an audit found.
 #[derive(Drop)]
-pub enum Found {
+pub(crate) enum Found {
     /// The tables are those of no version: refusal 81.
     NotOurs,
     /// They are, and their rows are not those of sound contents: refusal 82.
     Unsound,
     /// Their rows, in any order, are those of sound contents.
     Sound { version: Version, tables: Tables },
-}
-
-// The tables' version, by the schema alone. What is made in memory to compare it with is empty
-// before, so the first fault does not come.
-fn schema_version<S: Alter>(alloc: Global, conn: &Connection<S>) -> Result<Option<Version>, Error>
-    ensures exact { IfOk result (λ found. MatchOption found
-        ((v : _) → ¬ HasJust (state S.Store conn.now).now.schema (schema_of v))
-        (λ v. HasJust (state S.Store conn.now).now.schema (schema_of v))) }
-    ensures there { IsTrue (state S.Store conn.now).is_open → IfOk result (λ found. IfSome found
-        (λ v. AreThere (state S.Store conn.now).now.schema (schema_of v).tables)) }
-{
-    match version_in(alloc, conn) {
-        Ok(found) => Ok(found),
-        Err(CreateFault::Sqlite { error }) => Err(error),
-        Err(CreateFault::NotEmpty) => Err(Error::InvalidQuery),
-    }
 }
 
 // The tables' version, which their own row says too.
@@ -55,7 +39,7 @@ fn own_version<S: Alter>(alloc: Global, conn: &mut Connection<S>) -> Result<Opti
     ensures idle { conn.new.in_transaction ≡ false }
     ensures survives { Survives (state S.Store conn.old) (state S.Store conn.new) (λ _. ⊥) }
 {
-    let Some(version) = schema_version(alloc, conn)? else {
+    let Some(version) = version_in(alloc, conn)? else {
         return Ok(None);
     };
     if says(conn, version)? {
@@ -78,7 +62,7 @@ fn judged(alloc: Global, version: Version, mut tables: Tables) -> Result<Found, 
 /// Whether a database holds the rows of sound contents, in our tables of any version, in any order
 /// and with nothing beside them but indices that are no keys. It reads each table whole into
 /// memory. Nothing is changed, and a crash leaves what it could leave before.
-pub fn audit<S: Alter>(alloc: Global, conn: &mut Connection<S>) -> Result<Found, Error>
+pub(crate) fn audit<S: Alter>(alloc: Global, conn: &mut Connection<S>) -> Result<Found, Error>
     requires { conn.old.in_transaction ≡ false }
     ensures told { HasCleanDisk (state S.Store conn.new)
         → IfOk result (λ found. Tells found (state S.Store conn.old).now) }
