@@ -12,7 +12,7 @@ use over_tables::FileFault;
 use plan_print::PlanStop;
 use program_words::WordsFault;
 use reports::AccountFault;
-use server_lines::ServeStop;
+use server::ServeStop;
 use std::error::Error;
 use std::fmt;
 

@@ -6,7 +6,6 @@ ghost use Rattle.command_line.specs.Joins.{Explains, end_of_close, level_by, ref
 ghost use Rattle.command_line.specs.Joins.{refusal_lines, table_pair, wanted_of};
 
 use crate::end::End;
-use connection_lines::note_line;
 use event_lines::{EventLine, EventLog, Level, level_of};
 use job_facts::StoreFault;
 use over_tables::{FileFault, Wanted};
@@ -85,10 +84,10 @@ pub fn note_refusal<E: Write + Drop>(
     match fault {
         FileFault::NotOurs { cause } => {
             let line = refusal_line(alloc, 81, cause.word(), cause.name(), path);
-            note_line(events, line);
+            events.note(line);
         }
         FileFault::Damaged { cause } => {
-            note_line(events, refusal_line(alloc, 82, cause.word(), None, path));
+            events.note(refusal_line(alloc, 82, cause.word(), None, path));
         }
         FileFault::Storage | FileFault::Memory => (),
     }

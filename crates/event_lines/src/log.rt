@@ -1,8 +1,7 @@
 //! Where event lines are written.
-ghost use Rattle.std.specs.Prelude.{◌≡◌, ◌≢◌, ◌↔◌, ◌∷◌, ◌++◌, [], IfErr, IfOk, IsTrue};
-ghost use Rattle.std.specs.Io.KnownBytes.{Keeps};
+ghost use Rattle.std.specs.Prelude.{◌≡◌, ◌≢◌, ◌↔◌, ℕ, List, [], ◌∷◌, ◌++◌, IfOk, IsTrue};
 ghost use Rattle.text_io.specs.Written.{AppendsBeginning};
-ghost use Rattle.event_lines.specs.Notes.{Notes};
+ghost use Rattle.event_lines.specs.Notes.{NotesAll};
 ghost use Rattle.event_lines.specs.Views.{text_of};
 
 use crate::level::Level;
@@ -38,11 +37,9 @@ impl<W: Write + Drop> EventLog<W> {
     /// is written, and nothing is told of that: a line that can't be written stops nothing.
     pub fn note(&mut self, line: Result<EventLine, AllocError>)
         ensures level { self.new.level ≡ self.old.level }
-        ensures written { IfOk line (λ line.
-            Notes self.old.level (W.contents self.old.writer) (W.contents self.new.writer)
-            (text_of line)) }
-        ensures refused { IfErr line (λ _.
-            Keeps (W.contents self.old.writer) (W.contents self.new.writer)) }
+        ensures noted { (text : List ℕ) → IfOk line (λ made. text_of made ≡ text)
+            → NotesAll self.old.level (W.contents self.old.writer)
+            (W.contents self.new.writer) (text ∷ []) }
     {
         if !self.is_on() {
             return;

@@ -18,7 +18,8 @@ use Rattle.event_lines.specs.declared.level.Level.{Level}
 use Rattle.event_lines.specs.declared.level.Level.TheVariants.{Off, Usual, All}
 use Rattle.event_lines.specs.declared.line.EventLine.{EventLine}
 use Rattle.event_lines.specs.declared.log.EventLog.{EventLog}
-use Rattle.event_lines.specs.Notes.{Notes, NotesAll}
+use Rattle.event_lines.specs.Notes.{NotesAll}
+use Rattle.event_lines.proofs.NotesLemmas.{both-all, lost-all, off-all}
 use Rattle.event_lines.specs.Views.{text_of}
 use Rattle.feeding.specs.Cards.{Card, card_of}
 use Rattle.feeding.specs.Events.{IsNoted, lines_under, lines_with, rejection, without_numbers, again_line, again_lines, card_before, cards_in, exhausted_line, refusal_lines, refused_line, spoiled_line, used_line}
@@ -26,53 +27,17 @@ use Rattle.feeding.specs.Feeds.{Feed, by_reply, hears}
 use Rattle.feeding.specs.Views.{IsRejected, came_in}
 use Rattle.feeding.proofs.Draws.{next_line}
 
-kept_appends : (a b c : Option (List ℕ)) (bs : List ℕ) → Keeps a b → Appends b c bs → Appends a c bs
-kept_appends None b c bs keeps grows = tt
-kept_appends (Some x) None c bs keeps grows = absurd keeps
-kept_appends (Some x) (Some y) None bs keeps grows = absurd grows
-kept_appends (Some x) (Some y) (Some z) bs keeps grows = grows ∙ ap (λ l. l ++ bs) keeps
-
-kept_begun : (a b c : Option (List ℕ)) (text : List ℕ) → Keeps a b → AppendsBeginning b c text → AppendsBeginning a c text
-kept_begun a b c text keeps (front, back, whole, grows) = (front, back, whole, kept_appends a b c front keeps grows)
-
-kept_note : (level : Level) (a b c : Option (List ℕ)) (text : List ℕ) → Keeps a b → Notes level b c text → Notes level a c text
-kept_note Off a b c text keeps note = Keeps-trans a b c keeps note
-kept_note Usual a b c text keeps note = kept_begun a b c (line text) keeps note
-kept_note All a b c text keeps note = kept_begun a b c (line text) keeps note
-
-kept_notes : (level : Level) (a b c : Option (List ℕ)) (texts : List (List ℕ)) → Keeps a b → NotesAll level b c texts → NotesAll level a c texts
-kept_notes level a b c [] keeps notes = Keeps-trans a b c keeps notes
-kept_notes level a b c (t ∷ ts) keeps (mid, first, rest) = (mid, kept_note level a b mid t keeps first, rest)
-
--- a line of which nothing was written
-lost_note : (level : Level) (a : Option (List ℕ)) (text : List ℕ) → Notes level a a text
-lost_note Off a text = Keeps-refl a
-lost_note Usual a text = ([], line text, refl, Appends-nil a)
-lost_note All a text = ([], line text, refl, Appends-nil a)
-
-lost_notes : (level : Level) (a b : Option (List ℕ)) (texts : List (List ℕ)) → Keeps a b → NotesAll level a b texts
-lost_notes level a b [] keeps = keeps
-lost_notes level a b (t ∷ ts) keeps = (a, lost_note level a t, lost_notes level a b ts keeps)
-
-notes_then : (level : Level) (a b c : Option (List ℕ)) (xs ys : List (List ℕ)) → NotesAll level a b xs → NotesAll level b c ys → NotesAll level a c (xs ++ ys)
-notes_then level a b c [] ys first rest = kept_notes level a b c ys first rest
-notes_then level a b c (x ∷ xs) ys (mid, one, more) rest = (mid, one, notes_then level mid b c xs ys more rest)
-
-off_note : (a b : Option (List ℕ)) (texts : List (List ℕ)) → NotesAll Off a b texts → Keeps a b
-off_note a b [] notes = notes
-off_note a b (t ∷ ts) (mid, first, rest) = Keeps-trans a mid b first (off_note mid b ts rest)
-
 -- ---- a log
 
 -- nothing was written
 pub lost : {E : Type 0} (contents : E → Option (List ℕ)) (old new : EventLog E) (texts : List (List ℕ)) → new ≡ old → IsNoted contents old new texts
 lost contents old new texts same =
-    subst (λ n. IsNoted contents old n texts) (sym same) (refl, lost_notes old.level (contents old.writer) (contents old.writer) texts (Keeps-refl (contents old.writer)))
+    subst (λ n. IsNoted contents old n texts) (sym same) (refl, lost-all old.level (contents old.writer) (contents old.writer) texts (Keeps-refl (contents old.writer)))
 
 pub noted_then : {E : Type 0} (contents : E → Option (List ℕ)) (a b c : EventLog E) (xs ys : List (List ℕ)) → IsNoted contents a b xs → IsNoted contents b c ys → IsNoted contents a c (xs ++ ys)
 noted_then contents a b c xs ys (same, first) (still, rest) = (
   still ∙ same,
-  notes_then a.level (contents a.writer) (contents b.writer) (contents c.writer) xs ys first (subst (λ l. NotesAll l (contents b.writer) (contents c.writer) ys) same rest),
+  both-all a.level (contents a.writer) (contents b.writer) (contents c.writer) xs ys first (subst (λ l. NotesAll l (contents b.writer) (contents c.writer) ys) same rest),
 )
 
 -- where none are written, whichever these are
@@ -80,18 +45,12 @@ pub noted_off : {E : Type 0} (contents : E → Option (List ℕ)) (old new : Eve
 noted_off contents old new xs ys off (same, notes) =
     let a = contents old.writer in
     let b = contents new.writer in
-    (same, lost_notes old.level a b ys (off_note a b xs (subst (λ l. NotesAll l a b xs) off notes)))
-
-note_of : {F : Type 0} (level : Level) (a b : Option (List ℕ)) (made : Result EventLine F) (text : List ℕ) → IfOk made (λ l. text_of l ≡ text) → IfOk made (λ l. Notes level a b (text_of l)) → IfErr made (λ e. Keeps a b)
-    → Notes level a b text
-note_of level a b (Ok l) text is written refused = subst (Notes level a b) is written
-note_of level a b (Err e) text is written refused = kept_note level a b b text refused (lost_note level b text)
+    (same, lost-all old.level a b ys (off-all a b xs (subst (λ l. NotesAll l a b xs) off notes)))
 
 -- a line that was made, or for which memory was refused
 pub noted_line : {E F : Type 0} (contents : E → Option (List ℕ)) (old new : EventLog E) (made : Result EventLine F) (text : List ℕ) → IfOk made (λ l. text_of l ≡ text) → new.level ≡ old.level
-    → IfOk made (λ l. Notes old.level (contents old.writer) (contents new.writer) (text_of l)) → IfErr made (λ e. Keeps (contents old.writer) (contents new.writer)) → IsNoted contents old new (text ∷ [])
-noted_line contents old new made text is same written refused =
-    (same, (contents new.writer, note_of old.level (contents old.writer) (contents new.writer) made text is written refused, Keeps-refl (contents new.writer)))
+    → ((t : List ℕ) → IfOk made (λ l. text_of l ≡ t) → NotesAll old.level (contents old.writer) (contents new.writer) (t ∷ [])) → IsNoted contents old new (text ∷ [])
+noted_line contents old new made text is same noted = (same, noted text is)
 
 -- of lines that begin so
 pub noted_front : {E : Type 0} (contents : E → Option (List ℕ)) (old new : EventLog E) (xs ys all : List (List ℕ)) → IsNoted contents old new xs → all ≡ xs ++ ys → IsNoted contents old new all

@@ -6,13 +6,12 @@ ghost use Rattle.schema.specs.declared.store.SqlStore.{SqlStore as Store};
 ghost use Rattle.schema.specs.Closing.{LeavesWholeFile};
 ghost use Rattle.schema.specs.Stores.{connection, stands_for};
 ghost use Rattle.server.specs.Exchanges.{Exchange, Moves, ServesAll};
-ghost use Rattle.server_lines.specs.Runs.{NotesRun};
-ghost use Rattle.server_lines.specs.ServerLines.{WritesLines};
+ghost use Rattle.server.specs.ObservedRuns.{NotesRun};
+ghost use Rattle.server.specs.ServerLines.{WritesLines};
 
 use event_lines::EventLog;
 use schema::SqlStore;
-use server::{Connections, NextFault};
-use server_lines::{Opened, ServeStop, serve_and_tell};
+use server::{Connections, NextFault, Opened, ServeStop, serve_and_tell};
 use sqlite::FileStore;
 use sqlite_disk::Disk;
 use std::alloc::Global;

@@ -9,7 +9,7 @@ use over_tables::serve_over_tables;
 use program_words::FeedStart;
 use reports::close_report;
 use schema::SqlStore;
-use server_lines::Opened;
+use server::Opened;
 use sqlite::FileStore;
 use sqlite_disk::Disk;
 use std::io::{self, Write};

@@ -2,3 +2,10 @@ pub mod Taken
 pub mod Writing
 pub mod Serving
 pub mod Stays
+pub mod BeginningLemmas
+pub mod WordLemmas
+pub mod KeptLemmas
+pub mod ObservationLemmas
+pub mod ServerLinesLemmas
+pub mod OpeningLemmas
+pub mod RunLemmas

@@ -6,3 +6,10 @@ pub mod Answers
 pub mod Exchanges
 pub mod Serving
 pub mod Memory
+pub mod Words
+pub mod Bytes
+pub mod Observations
+pub mod ConnectionLines
+pub mod ServerLines
+pub mod Openings
+pub mod ObservedRuns

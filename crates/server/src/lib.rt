@@ -1,16 +1,33 @@
-//! Connections, served one after the other: one message each, and one reply.
+//! Connections, served one after the other, one message and one reply each; what is observed of each,
+//! and the event lines of a server from its first line to its last.
 #![tactic(auto)]
 
 mod account;
+mod beginning;
+mod closing;
 mod connections;
+mod kept;
+mod line;
 mod many;
 mod memory;
+mod noted;
+mod observation;
+mod observing;
 mod one;
+mod opening;
 mod reply;
+mod run;
+mod sequence;
 mod served;
+mod stopping;
+mod words;
 
 pub use connections::{Connections, NextFault};
 pub use many::serve_all;
 pub use memory::{MemoryConnections, MemoryReader, Replied};
 pub use one::serve_one;
+pub use opening::Opened;
+pub use run::serve_and_tell;
 pub use served::{End, Served};
+pub use stopping::ServeStop;
+pub use words::refusal_in;

@@ -1,13 +1,11 @@
 //! A server over lists: the lines of standard output, and its event lines.
 use crate::exchanges::{inputs, stocked};
 use crate::failing_writers::Limited;
-use connection_lines::refusal_in;
 use event_lines::{EventLog, Level};
 use faulty_store::{Fault, FaultyStore, Plan};
 use job_facts::{ServerStore, StoreFault};
 use list_store::ListStore;
-use server::{Connections, MemoryConnections, NextFault, Served};
-use server_lines::{Opened, ServeStop, serve_and_tell};
+use server::{Connections, MemoryConnections, NextFault, Opened, ServeStop, Served, refusal_in, serve_and_tell};
 use std::alloc::{AllocError, Global};
 use std::io::Write;
 use std::process::Abort;

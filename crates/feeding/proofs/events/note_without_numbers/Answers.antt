@@ -14,6 +14,6 @@ loop-line-preserved g c =
     let line = exhausted_line c.in-Some.serial ∷ [] in (
       so_far.0 ++ line,
       noted_then g.E.Write.contents c.args.events.now c.loop-line.events c.note.new.self so_far.0 line so_far.1
-          (noted_line g.E.Write.contents c.loop-line.events c.note.new.self c.exhausted_line.result _ c.exhausted_line.ensures c.note.ensures.level c.note.ensures.written c.note.ensures.refused),
+          (noted_line g.E.Write.contents c.loop-line.events c.note.new.self c.exhausted_line.result _ c.exhausted_line.ensures c.note.ensures.level c.note.ensures.noted),
       exhausted_next c.args.lines.now c.loop-line.line-index _ c.in-Some.serial so_far.0 c.loop-line-test.true c.in-Some.ensures so_far.2,
     )

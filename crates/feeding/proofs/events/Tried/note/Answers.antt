@@ -18,7 +18,7 @@ returns-then-self-gt0 g c =
     let cards = exhausted_of t.rejected.lines.now in
     noted_then g.E.Write.contents old mid new (first ++ cards) _ (noted_then g.E.Write.contents old c.note_rejection.new.events mid first cards c.note_rejection.ensures c.note_without_numbers.ensures)
     (subst (IsNoted g.E.Write.contents mid new) (again_some t.number t.tries came c.if-self-gt0.true)
-    (noted_line g.E.Write.contents mid new c.again_line.result (again_line t.number t.tries came) c.again_line.ensures c.note.ensures.level c.note.ensures.written c.note.ensures.refused))
+    (noted_line g.E.Write.contents mid new c.again_line.result (again_line t.number t.tries came) c.again_line.ensures c.note.ensures.level c.note.ensures.noted))
 
 pub returns-else-self-gt0 : goal.returns-else-self-gt0
 returns-else-self-gt0 g c =

@@ -10,4 +10,4 @@ returns-in-Exhausted g c =
     let old = c.args.events.now in
     let new = c.note.new.self in
     subst (λ how. IsNoted g.E.Write.contents old new (rejection_lines t.serial t.number (option_map (λ (r : Bor Reply). r.now) t.reply) how)) (sym (c.in-Some.is ∙ ap Some c.in-Exhausted.is))
-    (noted_line g.E.Write.contents old new c.exhausted_line.result _ c.exhausted_line.ensures c.note.ensures.level c.note.ensures.written c.note.ensures.refused)
+    (noted_line g.E.Write.contents old new c.exhausted_line.result _ c.exhausted_line.ensures c.note.ensures.level c.note.ensures.noted)

@@ -1,4 +1,0 @@
-pub mod Words
-pub mod Bytes
-pub mod Observations
-pub mod ConnectionLines

@@ -1,0 +1,91 @@
+-- The event lines of connections (this project's profile).
+use Rattle.std.specs.Prelude.{ℕ, ◌&&◌, ◌||◌, Bool, true, false, not, List, [], ◌∷◌, ◌++◌, bytes_eq, codes, if◌then◌else◌, Option, Some, None}
+use Rattle.job_facts.specs.declared.store.StoreFault.{StoreFault}
+use Rattle.job_facts.specs.declared.store.StoreFault.TheVariants as fault
+use Rattle.heads.specs.ReplyParts.{body_behind}
+use Rattle.server.specs.declared.served.End.{End}
+use Rattle.server.specs.declared.served.End.TheVariants.{Answered, Broken, WriteFailed}
+use Rattle.event_lines.specs.Lines.{pair, quoted_pair}
+use Rattle.event_lines.specs.declared.level.Level.{Level}
+use Rattle.event_lines.specs.declared.level.Level.TheVariants.{Off, Usual, All}
+use Rattle.server.specs.Words.{RefusalWords, refusal_in, request_line, status_digits}
+use Rattle.server.specs.Observations.{fault_between}
+use Rattle.server.specs.declared.observation.Observation.{Observation}
+
+-- ---- what a connection came to
+
+abbrev pub has_status : List ℕ → Observation → Bool
+has_status digits o = bytes_eq (status_digits o.reply) digits
+
+abbrev pub is_answered : End → Bool
+is_answered Answered = true
+is_answered Broken = false
+is_answered WriteFailed = false
+
+-- its reply has status 200, and was written whole
+abbrev pub is_accepted : Observation → Bool
+is_accepted o = is_answered o.served.end && has_status (codes "200") o
+
+-- the store failed, or memory was refused
+abbrev pub is_unavailable : Observation → Bool
+is_unavailable o = has_status (codes "503") o
+
+-- the store worked
+abbrev pub was_served : Observation → Bool
+was_served o = o.served.decided || has_status (codes "200") o || has_status (codes "409") o
+
+-- ---- the line of a connection
+
+abbrev pub fault_word : StoreFault → List ℕ
+fault_word fault.Full = codes "full"
+fault_word fault.Device = codes "device"
+fault_word fault.Memory = codes "memory"
+
+-- where a status is there
+abbrev pub status_pair : List ℕ → List ℕ
+status_pair digits = if bytes_eq digits [] then [] else pair (codes "status") digits
+
+abbrev pub words_pairs : Option RefusalWords → List ℕ
+words_pairs None = []
+words_pairs (Some (code, name)) = pair (codes "code") code ++ pair (codes "name") name
+
+-- of a refusal; nothing is shown of a body of status 200
+abbrev pub refusal_pairs : Observation → List ℕ
+refusal_pairs o = if has_status (codes "200") o then [] else words_pairs (refusal_in (body_behind o.reply))
+
+abbrev pub fault_pair : Observation → List ℕ
+fault_pair o = if is_unavailable o then pair (codes "fault") (fault_word (fault_between o.before o.after)) else []
+
+-- by its end, without its request
+abbrev pub outcome_text : End → Observation → List ℕ
+outcome_text Answered o = codes "answered" ++ status_pair (status_digits o.reply) ++ refusal_pairs o ++ fault_pair o
+outcome_text Broken o = codes "broken"
+outcome_text WriteFailed o = codes "unsent" ++ status_pair (status_digits o.reply)
+
+abbrev pub connection_line : Observation → List ℕ
+connection_line o = outcome_text o.served.end o ++ quoted_pair (codes "request") (request_line o.request)
+
+-- ---- the lines of connections, one after the other
+
+-- after a 503, before the first connection that the store served again
+abbrev pub recovery_lines : Level → Bool → Observation → List (List ℕ)
+recovery_lines Off is_failing o = []
+recovery_lines Usual is_failing o = if is_failing && was_served o then codes "recovered" ∷ [] else []
+recovery_lines All is_failing o = if is_failing && was_served o then codes "recovered" ∷ [] else []
+
+-- the connection's own
+abbrev pub own_lines : Level → Observation → List (List ℕ)
+own_lines Off o = []
+own_lines Usual o = if is_accepted o then [] else connection_line o ∷ []
+own_lines All o = connection_line o ∷ []
+
+abbrev pub lines_at : Level → Bool → Observation → List (List ℕ)
+lines_at level is_failing o = recovery_lines level is_failing o ++ own_lines level o
+
+-- whether the store fails, since it answered 503 and served none after that
+abbrev pub fails_after : Bool → Observation → Bool
+fails_after is_failing o = is_unavailable o || (is_failing && not (was_served o))
+
+abbrev pub connection_lines : Level → Bool → List Observation → List (List ℕ)
+connection_lines level is_failing [] = []
+connection_lines level is_failing (o ∷ os) = lines_at level is_failing o ++ connection_lines level (fails_after is_failing o) os

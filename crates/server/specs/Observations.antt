@@ -1,0 +1,18 @@
+-- What is observed of a connection that was served (this project's profile).
+use Rattle.std.specs.Prelude.{◌≡◌, nat_lt, Bool, IsTrue, if◌then◌else◌}
+use Rattle.job_facts.specs.declared.store.StoreFault.{StoreFault}
+use Rattle.job_facts.specs.declared.store.StoreFault.TheVariants as fault
+use Rattle.job_facts.specs.declared.server_store.FaultCounts.{FaultCounts}
+use Rattle.server.specs.Exchanges.{Exchange}
+use Rattle.server.specs.Bytes.{IsBeginning, IsReplyOf}
+use Rattle.server.specs.declared.observation.Observation.{Observation}
+
+-- which fault it was of the store, by how often each was answered before and after
+abbrev pub fault_between : FaultCounts → FaultCounts → StoreFault
+fault_between before after = if nat_lt before.full after.full then fault.Full else (if nat_lt before.failed after.failed then fault.Device else fault.Memory)
+
+-- what is observed of an exchange: of its bytes, where it is known what was brought and what was written
+pub record IsObservationOf (brought written : Bool) (e : Exchange) (o : Observation) : Type 0 where
+  pub served : o.served ≡ e.served
+  pub request : IsTrue brought → IsBeginning o.request e.input
+  pub reply : IsTrue written → IsReplyOf e.served.end o.reply e.written

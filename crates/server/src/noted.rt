@@ -1,0 +1,62 @@
+//! The event lines that are written of a connection.
+ghost use Rattle.std.specs.Prelude.{◌≡◌};
+ghost use Rattle.event_lines.specs.Notes.{NotesAll};
+ghost use Rattle.server.specs.ConnectionLines.{fails_after, lines_at, own_lines};
+ghost use Rattle.server.specs.ConnectionLines.{recovery_lines};
+
+use crate::line::connection_line;
+use crate::observation::Observation;
+use event_lines::{EventLine, EventLog, Level};
+use std::alloc::Global;
+use std::io::Write;
+
+/// Writes what the level wants of a connection that was served, by whether the store failed before
+/// it, and answers whether it fails after it.
+pub fn note_connection<E: Write + Drop>(
+    alloc: Global,
+    events: &mut EventLog<E>,
+    is_failing: bool,
+    observation: &Observation,
+) -> bool
+    ensures level { events.new.level ≡ events.old.level }
+    ensures noted { NotesAll events.old.level (E.contents events.old.writer)
+        (E.contents events.new.writer) (lines_at events.old.level is_failing observation.now) }
+    ensures fails { result ≡ fails_after is_failing observation.now }
+{
+    note_recovery(alloc, events, is_failing, observation);
+    note_own(alloc, events, observation);
+    observation.fails_after(is_failing)
+}
+
+// Writes that the store works again, where it does.
+fn note_recovery<E: Write + Drop>(
+    alloc: Global,
+    events: &mut EventLog<E>,
+    is_failing: bool,
+    observation: &Observation,
+)
+    ensures level { events.new.level ≡ events.old.level }
+    ensures noted { NotesAll events.old.level (E.contents events.old.writer)
+        (E.contents events.new.writer)
+        (recovery_lines events.old.level is_failing observation.now) }
+{
+    if events.is_on() && is_failing && observation.was_served() {
+        events.note(EventLine::new(alloc, "recovered"));
+    }
+}
+
+// Writes the connection's own line, where the level wants it.
+fn note_own<E: Write + Drop>(alloc: Global, events: &mut EventLog<E>, observation: &Observation)
+    ensures level { events.new.level ≡ events.old.level }
+    ensures noted { NotesAll events.old.level (E.contents events.old.writer)
+        (E.contents events.new.writer) (own_lines events.old.level observation.now) }
+{
+    let is_noted = match events.level {
+        Level::Off => false,
+        Level::Usual => !observation.is_accepted(),
+        Level::All => true,
+    };
+    if is_noted {
+        events.note(connection_line(alloc, observation));
+    }
+}

@@ -1,0 +1,102 @@
+//! The event line at a server's start: which file was opened, and how much it holds.
+ghost use Rattle.std.specs.Prelude.{◌≡◌, ◌++◌, IfOk};
+ghost use Rattle.job_facts.specs.Store.{Stays};
+ghost use Rattle.event_lines.specs.Notes.{NotesAll};
+ghost use Rattle.event_lines.specs.Views.{text_of};
+ghost use Rattle.server.specs.Openings.{AreHoldings, count_pair, opening_line, opening_lines};
+ghost use Rattle.server.specs.declared.opening.Holdings.{Holdings as HoldingsValue};
+
+use event_lines::{EventLine, EventLog};
+use job_facts::ServerStore;
+use std::alloc::{AllocError, Global};
+use std::io::Write;
+
+/// The file that a server's store is in, and how it was found.
+#[derive(Clone, Copy, Debug)]
+pub struct Opened<'a> {
+    /// Its path.
+    pub path: &'a [u8],
+    /// It was made.
+    pub is_new: bool,
+    /// A write-ahead log with frames stood beside it, which was taken in.
+    pub has_log: bool,
+}
+
+/// How much a store holds; `None` where it could not be read.
+#[derive(Clone, Copy, Debug)]
+pub struct Holdings {
+    pub batches: Option<u64>,
+    pub sessions: Option<u64>,
+    pub replies: Option<u64>,
+}
+
+/// Writes the event line of the store's file. Where none are written, nothing is read for it.
+pub(crate) fn note_opening<S: ServerStore, E: Write + Drop>(
+    alloc: Global,
+    store: &mut S,
+    events: &mut EventLog<E>,
+    opened: &Opened<'_>,
+)
+    ensures stays { Stays (S.state store.old) (S.state store.new) }
+    ensures level { events.new.level ≡ events.old.level }
+    ensures noted { (h : HoldingsValue) × AreHoldings (S.state store.old) (S.state store.new) h
+        × NotesAll events.old.level (E.contents events.old.writer) (E.contents events.new.writer)
+        (opening_lines events.old.level opened.now h) }
+{
+    if !events.is_on() {
+        return;
+    }
+    let held = if opened.is_new {
+        NOTHING
+    } else {
+        read_holdings(store)
+    };
+    events.note(opening_line(alloc, opened, &held));
+}
+
+const NOTHING: Holdings = Holdings {
+    batches: None,
+    sessions: None,
+    replies: None,
+};
+
+// How much a store holds, as far as it can be read.
+fn read_holdings<S: ServerStore>(store: &mut S) -> Holdings
+    ensures stays { Stays (S.state store.old) (S.state store.new) }
+    ensures value { AreHoldings (S.state store.old) (S.state store.new) result }
+{
+    Holdings {
+        batches: store.batch_count().ok(),
+        sessions: store.session_count().ok(),
+        replies: store.reply_count().ok(),
+    }
+}
+
+fn opening_line(
+    alloc: Global,
+    opened: &Opened<'_>,
+    held: &Holdings,
+) -> Result<EventLine, AllocError>
+    ensures { IfOk result (λ line. text_of line ≡ opening_line opened.now held.now) }
+{
+    if opened.is_new {
+        return EventLine::new(alloc, "made")?.quoted("db", opened.path);
+    }
+    let log = if opened.has_log { "taken" } else { "none" };
+    let line = EventLine::new(alloc, "opened")?
+        .quoted("db", opened.path)?
+        .word("log", log)?;
+    let line = with_count(line, "batches", held.batches)?;
+    let line = with_count(line, "sessions", held.sessions)?;
+    with_count(line, "replies", held.replies)
+}
+
+// With a count, where it could be read.
+fn with_count(line: EventLine, key: &str, count: Option<u64>) -> Result<EventLine, AllocError>
+    ensures { IfOk result (λ more. text_of more ≡ text_of line ++ count_pair key.now count) }
+{
+    match count {
+        Some(number) => line.number(key, number),
+        None => Ok(line),
+    }
+}

@@ -1,0 +1,106 @@
+//! A server from its first line to its last.
+ghost use Rattle.std.specs.Prelude.{◌≡◌, IfErr, List, OnOk, Result, is_some, length};
+ghost use Rattle.job_facts.specs.declared.store.StoreFault.{StoreFault as StoreFaultValue};
+ghost use Rattle.server.specs.Exchanges.{Exchange, Moves, ServesAll};
+ghost use Rattle.server.specs.declared.observation.Observation.{Observation as Observed};
+ghost use Rattle.server.specs.Openings.{NotesClose};
+ghost use Rattle.server.specs.ObservedRuns.{IsStopOf, NotesRun, ObservesAll};
+ghost use Rattle.server.specs.ServerLines.{WritesFirst, WritesLast, WritesLines};
+
+use crate::closing::close;
+use crate::connections::{Connections, NextFault};
+use crate::opening::{Opened, note_opening};
+use crate::sequence::{Run, serve_connections};
+use crate::stopping::{ServeStop, write_listening, write_served};
+use event_lines::EventLog;
+use job_facts::ServerStore;
+use reply_store::left_in_turn;
+use std::alloc::Global;
+use std::io::Write;
+
+/// Writes the port that it listens on, serves so many connections, one after the other, closes the
+/// store, and writes how many they were. Beside these two lines it writes the event lines of the
+/// file, of the connections and of the close. Errors: one of the two lines can't be written, memory
+/// is refused, there is no next connection, or the store can't be closed; what was served stands,
+/// and the store is closed all the same. What can't be written of event lines is no error.
+pub fn serve_and_tell<S: ServerStore, C: Connections, W: Write, E: Write + Drop>(
+    alloc: Global,
+    store: S,
+    connections: &mut C,
+    writer: &mut W,
+    events: &mut EventLog<E>,
+    opened: &Opened<'_>,
+    port: u16,
+    turns: u32,
+) -> Result<(), ServeStop>
+    ensures served { (s : S) × (es : List Exchange)
+        × Moves (C.queue connections.old) (C.queue connections.new) es
+        × ServesAll (S.state store) (S.state s) es
+        × WritesLines (S.closed s) port turns (length es) (W.contents writer.old)
+        (W.contents writer.new) result
+        × NotesRun (S.closed s) (S.state store) (S.state s) (is_some (C.queue connections.old))
+        opened.now es result events.old.level (E.contents events.old.writer)
+        (E.contents events.new.writer) }
+    ensures cause { IfErr result (λ stop. stop ≡ ServeStop.Next
+        → C.refuses connections.new NextFault.Device) }
+{
+    left_in_turn::<S>();
+    let mut store = store;
+    note_opening(alloc, &mut store, events, opened);
+    let run = serve_listening(alloc, &mut store, connections, writer, events, port, turns);
+    finish(alloc, store, run, events, writer, turns)
+}
+
+// The first line, and then the connections.
+fn serve_listening<S: ServerStore, C: Connections, W: Write, E: Write + Drop>(
+    alloc: Global,
+    store: &mut S,
+    connections: &mut C,
+    writer: &mut W,
+    events: &mut EventLog<E>,
+    port: u16,
+    turns: u32,
+) -> Run
+    ensures served { (es : List Exchange) × (os : List Observed)
+        × ObservesAll S.state store.old store.new (C.queue connections.old)
+        (C.queue connections.new) events.old.level (E.contents events.old.writer)
+        (E.contents events.new.writer) es os × (length es ≡ result.count) }
+    ensures writes { WritesFirst port turns result.count (W.contents writer.old)
+        (W.contents writer.new) result.outcome }
+    ensures cause { IfErr result.outcome (λ stop. stop ≡ ServeStop.Next
+        → C.refuses connections.new NextFault.Device) }
+    ensures level { events.new.level ≡ events.old.level }
+{
+    match write_listening(alloc, u32::from(port), writer) {
+        Ok(()) => serve_connections(alloc, store, connections, events, turns),
+        Err(stop) => Run {
+            count: 0,
+            outcome: Err(stop),
+        },
+    }
+}
+
+// Closes the store, and then writes the last line, where all connections were served and it was
+// closed.
+fn finish<S: ServerStore, W: Write, E: Write + Drop>(
+    alloc: Global,
+    store: S,
+    run: Run,
+    events: &mut EventLog<E>,
+    writer: &mut W,
+    turns: u32,
+) -> Result<(), ServeStop>
+    ensures writes { WritesLast (S.closed store) turns run.outcome (W.contents writer.old)
+        (W.contents writer.new) result }
+    ensures noted { (closing : Result (Unit {0}) StoreFaultValue)
+        × OnOk run.outcome (IsStopOf result closing)
+        × NotesClose (S.closed store) run.count events.old.level (E.contents events.old.writer)
+        (E.contents events.new.writer) closing }
+{
+    let closing = close(alloc, store, events, run.count);
+    run.outcome?;
+    match closing {
+        Ok(()) => write_served(alloc, turns, writer),
+        Err(fault) => Err(ServeStop::Store { fault }),
+    }
+}

@@ -1,3 +1,0 @@
-pub mod ServerLinesLemmas
-pub mod OpeningLemmas
-pub mod RunLemmas

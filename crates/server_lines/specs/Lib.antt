@@ -1,3 +1,0 @@
-pub mod ServerLines
-pub mod Openings
-pub mod Runs
