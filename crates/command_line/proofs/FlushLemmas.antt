@@ -10,7 +10,7 @@ use Rattle.plan_print.specs.declared.plan.PlanStop.TheVariants as plan
 use Rattle.job_facts.specs.Store.{State}
 use Rattle.job_facts.specs.declared.store.StoreFault.{StoreFault}
 use Rattle.job_facts.specs.declared.store.StoreFault.TheVariants as fault
-use Rattle.shop_floor.specs.Floors.{Floor}
+use Rattle.drill.specs.Floors.{Floor}
 use Rattle.drill.specs.Steps.{Did}
 use Rattle.drill.specs.Ends.{EndsAt, IsWritten, Runs, printed, unopened}
 use Rattle.drill.specs.declared.stop.DrillStop.{DrillStop}

@@ -2,8 +2,8 @@
 use Rattle.std.proofs.Common.{◌≡◌, ℕ, List, Option, Some, sym, subst}
 use Rattle.job_facts.specs.Store.{State}
 use Rattle.feeder.specs.declared.world.Stop.{Stop}
-use Rattle.shop_floor.specs.declared.sent.Packet.{Packet}
-use Rattle.shop_floor.specs.Floors.{Floor, packet_at}
+use Rattle.drill.specs.declared.sent.Packet.{Packet}
+use Rattle.drill.specs.Floors.{Floor, packet_at}
 use Rattle.drill.specs.declared.delivery.Delivery.{Delivery}
 use Rattle.drill.specs.Scripts.{asked}
 use Rattle.drill.specs.Steps.{Asks, AsksBy, Brings, Delivers, Did}

@@ -14,7 +14,7 @@ use Rattle.text_io.specs.Inputs.{Tells}
 use Rattle.text_io.specs.Written.{AppendsBeginning}
 use Rattle.text_io.specs.declared.reading.ReadFault.{ReadFault}
 use Rattle.text_io.specs.declared.reading.ReadFault.TheVariants as read
-use Rattle.shop_floor.specs.Floors.{Floor, empty_floor}
+use Rattle.drill.specs.Floors.{Floor, empty_floor}
 use Rattle.drill.specs.declared.stop.DrillStop.{DrillStop}
 use Rattle.drill.specs.declared.stop.DrillStop.TheVariants as stop
 use Rattle.drill.specs.Steps.{Did, Steps}

@@ -3,7 +3,7 @@ use Rattle.std.specs.Prelude.{ℕ, List, bytes_eq, codes, Option, Some, None, op
 use Rattle.text_io.specs.Lines.{word_of}
 use Rattle.feeder.specs.declared.world.Stop.{Stop}
 use Rattle.feeder.specs.declared.world.Stop.TheVariants as stop
-use Rattle.shop_floor.specs.Turns.{count_of}
+use Rattle.drill.specs.Turns.{count_of}
 use Rattle.drill.specs.declared.delivery.Delivery.{Delivery}
 
 -- whether the server stops, before the commit or behind it

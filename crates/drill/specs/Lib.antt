@@ -1,3 +1,5 @@
+pub mod Turns
+pub mod Floors
 pub mod Scripts
 pub mod Deliveries
 pub mod Steps

@@ -9,10 +9,10 @@ use Rattle.server.specs.declared.served.End.TheVariants.{Answered}
 use Rattle.server.specs.Exchanges.{Exchange, Serves}
 use Rattle.feeder.specs.declared.world.Stop.{Stop}
 use Rattle.feeder.specs.declared.world.Stop.TheVariants as stop
-use Rattle.shop_floor.specs.declared.sent.Packet.{Packet}
-use Rattle.shop_floor.specs.declared.turn.Turn.{Turn}
-use Rattle.shop_floor.specs.Floors.{Floor, Turned, Turns, packet_at, with_reply}
-use Rattle.shop_floor.specs.Turns.{turn_of}
+use Rattle.drill.specs.declared.sent.Packet.{Packet}
+use Rattle.drill.specs.declared.turn.Turn.{Turn}
+use Rattle.drill.specs.Floors.{Floor, Turned, Turns, packet_at, with_reply}
+use Rattle.drill.specs.Turns.{turn_of}
 use Rattle.drill.specs.declared.delivery.Delivery.{Delivery}
 use Rattle.drill.specs.declared.step.Did.{Did as DidValue}
 use Rattle.drill.specs.Deliveries.{delivery_of}

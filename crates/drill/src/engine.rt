@@ -1,13 +1,13 @@
 //! The engine of a drill.
 ghost use Rattle.std.specs.Prelude.{◌≡◌, ◌+◌, ◌≤◌, ◌∷◌, IfErr, IfOk, Err, drop, length, map};
 ghost use Rattle.std.specs.Prelude.{true};
-ghost use Rattle.shop_floor.specs.Floors.{empty_floor};
+ghost use Rattle.drill.specs.Floors.{empty_floor};
 ghost use Rattle.drill.specs.Ends.{DrillsOver, Goes, GoesOn, Runs};
 
 use crate::step::step;
 use crate::stop::DrillStop;
 use job_facts::{Reopen, StoreFault};
-use shop_floor::Floor;
+use crate::floor::Floor;
 use std::alloc::Global;
 use std::io::{Read, Write};
 use text_io::{lines_of, read_whole, write_text};

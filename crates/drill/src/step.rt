@@ -1,7 +1,7 @@
 //! What one line of a drill does, and prints.
 ghost use Rattle.std.specs.Prelude.{◌≡◌, ◌++◌, ◌≤◌, List, ℕ, IfOk, IfSome, OnOk, Some, length, map};
-ghost use Rattle.shop_floor.specs.Floors.{Floor as FloorState};
-ghost use Rattle.shop_floor.specs.Turns.{IsTurn};
+ghost use Rattle.drill.specs.Floors.{Floor as FloorState};
+ghost use Rattle.drill.specs.Turns.{IsTurn};
 ghost use Rattle.drill.specs.Deliveries.{delivery_of};
 ghost use Rattle.drill.specs.Steps.{Answers, Asks, ByDelivery, Delivers, Moves, Steps, delivered};
 ghost use Rattle.drill.specs.Steps.{did_of, did_view, reply_line, reply_number, stopped};
@@ -12,7 +12,9 @@ use feeder::Stop;
 use itoa::Buffer;
 use job_facts::JobStore;
 use server::{End, MemoryReader, serve_one};
-use shop_floor::{Floor, Turn, text_line, turn_of};
+use crate::floor::Floor;
+use crate::texts::text_line;
+use crate::turn::{Turn, turn_of};
 use std::alloc::{AllocError, Global};
 use store_data::{Bytes, Name};
 use wire::reply_parts;

@@ -1,7 +1,7 @@
 use Rattle.std.proofs.Common.{◌+◌, ◌-◌, ap, arith, drop, length, refl, take}
 use Rattle.std.proofs.lemmas.List.{length-drop}
 use Rattle.std.proofs.lemmas.Result.{err_from_is_err_and}
-use Rattle.shop_floor.specs.Floors.{empty_floor}
+use Rattle.drill.specs.Floors.{empty_floor}
 use Rattle.drill.proofs.Runs.{line_last, line_more}
 use Rattle.drill.proofs.ScriptLemmas.{behind_is}
 use Rattle.drill.proofs.engine.do_lines.Goals as goal

@@ -1,5 +1,5 @@
 use Rattle.std.proofs.Common.{◌≤◌, ◌-◌, drop, length, map}
-use Rattle.shop_floor.specs.Floors.{empty_floor}
+use Rattle.drill.specs.Floors.{empty_floor}
 use Rattle.drill.specs.Ends.{Goes}
 use Rattle.drill.proofs.ScriptLemmas.{text_of}
 use Rattle.drill.proofs.engine.do_lines.Given as goal

@@ -1,5 +1,5 @@
 use Rattle.std.proofs.Common.{◌∙◌, ◌++◌, ℕ, List, Option, Some, ap, drop, false, map, refl, sym}
-use Rattle.shop_floor.specs.Floors.{Floor}
+use Rattle.drill.specs.Floors.{Floor}
 use Rattle.drill.specs.Steps.{Did, reply_line}
 use Rattle.drill.proofs.LineLemmas.{asks_by}
 use Rattle.drill.proofs.ScriptLemmas.{text_of}

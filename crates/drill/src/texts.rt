@@ -3,7 +3,7 @@ ghost use Rattle.std.specs.Prelude.{◌≡◌, IfOk};
 ghost use Rattle.text_io.specs.Written.{line};
 ghost use Rattle.feeder.specs.Table.{Apply, Eject};
 ghost use Rattle.feeder.specs.Views.{act_of};
-ghost use Rattle.shop_floor.specs.Floors.{act_text, packet_text};
+ghost use Rattle.drill.specs.Floors.{act_text, packet_text};
 
 use feeder::Act;
 use itoa::Buffer;

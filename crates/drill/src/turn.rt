@@ -1,7 +1,7 @@
 //! The lines of a drill that move a machine or a reply.
 ghost use Rattle.std.specs.Prelude.{◌≡◌, ◌≤◌, IfSome};
-ghost use Rattle.shop_floor.specs.Turns.{IsTurn, card_of, count_of, insert_of, machine_of};
-ghost use Rattle.shop_floor.specs.Turns.{power_of, turn_by, turn_of};
+ghost use Rattle.drill.specs.Turns.{IsTurn, card_of, count_of, insert_of, machine_of};
+ghost use Rattle.drill.specs.Turns.{power_of, turn_by, turn_of};
 
 use text_io::{number_within, status_word, word_of};
 use store_data::Name;

@@ -11,11 +11,11 @@ use Rattle.wire.specs.Sending.{sending_of}
 use Rattle.feeder.specs.declared.feeder.InsertFault.{InsertFault}
 use Rattle.feeder.specs.Reading.{IsRead}
 use Rattle.feeder.specs.Table.{Act, Apply, Done, Eject, FeederState, Send, Wait, after_card, after_insert, after_reply, asked, started}
-use Rattle.shop_floor.specs.declared.sent.Boot.{Boot}
-use Rattle.shop_floor.specs.declared.sent.Packet.{Packet}
-use Rattle.shop_floor.specs.declared.sent.Returned.{Returned}
-use Rattle.shop_floor.specs.declared.turn.Turn.{Turn}
-use Rattle.shop_floor.specs.declared.turn.Turn.TheVariants as turn
+use Rattle.drill.specs.declared.sent.Boot.{Boot}
+use Rattle.drill.specs.declared.sent.Packet.{Packet}
+use Rattle.drill.specs.declared.sent.Returned.{Returned}
+use Rattle.drill.specs.declared.turn.Turn.{Turn}
+use Rattle.drill.specs.declared.turn.Turn.TheVariants as turn
 
 -- the feeders of the machines that are there, the boots that they used, and all packets and replies, the oldest first
 pub record Floor : Type 0 where

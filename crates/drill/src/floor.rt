@@ -2,10 +2,10 @@
 ghost use Rattle.std.specs.Prelude.{◌≡◌, ◌≤◌, ◌<◌, ◌^◌, IfOk, IfSome, OnOk, length, option_map};
 ghost use Rattle.std.specs.List.{list_any};
 ghost use Rattle.feeder.specs.Table.{asked, started};
-ghost use Rattle.shop_floor.specs.Floors.{GoesBack, backed, carded, comes, empty_floor, inserted, is_boot};
-ghost use Rattle.shop_floor.specs.Floors.{packet_at, packet_of, place_of, powered, sent, turned};
-ghost use Rattle.shop_floor.specs.Floors.{Turns, with_reply};
-ghost use Rattle.shop_floor.specs.Turns.{IsTurn};
+ghost use Rattle.drill.specs.Floors.{GoesBack, backed, carded, comes, empty_floor, inserted, is_boot};
+ghost use Rattle.drill.specs.Floors.{packet_at, packet_of, place_of, powered, sent, turned};
+ghost use Rattle.drill.specs.Floors.{Turns, with_reply};
+ghost use Rattle.drill.specs.Turns.{IsTurn};
 
 use crate::sent::{Boot, Packet, Returned};
 use crate::texts::{act_line, packet_line, text_line};
@@ -27,7 +27,7 @@ pub struct Floor {
 }
 
 impl Model for Floor {
-    ghost use Rattle.shop_floor.specs.Floors.{Floor as FloorState};
+    ghost use Rattle.drill.specs.Floors.{Floor as FloorState};
 
     ghost Value = { FloorState };
 

@@ -3,8 +3,8 @@ use Rattle.std.specs.Prelude.{◌≤◌, ◌<◌, ◌^◌, ◌-◌, ℕ, List, b
 use Rattle.store_data.specs.Name.{is_name}
 use Rattle.text_io.specs.Lines.{word_of}
 use Rattle.text_io.specs.Numbers.{number_within, status_word}
-use Rattle.shop_floor.specs.declared.turn.Turn.{Turn}
-use Rattle.shop_floor.specs.declared.turn.Turn.TheVariants as turn
+use Rattle.drill.specs.declared.turn.Turn.{Turn}
+use Rattle.drill.specs.declared.turn.Turn.TheVariants as turn
 
 -- ---- words
 
