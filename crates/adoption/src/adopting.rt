@@ -8,11 +8,11 @@ ghost use Rattle.table_reads.specs.Holding.{HoldsSoundRows, IsOfVersion};
 ghost use Rattle.adoption.specs.Adopts.{Adopts};
 ghost use Rattle.adoption.specs.Comes.{Comes};
 
+use crate::auditing::{Found, audit};
 use crate::faults::OpenFault;
 use crate::settling::settle;
 use sqlite::{Alter, Connection};
 use std::alloc::Global;
-use crate::auditing::{Found, audit};
 use table_reads::rows_are_held_in_any_order;
 
 /// Takes a database whose tables, of any version, hold the rows of sound contents: they then stand

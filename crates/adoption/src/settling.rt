@@ -7,11 +7,11 @@ ghost use Rattle.adoption.specs.Adopts.{Settles};
 ghost use Rattle.adoption.specs.Comes.{Comes};
 
 use crate::ours::can_stay;
+use remaking::remake;
 use sql_tables::Version;
 use sqlite::{Alter, Connection, Error};
 use std::alloc::Global;
 use table_reads::our_rows_are_an_image;
-use remaking::remake;
 use table_rows::Tables;
 
 /// Tables that stand as our own are made stay as they are. Others are made anew, and their rows put

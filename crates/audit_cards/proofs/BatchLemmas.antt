@@ -27,14 +27,14 @@ use Rattle.table_rows.specs.Tables.{StoredBatch, StoredRecord, StoredSession, Ta
 use Rattle.table_rows.specs.After.{new_grouping}
 use Rattle.image_laws.specs.Decided.{batch_of_row}
 use Rattle.table_rows.specs.Keys.{is_batch, is_grouping_of, is_record_at, is_record_of}
-use Rattle.rows_answer.proofs.Finding.{find-filter}
-use Rattle.rows_answer.proofs.TotalRows.{sum_by-map}
+use Rattle.row_laws.proofs.Finding.{find-filter}
+use Rattle.row_laws.proofs.TotalRows.{sum_by-map}
 use Rattle.audit_laws.specs.Audited.{IsAuditedBatch, IsAuditedRecord, IsAuditedSession, file_groupings, file_keys, file_records, file_rows, grouping_of, is_session_at, is_session_of, key_of, record_states_of, session_states_of}
 use Rattle.audit_cards.specs.Files.{CountsBy, HasFile, IsFileOf, IsUnread, groupings_in, keys_of, names_in, records_so, sessions_so}
 use Rattle.audit_cards.specs.Sessions.{AreByRecord, HasRows, IsAuditedFile, IsAuditedWith}
 use Rattle.audit_cards.proofs.FileLemmas.{batch_of, place_of, rows_are_read}
-use Rattle.ordered_rows.proofs.SameLists.{get_or-map}
-use Rattle.ordered_rows.proofs.Pieces.{All-passed, filter-both, filter-filter}
+use Rattle.audit_order.proofs.SameLists.{get_or-map}
+use Rattle.audit_order.proofs.Pieces.{All-passed, filter-both, filter-filter}
 
 module _ (t : Tables) (b : StoredBatch) where
   -- ---- the file

@@ -4,9 +4,9 @@ use Rattle.std.specs.Prelude.{IsPermutation, filter}
 use Rattle.std.proofs.lemmas.List.Elements.{filter_agree}
 use Rattle.table_rows.specs.Tables.{StoredSession}
 use Rattle.audit_laws.specs.Audited.{AreOrderedBy, is_session_at}
-use Rattle.ordered_rows.specs.Order.{has_key}
+use Rattle.audit_order.specs.Order.{has_key}
 use Rattle.audit_cards.specs.Sessions.{AreByRecord}
-use Rattle.ordered_rows.proofs.OrderLemmas.{first_rising, second_rising}
+use Rattle.audit_order.proofs.OrderLemmas.{first_rising, second_rising}
 
 and-true : (b : Bool) → (b && true) ≡ b
 and-true true = refl

@@ -19,12 +19,12 @@ use Rattle.job_facts.specs.States.{product_named, rows_of, rows_of_record}
 use Rattle.table_rows.specs.Tables.{StoredBatch, StoredRecord, StoredSession, Tables}
 use Rattle.image_laws.specs.Decided.{batch_of_row}
 use Rattle.table_rows.specs.Keys.{is_batch, is_record_at, is_record_of}
-use Rattle.rows_answer.proofs.Finding.{find-filter}
+use Rattle.row_laws.proofs.Finding.{find-filter}
 use Rattle.audit_laws.specs.Audited.{file_rows, is_session_at, key_of}
 use Rattle.audit_cards.specs.Files.{HasFile, IsFileOf, names_in}
 use Rattle.audit_cards.specs.Sessions.{HasRows}
 use Rattle.audit_cards.proofs.RowLemmas.{keys_at}
-use Rattle.ordered_rows.proofs.SameLists.{get_or-map}
+use Rattle.audit_order.proofs.SameLists.{get_or-map}
 
 -- the rows of a batch, where its file is read
 pub rows_are_read : (products : List Product) (b : Batch) (p : Product) (rows : List Row) → product_named products b.product ≡ Some p → IsFileOf p b.raw rows → rows_of products b ≡ rows

@@ -15,7 +15,7 @@ use Rattle.job_facts.specs.Sound.{IsSoundRecord, has_card}
 use Rattle.job_facts.specs.States.{is_good, is_running, is_spoiled, state_by}
 use Rattle.table_rows.specs.Tables.{StoredBatch, StoredRecord, StoredSession, Tables}
 use Rattle.table_rows.specs.Keys.{is_batch, is_record_at}
-use Rattle.rows_answer.proofs.TotalRows.{sum_by-map}
+use Rattle.row_laws.proofs.TotalRows.{sum_by-map}
 use Rattle.audit_laws.specs.Audited.{IsAuditedRecord, is_session_at, is_withdrawn, states_at}
 use Rattle.audit_cards.specs.Sessions.{HasPlan, HasRows, IsSoundCount, StandsBy, state_by_count, states_in}
 

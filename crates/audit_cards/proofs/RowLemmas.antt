@@ -17,12 +17,12 @@ use Rattle.store_data.proofs.IsPlanLemmas.{All-from_list_any}
 use Rattle.step_laws.proofs.BlankSums.{bytes_eq_either}
 use Rattle.table_rows.specs.Tables.{StoredGrouping, StoredRecord, StoredRemake, StoredSession, StoredWord, Tables}
 use Rattle.table_rows.specs.After.{new_grouping}
-use Rattle.rows_answer.proofs.RecordRows.{name_at}
+use Rattle.row_laws.proofs.RecordRows.{name_at}
 use Rattle.audit_laws.specs.Audited.{placed_words, turns_of, words_of}
 use Rattle.audit_cards.specs.Cards.{status_words, word_at, words_placed}
 use Rattle.audit_cards.specs.Files.{IsNamed, groupings_in, keys_of, names_in}
 use Rattle.audit_cards.specs.Sessions.{turn_of}
-use Rattle.ordered_rows.proofs.SameLists.{get_or-map}
+use Rattle.audit_order.proofs.SameLists.{get_or-map}
 
 -- ---- names
 

@@ -15,7 +15,7 @@ use Rattle.table_rows.specs.Tables.{StoredBatch, StoredRecord, StoredRemake, Sto
 use Rattle.image_laws.specs.Decided.{batch_of_row}
 use Rattle.table_rows.specs.Keys.{is_batch, is_grouping_of, is_record_at, is_record_of}
 use Rattle.audit_laws.specs.Audited.{IsAuditedBatch, IsAuditedRecord, IsAuditedSession, file_groupings, file_keys, file_rows, is_session_at, is_session_of, is_withdrawn, key_of}
-use Rattle.ordered_rows.specs.Order.{lots_of}
+use Rattle.audit_order.specs.Order.{lots_of}
 
 -- the record at this place of the batch with this id has this plan
 pub record HasPlan (t : Tables) (id place : ℕ) (b : StoredBatch) (plan : Plan) : Type 0 where

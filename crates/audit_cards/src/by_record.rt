@@ -4,8 +4,8 @@ ghost use Rattle.std.specs.List.Sorted.{IsNonDecreasingBy};
 ghost use Rattle.table_rows.specs.Tables.{StoredSession as SessionValue};
 ghost use Rattle.audit_cards.specs.Sessions.{AreByRecord};
 
+use audit_order::{InOrder, Ranged, sort_rows};
 use job_facts::SessionState;
-use ordered_rows::{InOrder, Ranged, sort_rows};
 use std::alloc::{AllocError, Global};
 use std::marker::Model;
 use table_rows::StoredSession;

@@ -4,7 +4,7 @@ ghost use Rattle.table_rows.specs.Tables.{StoredSession as SessionValue};
 ghost use Rattle.job_facts.specs.Sound.{has_card};
 ghost use Rattle.job_facts.specs.States.{same_session_state};
 ghost use Rattle.audit_laws.specs.Audited.{IsAuditedRecord, IsAuditedSession, is_withdrawn};
-ghost use Rattle.ordered_rows.specs.Order.{AreReady};
+ghost use Rattle.audit_order.specs.Order.{AreReady};
 ghost use Rattle.audit_cards.specs.Sessions.{HasPlan, HasRows, IsSoundCount, StandsBy, state_by_count};
 ghost use Rattle.audit_cards.specs.Sessions.{states_in};
 

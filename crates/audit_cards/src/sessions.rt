@@ -4,12 +4,12 @@ ghost use Rattle.job_facts.specs.Sound.{IsName};
 ghost use Rattle.job_facts.specs.States.{lot_of};
 ghost use Rattle.audit_laws.specs.Audited.{IsAuditedSession, words_of};
 ghost use Rattle.audit_cards.specs.Cards.{status_words};
-ghost use Rattle.ordered_rows.specs.Order.{AreReady, lots_of};
+ghost use Rattle.audit_order.specs.Order.{AreReady, lots_of};
 ghost use Rattle.audit_cards.specs.Sessions.{HasPlan, IsFor};
 
 use crate::cards::{card_after, state_of};
+use audit_order::{is_name, lot_of, range_of};
 use job_facts::SessionState;
-use ordered_rows::{is_name, lot_of, range_of};
 use store_data::{Cursor, RecordPlan};
 use table_rows::{StoredBatch, StoredLot, StoredSession, StoredWord, Tables};
 

@@ -1,7 +1,7 @@
 //! The tables' batches with all that belongs to them, and the tables' remakes.
 ghost use Rattle.std.specs.Prelude.{◌≡◌, ◌↔◌, IfOk, IsTrue, All, flat_map};
 ghost use Rattle.audit_laws.specs.Audited.{turns_of};
-ghost use Rattle.ordered_rows.specs.Order.{AreReady};
+ghost use Rattle.audit_order.specs.Order.{AreReady};
 ghost use Rattle.audit_cards.specs.Sessions.{AreByRecord, IsAuditedFile};
 
 use crate::batches::is_audited_file;

@@ -3,7 +3,7 @@ ghost use Rattle.std.specs.Prelude.{◌≡◌, ◌↔◌, ◌++◌, List, IfSome
 ghost use Rattle.table_rows.specs.Tables.{StoredWord as WordValue};
 ghost use Rattle.audit_laws.specs.Audited.{placed_words};
 ghost use Rattle.audit_cards.specs.Cards.{word_at, words_placed};
-ghost use Rattle.ordered_rows.specs.Order.{AreReady};
+ghost use Rattle.audit_order.specs.Order.{AreReady};
 
 use crate::sessions::words_of;
 use table_rows::{StoredSession, StoredWord, Tables};

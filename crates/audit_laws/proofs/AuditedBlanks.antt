@@ -17,8 +17,8 @@ use Rattle.image_laws.proofs.Found.{some_there}
 use Rattle.image_laws.proofs.Lists.{unmoved}
 use Rattle.image_laws.proofs.Lookups.{none_pass}
 use Rattle.image_laws.specs.Decided.{discarded_rows}
-use Rattle.rows_answer.proofs.BlankRows.{lots_are, serials_are}
-use Rattle.rows_answer.proofs.Finding.{AllPairs-from_map, filter_all, unnumbered}
+use Rattle.row_laws.proofs.BlankRows.{lots_are, serials_are}
+use Rattle.row_laws.proofs.Finding.{AllPairs-from_map, filter_all, unnumbered}
 use Rattle.audit_laws.specs.Audited.{IsAuditedBlank, IsAuditedLot, opened_rows}
 
 module _ (c : Contents) (sound : IsSound c.facts) where

@@ -17,7 +17,7 @@ use Rattle.image_laws.proofs.Lists.{All-joined}
 use Rattle.table_rows.specs.Tables.{StoredBatch, StoredRecord, Tables}
 use Rattle.image_laws.specs.Image.{batches_by_id, image, place_in, placed_records, records_in, stored_batch, stored_batches, stored_record, stored_records}
 use Rattle.image_laws.proofs.Sets.{withdrawn_stands}
-use Rattle.rows_answer.proofs.RecordRows.{name_at}
+use Rattle.row_laws.proofs.RecordRows.{name_at}
 use Rattle.audit_laws.specs.Audited.{IsAuditedBatch, IsAuditedRecord, is_withdrawn, record_states_of, states_at}
 use Rattle.audit_laws.proofs.AuditedPlaces.{IsOwn, IsOwnRecord, batch_record_states, batch_session_states, own_batches, own_records, record_session_states}
 

@@ -14,8 +14,8 @@ use Rattle.image_laws.proofs.Lists.{flat_map_same}
 use Rattle.image_laws.proofs.Lookups.{IsOfOne, none_pass, one_listed}
 use Rattle.image_laws.proofs.Places.{map_joined}
 use Rattle.image_laws.specs.Decided.{batch_of_row}
-use Rattle.rows_answer.proofs.Finding.{filter_all, unnumbered}
-use Rattle.rows_answer.proofs.RecordRows.{equal_self}
+use Rattle.row_laws.proofs.Finding.{filter_all, unnumbered}
+use Rattle.row_laws.proofs.RecordRows.{equal_self}
 use Rattle.audit_laws.specs.Audited.{file_groupings, file_keys, key_of, placed_words, turns_of, words_of}
 use Rattle.audit_laws.proofs.AuditedPlaces.{All-placed}
 

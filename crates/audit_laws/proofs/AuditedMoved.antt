@@ -20,7 +20,7 @@ use Rattle.table_rows.specs.Tables.{StoredBatch, StoredBlank, StoredLot, StoredS
 use Rattle.image_laws.specs.Image.{place_in}
 use Rattle.image_laws.proofs.OneRecord.{turned}
 use Rattle.image_laws.specs.Decided.{batch_of_row, discarded_rows}
-use Rattle.rows_answer.proofs.RecordRows.{name_alone}
+use Rattle.row_laws.proofs.RecordRows.{name_alone}
 use Rattle.audit_laws.specs.Audited.{IsAudited, IsAuditedBatch, IsAuditedBlank, IsAuditedLot, IsAuditedRecord, IsAuditedSession, file_groupings, file_keys, file_records, file_rows, opened_rows}
 use Rattle.audit_laws.proofs.InOrder.{pairs_moved}
 

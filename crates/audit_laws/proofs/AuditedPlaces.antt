@@ -23,11 +23,11 @@ use Rattle.image_laws.proofs.Lists.{All-numbered}
 use Rattle.image_laws.proofs.OneRecord.{ids, named_alone, places_in}
 use Rattle.image_laws.proofs.Sets.{numbered_there}
 use Rattle.table_rows.specs.Keys.{is_record_of}
-use Rattle.rows_answer.proofs.BatchRecords.{rows_of_batch}
-use Rattle.rows_answer.proofs.Finding.{kept_numbered, unnumbered}
-use Rattle.rows_answer.proofs.GroupingRows.{place_alike}
-use Rattle.rows_answer.proofs.LineRows.{id_alike}
-use Rattle.rows_answer.proofs.RecordRows.{names_are}
+use Rattle.row_laws.proofs.BatchRecords.{rows_of_batch}
+use Rattle.row_laws.proofs.Finding.{kept_numbered, unnumbered}
+use Rattle.row_laws.proofs.GroupingRows.{place_alike}
+use Rattle.row_laws.proofs.LineRows.{id_alike}
+use Rattle.row_laws.proofs.RecordRows.{names_are}
 use Rattle.audit_laws.specs.Audited.{is_session_at, is_session_of}
 
 -- what holds of each in its place

@@ -18,10 +18,10 @@ use Rattle.step_laws.proofs.Numbered.{session_sound}
 use Rattle.step_laws.proofs.Permuted.{at_most_one}
 use Rattle.image_laws.specs.Image.{batch_id, image, stored_batch, stored_record, stored_session, stored_sessions, stored_words}
 use Rattle.table_rows.specs.Keys.{is_running_on}
-use Rattle.rows_answer.proofs.BatchRows.{id_row}
-use Rattle.rows_answer.proofs.BlankRows.{lots_are}
-use Rattle.rows_answer.proofs.RecordRows.{place_row}
-use Rattle.rows_answer.proofs.SessionRows.{running_once}
+use Rattle.row_laws.proofs.BatchRows.{id_row}
+use Rattle.row_laws.proofs.BlankRows.{lots_are}
+use Rattle.row_laws.proofs.RecordRows.{place_row}
+use Rattle.row_laws.proofs.SessionRows.{running_once}
 use Rattle.audit_laws.specs.Audited.{IsAuditedSession, words_of}
 use Rattle.audit_laws.proofs.AuditedFiles.{own_words}
 use Rattle.audit_laws.proofs.AuditedPlaces.{All-placed}

@@ -8,7 +8,7 @@ use Rattle.store_data.proofs.RankLemmas.{All-flat_map}
 use Rattle.job_facts.specs.Facts.{Batch, Facts}
 use Rattle.table_rows.specs.Tables.{StoredBatch, StoredGrouping, StoredRecord, StoredRemake, StoredSession, StoredWord}
 use Rattle.image_laws.specs.Image.{groupings_in, placed_records, records_in, remakes_at, remakes_in, stored_batch, stored_batches, stored_grouping, stored_groupings, stored_record, stored_records, stored_remakes, stored_session, stored_sessions, stored_words, words_in}
-use Rattle.rows_answer.proofs.Finding.{AllPairs-joined, AllPairs-map, numbers_rise}
+use Rattle.row_laws.proofs.Finding.{AllPairs-joined, AllPairs-map, numbers_rise}
 use Rattle.audit_laws.proofs.InOrder.{IsBelow}
 
 -- ---- rows of what is numbered

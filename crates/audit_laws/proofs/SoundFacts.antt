@@ -18,7 +18,7 @@ use Rattle.step_laws.proofs.Permuted.{at_most_one, count_moved}
 use Rattle.table_rows.specs.Tables.{StoredBlank, StoredRecord, StoredSession, Tables}
 use Rattle.image_laws.specs.Decided.{batch_name, batch_of_row, discarded_rows, facts_of, record_name}
 use Rattle.table_rows.specs.Keys.{is_running_on}
-use Rattle.rows_answer.proofs.Finding.{once_from_count}
+use Rattle.row_laws.proofs.Finding.{once_from_count}
 use Rattle.audit_laws.specs.Audited.{IsAudited, IsAuditedBlank, IsAuditedSession, file_records, key_of, named_session, opened_rows, words_of}
 use Rattle.audit_laws.proofs.Tells.{IsToldSession}
 use Rattle.audit_laws.proofs.SoundLists.{differs, equal, same_number}

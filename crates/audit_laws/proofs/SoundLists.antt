@@ -11,7 +11,7 @@ use Rattle.std.proofs.lemmas.List.Sums.{sum_by-cons}
 use Rattle.std.proofs.lemmas.Option.{get_or_from_slice_get, none-some, same_Some, slice_get_within}
 use Rattle.table_rows.specs.Tables.{PassesOnce}
 use Rattle.image_laws.proofs.Places.{found_alone, once_of}
-use Rattle.rows_answer.proofs.Finding.{any_beside}
+use Rattle.row_laws.proofs.Finding.{any_beside}
 
 -- ---- numbers
 

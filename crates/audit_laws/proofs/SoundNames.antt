@@ -23,7 +23,7 @@ use Rattle.image_laws.specs.Decided.{batch_name, batch_of_row, batch_with, facts
 use Rattle.image_laws.proofs.Back.{found_from_is}
 use Rattle.image_laws.proofs.Sets.{numbered_there}
 use Rattle.table_rows.specs.Keys.{is_batch, is_record_at}
-use Rattle.rows_answer.proofs.Finding.{AllPairs-from_map, AllPairs-map, number_once, once_joined}
+use Rattle.row_laws.proofs.Finding.{AllPairs-from_map, AllPairs-map, number_once, once_joined}
 use Rattle.audit_laws.specs.Audited.{IsAudited, file_keys, file_records, key_of}
 use Rattle.audit_laws.proofs.SoundLists.{equal, found_at, found_each, ids_once, numbered_at, numbered_by, same_number}
 

@@ -22,7 +22,7 @@ use Rattle.image_laws.proofs.Lists.{All-joined}
 use Rattle.table_rows.specs.Tables.{StoredBatch, StoredRecord, StoredRemake, StoredSession, Tables}
 use Rattle.image_laws.specs.Decided.{batch_name, batch_of_row, closed_rows, contents_of, facts_of, record_name, remade_of_row, withdrawn_of_row, withdrawn_rows}
 use Rattle.table_rows.specs.Keys.{is_record_at}
-use Rattle.rows_answer.proofs.Finding.{AllPairs-from_map, AllPairs-map}
+use Rattle.row_laws.proofs.Finding.{AllPairs-from_map, AllPairs-map}
 use Rattle.audit_laws.specs.Audited.{IsAudited, IsAuditedBatch, IsAuditedRecord, IsAuditedSession, is_withdrawn, record_states_of, states_at, turns_of}
 use Rattle.audit_laws.proofs.Tells.{IsToldBatch, IsToldRecord}
 use Rattle.audit_laws.proofs.SoundLists.{count_alike, equal, sum_none}

@@ -19,7 +19,7 @@ use Rattle.image_laws.specs.Image.{batch_id, place_in, sessions_by_id}
 use Rattle.image_laws.specs.Decided.{batch_name, batch_of_row, facts_of, found_from, record_name, session_of_row, session_with, word_with}
 use Rattle.image_laws.proofs.Back.{found_from_is}
 use Rattle.table_rows.specs.Keys.{is_batch, is_session}
-use Rattle.rows_answer.proofs.Finding.{filter_all, find-filter, find-map, kept_joined, number_found}
+use Rattle.row_laws.proofs.Finding.{filter_all, find-filter, find-map, kept_joined, number_found}
 use Rattle.audit_laws.specs.Audited.{IsAudited, IsAuditedSession, file_records, file_rows, key_of, named_session, placed_words, words_of}
 use Rattle.audit_laws.proofs.Tells.{IsToldSession}
 use Rattle.audit_laws.proofs.SoundLists.{equal, found_at, found_each, ids_once, numbered_by}

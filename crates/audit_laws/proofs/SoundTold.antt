@@ -17,7 +17,7 @@ use Rattle.table_rows.specs.Tables.{StoredBatch, StoredRecord, StoredRemake, Sto
 use Rattle.image_laws.specs.Image.{batch_id}
 use Rattle.image_laws.specs.Decided.{batch_name, batch_of_row, closed_rows, facts_of, record_name, remade_of_row, withdrawn_of_row, withdrawn_rows}
 use Rattle.table_rows.specs.Keys.{is_batch, is_record_at, is_record_of}
-use Rattle.rows_answer.proofs.Finding.{filter_all, kept_joined, unnumbered}
+use Rattle.row_laws.proofs.Finding.{filter_all, kept_joined, unnumbered}
 use Rattle.audit_laws.specs.Audited.{IsAudited, IsAuditedRecord, IsAuditedSession, file_keys, file_records, is_session_at, is_session_of, is_withdrawn, key_of, record_states_of, session_states_of, states_at, turns_of}
 use Rattle.audit_laws.proofs.Tells.{IsToldBatch, IsToldRecord, Tells}
 use Rattle.audit_laws.proofs.SoundLists.{any_kept, count_alike, equal, same_number, sum_alone}

@@ -17,14 +17,14 @@ use Rattle.table_rows.specs.Keys.{is_batch, is_grouping_of, is_record_of}
 use Rattle.audit_laws.specs.Audited.{IsAudited, IsAuditedRecord, IsAuditedSession, file_groupings, file_keys, file_records, file_rows, grouping_of, is_session_of, key_of}
 use Rattle.audit_rows.specs.Audit.{AreFewOnce, AreOwned, IsIdOf}
 use Rattle.audit_rows.specs.Rules.{AllHold, blank_rules, card_rules, named_rules, reply_rules, rules}
-use Rattle.rows_answer.proofs.Finding.{AllPairs-from_map}
-use Rattle.ordered_rows.specs.Order.{AreReady, AreSorted, lots_of}
+use Rattle.row_laws.proofs.Finding.{AllPairs-from_map}
+use Rattle.audit_order.specs.Order.{AreReady, AreSorted, lots_of}
 use Rattle.audit_cards.specs.Sessions.{IsAuditedFile}
-use Rattle.ordered_rows.proofs.IdLemmas.{id_at}
-use Rattle.ordered_rows.proofs.OrderLemmas.{first_rising}
-use Rattle.ordered_rows.proofs.Pieces.{All-passed, by_owner, filter-map, map-flat_map, own_piece}
+use Rattle.audit_order.proofs.IdLemmas.{id_at}
+use Rattle.audit_order.proofs.OrderLemmas.{first_rising}
+use Rattle.audit_order.proofs.Pieces.{All-passed, by_owner, filter-map, map-flat_map, own_piece}
 use Rattle.audit_rows.proofs.NamedLemmas.{lots_in_range, named_once, once_named}
-use Rattle.ordered_rows.proofs.SameLists.{All-unmapped}
+use Rattle.audit_order.proofs.SameLists.{All-unmapped}
 
 some_batch : StoredBatch
 some_batch = record { id = 0; name = []; product = []; raw = []; closed = false; waiting = 0; running = 0; failed = 0; withdrawn = 0; good = 0; sessions = 0; spoiled = 0 }

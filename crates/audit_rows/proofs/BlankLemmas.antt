@@ -8,8 +8,8 @@ use Rattle.std.proofs.lemmas.List.Sorted.{IsPermutation-sym, IsPermutation-trans
 use Rattle.job_facts.specs.States.{is_in}
 use Rattle.table_rows.specs.Tables.{StoredBlank, StoredLot}
 use Rattle.image_laws.specs.Decided.{discarded_rows}
-use Rattle.rows_answer.proofs.Finding.{AllPairs-from_map, AllPairs-map}
-use Rattle.rows_answer.proofs.TotalRows.{sum_by-map}
+use Rattle.row_laws.proofs.Finding.{AllPairs-from_map, AllPairs-map}
+use Rattle.row_laws.proofs.TotalRows.{sum_by-map}
 use Rattle.audit_rows.proofs.NamedLemmas.{pairs_weaker}
 use Rattle.audit_rows.proofs.SortedLemmas.{sorted_same}
 

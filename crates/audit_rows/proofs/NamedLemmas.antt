@@ -10,9 +10,9 @@ use Rattle.store_data.specs.Sequence.{IsProduct}
 use Rattle.job_facts.specs.declared.facts.Lot.{Lot}
 use Rattle.job_facts.specs.Sound.{AreApart, AreLots, AreNamedOnce, AreProducts, IsLot, IsName}
 use Rattle.table_rows.specs.Tables.{StoredLot}
-use Rattle.rows_answer.proofs.Finding.{AllPairs-from_map, AllPairs-map}
-use Rattle.ordered_rows.specs.Order.{lots_of}
-use Rattle.ordered_rows.proofs.SameLists.{All-unmapped}
+use Rattle.row_laws.proofs.Finding.{AllPairs-from_map, AllPairs-map}
+use Rattle.audit_order.specs.Order.{lots_of}
+use Rattle.audit_order.proofs.SameLists.{All-unmapped}
 
 module _ {X : Type 0} (R S : X → X → Type 0) (gives : (x y : X) → R x y → S x y) where
   pub pairs_weaker : (xs : List X) → AllPairs R xs → AllPairs S xs

@@ -9,7 +9,7 @@ use Rattle.std.proofs.lemmas.List.Folds.{find_at}
 use Rattle.std.proofs.lemmas.Option.{none-some, same_Some, slice_get-get_or, slice_get_past}
 use Rattle.job_facts.specs.Contents.{Entry, Mark, has_mark, is_of_number, mark_of}
 use Rattle.step_laws.proofs.BlankSums.{bytes_eq_either}
-use Rattle.rows_answer.proofs.Finding.{AllPairs-from_map, AllPairs-map}
+use Rattle.row_laws.proofs.Finding.{AllPairs-from_map, AllPairs-map}
 use Rattle.audit_rows.proofs.NamedLemmas.{pairs_weaker}
 
 -- ---- one of each

@@ -7,7 +7,7 @@ use Rattle.std.proofs.lemmas.Bool.Decides.{nat_tests}
 use Rattle.std.proofs.lemmas.List.{get_or-drop, get_or-take, length-drop, length-take, take-append-drop}
 use Rattle.std.proofs.lemmas.List.Sorted.{sum_by-IsPermutation}
 use Rattle.std.proofs.lemmas.List.Sums.{length-filter, sum_by-cons}
-use Rattle.ordered_rows.proofs.RangeLemmas.{filter_middle}
+use Rattle.audit_order.proofs.RangeLemmas.{filter_middle}
 
 -- how often a number stands in a list
 abbrev often : ℕ → List ℕ → ℕ

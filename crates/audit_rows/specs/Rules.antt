@@ -6,7 +6,7 @@ use Rattle.job_facts.specs.Sound.{AreLots, AreProducts}
 use Rattle.table_rows.specs.Tables.{StoredBatch, StoredBlank, StoredSession, Tables}
 use Rattle.table_rows.specs.Keys.{is_running_on}
 use Rattle.audit_laws.specs.Audited.{IsAuditedBlank, IsAuditedLot, opened_rows, placed_words, turns_of}
-use Rattle.ordered_rows.specs.Order.{lots_of}
+use Rattle.audit_order.specs.Order.{lots_of}
 use Rattle.audit_cards.specs.Sessions.{IsAuditedFile}
 use Rattle.audit_rows.specs.Audit.{AreFewOnce, AreOwned}
 use Rattle.audit_rows.specs.declared.rule.Rule.{Rule}

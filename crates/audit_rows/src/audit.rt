@@ -4,7 +4,7 @@ ghost use Rattle.job_facts.specs.Sound.{IsName};
 ghost use Rattle.table_rows.specs.Keys.{is_running_on};
 ghost use Rattle.table_rows.specs.Tables.{StoredSession as SessionValue};
 ghost use Rattle.audit_rows.specs.Rules.{IsFirstFailing, card_rules, rules};
-ghost use Rattle.ordered_rows.specs.Order.{AreReady, AreSorted};
+ghost use Rattle.audit_order.specs.Order.{AreReady, AreSorted};
 
 use crate::blanks::failing_blank;
 use crate::machines::run_once;

@@ -9,11 +9,11 @@ ghost use Rattle.table_rows.specs.Tables.{StoredSession as SessionValue};
 ghost use Rattle.image_laws.specs.Decided.{discarded_rows};
 ghost use Rattle.audit_laws.specs.Audited.{IsAuditedBlank, IsAuditedLot, opened_rows};
 ghost use Rattle.audit_rows.specs.Rules.{IsFirstFailing, blank_rules};
-ghost use Rattle.ordered_rows.specs.Order.{AreReady, lots_of};
+ghost use Rattle.audit_order.specs.Order.{AreReady, lots_of};
 
 use crate::once::are_once;
 use crate::rule::Rule;
-use ordered_rows::lot_of;
+use audit_order::lot_of;
 use std::alloc::{AllocError, Global};
 use table_rows::{StoredBlank, StoredLot, StoredSession, Tables};
 

@@ -3,7 +3,7 @@ ghost use Rattle.std.specs.Prelude.{◌≡◌, ◌↔◌, ℕ, All, IsTrue, leng
 ghost use Rattle.std.specs.List.{range_with_len};
 ghost use Rattle.audit_rows.specs.Audit.{IsIdOf};
 
-use ordered_rows::Ranged;
+use audit_order::Ranged;
 use table_rows::{StoredBatch, StoredSession};
 
 /// Rows with an id.

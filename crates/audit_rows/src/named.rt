@@ -5,11 +5,11 @@ ghost use Rattle.job_facts.specs.Sound.{AreLots, AreProducts, IsLot, IsName};
 ghost use Rattle.job_facts.specs.States.{product_named};
 ghost use Rattle.table_rows.specs.Tables.{StoredLot as LotValue};
 ghost use Rattle.store_data.specs.declared.row.Product.{Product as ProductValue};
-ghost use Rattle.ordered_rows.specs.Order.{lots_of};
+ghost use Rattle.audit_order.specs.Order.{lots_of};
 ghost use Rattle.audit_rows.specs.Audit.{IsRanged};
 
 use crate::once::{Apart, are_apart};
-use ordered_rows::{is_name, product_named};
+use audit_order::{is_name, product_named};
 use table_rows::{StoredBatch, StoredLot, StoredProduct};
 
 /// Serials end below it.

@@ -4,7 +4,7 @@ ghost use Rattle.std.specs.List.{range_with_len};
 ghost use Rattle.job_facts.specs.Sound.{AreLots, AreProducts};
 ghost use Rattle.table_rows.specs.Tables.{StoredBatch as BatchValue};
 ghost use Rattle.table_rows.specs.Tables.{StoredSession as SessionValue};
-ghost use Rattle.ordered_rows.specs.Order.{lots_of};
+ghost use Rattle.audit_order.specs.Order.{lots_of};
 ghost use Rattle.audit_rows.specs.Audit.{AreFewOnce, AreOwned};
 ghost use Rattle.audit_rows.specs.Rules.{IsFirstFailing, named_rules};
 

@@ -8,8 +8,8 @@ ghost use Rattle.audit_rows.specs.Rules.{IsFirstFailing, reply_rules};
 
 use crate::once::{are_once, set_of};
 use crate::rule::Rule;
+use audit_order::is_name;
 use indexmap::IndexSet;
-use ordered_rows::is_name;
 use std::alloc::{AllocError, Global};
 use store_data::Name;
 use table_rows::{StoredMark, StoredReply, Tables};

@@ -3,13 +3,13 @@ ghost use Rattle.std.specs.Prelude.{◌↔◌, IfOk, IfSome, IsNone, IsTrue};
 ghost use Rattle.job_facts.specs.Contents.{AreSound, Contents};
 ghost use Rattle.image_laws.specs.Image.{image};
 ghost use Rattle.table_rows.specs.Tables.{HaveSameRows};
-ghost use Rattle.ordered_rows.specs.Order.{AreSorted};
+ghost use Rattle.audit_order.specs.Order.{AreSorted};
 ghost use Rattle.audit_rows.specs.Rules.{FailsFirst, rules};
 
 use crate::audit::failing_rule;
 use crate::rule::Rule;
 use audit_laws::{audited_rows_are_sound, sound_rows_are_audited};
-use ordered_rows::sort_tables;
+use audit_order::sort_tables;
 use std::alloc::{AllocError, Global};
 use table_rows::Tables;
 

@@ -10,9 +10,9 @@ ghost use Rattle.table_rows.specs.Kept.{kept_reply};
 ghost use Rattle.table_rows.specs.Tables.{with_reply};
 ghost use Rattle.change_writes.specs.Written.{rows_written};
 
-use crate::writing::Writing;
 use crate::changes::write_change;
 use crate::releases::write_release;
+use crate::writing::Writing;
 use job_facts::Change;
 use row_writes::add_reply;
 use sqlite::{Alter, Connection, Error, Transaction};

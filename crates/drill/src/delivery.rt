@@ -2,9 +2,9 @@
 ghost use Rattle.std.specs.Prelude.{◌≡◌, ◌≤◌, IfSome};
 ghost use Rattle.drill.specs.Deliveries.{delivery_of, delivery_to, stop_of};
 
+use crate::turn::count_of;
 use feeder::Stop;
 use text_io::word_of;
-use crate::turn::count_of;
 
 /// A packet that arrives, and whether the server stops then.
 #[derive(Clone, Copy)]

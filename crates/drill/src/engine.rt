@@ -4,10 +4,10 @@ ghost use Rattle.std.specs.Prelude.{true};
 ghost use Rattle.drill.specs.Floors.{empty_floor};
 ghost use Rattle.drill.specs.Ends.{DrillsOver, Goes, GoesOn, Runs};
 
+use crate::floor::Floor;
 use crate::step::step;
 use crate::stop::DrillStop;
 use job_facts::{Reopen, StoreFault};
-use crate::floor::Floor;
 use std::alloc::Global;
 use std::io::{Read, Write};
 use text_io::{lines_of, read_whole, write_text};

@@ -7,14 +7,14 @@ ghost use Rattle.drill.specs.Steps.{Answers, Asks, ByDelivery, Delivers, Moves, 
 ghost use Rattle.drill.specs.Steps.{did_of, did_view, reply_line, reply_number, stopped};
 
 use crate::delivery::{Delivery, delivery_of};
+use crate::floor::Floor;
 use crate::script::asked;
+use crate::texts::text_line;
+use crate::turn::{Turn, turn_of};
 use feeder::Stop;
 use itoa::Buffer;
 use job_facts::JobStore;
 use server::{End, MemoryReader, serve_one};
-use crate::floor::Floor;
-use crate::texts::text_line;
-use crate::turn::{Turn, turn_of};
 use std::alloc::{AllocError, Global};
 use store_data::{Bytes, Name};
 use wire::reply_parts;

@@ -3,8 +3,8 @@ ghost use Rattle.std.specs.Prelude.{◌≡◌, ◌≤◌, IfSome};
 ghost use Rattle.drill.specs.Turns.{IsTurn, card_of, count_of, insert_of, machine_of};
 ghost use Rattle.drill.specs.Turns.{power_of, turn_by, turn_of};
 
-use text_io::{number_within, status_word, word_of};
 use store_data::Name;
+use text_io::{number_within, status_word, word_of};
 
 /// The greatest number of 18 digits: of a serial or a reply.
 const MOST: u64 = 999_999_999_999_999_999;

@@ -8,7 +8,7 @@ use Rattle.std.specs.Char.{is_ascii_digit, is_ascii_hexdigit}
 use Rattle.std.specs.Str.Parse.{digits_value}
 use Rattle.std.proofs.lemmas.Bool.{and_left, and_right, cond_both, eqb-true, or_cases}
 use Rattle.std.proofs.lemmas.Slice.Eq.{bytes_eq-Decides}
-use Rattle.asks.specs.Asks.{number_in}
+use Rattle.http_requests.specs.Asks.{number_in}
 use Rattle.text_io.specs.Numbers.{is_word}
 use Rattle.text_io.specs.Lines.{words}
 use Rattle.text_io.specs.Numbers.{number_within, status_word, within}

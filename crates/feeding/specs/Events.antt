@@ -10,8 +10,8 @@ use Rattle.job_facts.specs.declared.reply.Reply.{Reply}
 use Rattle.job_facts.specs.declared.request.Call.{Call}
 use Rattle.job_facts.specs.Refusals.{code_of}
 use Rattle.arrivals.specs.Values.{value_of}
-use Rattle.asks.specs.Members.{number_at, text_at}
-use Rattle.asks.specs.Requests.{with_two}
+use Rattle.http_requests.specs.Members.{number_at, text_at}
+use Rattle.http_requests.specs.Requests.{with_two}
 use Rattle.text_io.specs.Inputs.{Tells}
 use Rattle.feeder.specs.declared.feeder.InsertFault.{InsertFault}
 use Rattle.feeder.specs.declared.feeder.InsertFault.TheVariants.{Exhausted as NoNumbers, NotIdle}

@@ -9,8 +9,8 @@ ghost use Rattle.feeding.specs.Cards.{end_line, gives, next_word};
 ghost use Rattle.feeding.specs.Views.{card_view};
 
 use itoa::Buffer;
-use text_io::{number_within, status_word, words_of};
 use std::alloc::{AllocError, Global};
+use text_io::{number_within, status_word, words_of};
 
 /// The greatest serial.
 pub(crate) const MOST_SERIAL: u64 = 999_999_999_999_999_999;

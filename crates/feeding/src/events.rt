@@ -137,7 +137,7 @@ pub(crate) fn note_flaw<E: Write + Drop>(
 }
 
 // The code and the name in a refusal's body.
-#[tactic(auto, unfolding(crate::specs::Events::refusal_in, asks::specs::Members::text_at))]
+#[tactic(auto, unfolding(crate::specs::Events::refusal_in, http_requests::specs::Members::text_at))]
 fn refusal_in(reply: &Reply) -> Option<(u8, &'static str)>
     ensures { option_map (λ r. (r.0, r.1.now)) result ≡ refusal_in reply.now }
 {

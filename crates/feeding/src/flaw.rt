@@ -6,8 +6,8 @@ ghost use Rattle.feeding.specs.Cards.{card_of};
 ghost use Rattle.feeding.specs.Flaws.{flaw_by, flaw_name, flaw_of};
 
 use crate::card::MOST_SERIAL;
-use text_io::{number_within, status_word, words_of};
 use std::alloc::{AllocError, Global};
+use text_io::{number_within, status_word, words_of};
 
 /// What is wrong with a line of a feed's list.
 #[derive(Clone, Copy, Debug, PartialEq, Eq)]

@@ -2,7 +2,7 @@
 use Rattle.std.specs.Prelude.{◌⊎◌}
 use Rattle.sqlite.specs.Effect.{Database}
 use Rattle.table_rows.specs.Tables.{Tables}
-use Rattle.ordered_rows.specs.Order.{AreSorted}
+use Rattle.audit_order.specs.Order.{AreSorted}
 use Rattle.audit_rows.specs.Rules.{FailsFirst, rules}
 use Rattle.sql_tables.specs.Alike.{HasJust}
 use Rattle.sql_tables.specs.Versions.{schema_of}

@@ -4,7 +4,7 @@ use Rattle.sqlite.specs.Effect.{Database}
 use Rattle.job_facts.specs.Contents.{AreSound, Contents}
 use Rattle.table_rows.specs.Tables.{HaveSameRows, Tables}
 use Rattle.image_laws.specs.Image.{image}
-use Rattle.ordered_rows.specs.Order.{AreSorted}
+use Rattle.audit_order.specs.Order.{AreSorted}
 use Rattle.audit_rows.specs.Rules.{FailsFirst, rules}
 use Rattle.sql_tables.specs.Ours.{AreThere}
 use Rattle.sql_tables.specs.Versions.{schema_of}

@@ -1,6 +1,6 @@
 -- What is read of a connection once its reply is written (this project's profile).
 use Rattle.std.specs.Prelude.{◌≡◌, ℕ, ◌+◌, ◌||◌, Bool, List, Option, IfSome, Some, drop, take, codes, bytes_eq, if◌then◌else◌}
-use Rattle.heads.specs.ReplyParts.{status_in}
+use Rattle.http_messages.specs.ReplyParts.{status_in}
 use Rattle.text_io.specs.Inputs.{most_input}
 
 -- the version and the status (RFC 9112, section 4)

@@ -2,7 +2,7 @@
 ghost use Rattle.std.specs.Prelude.{◌≡◌};
 ghost use Rattle.loopback.specs.Drains.{Loses, most_drained};
 
-use heads::ByteSource;
+use http_messages::ByteSource;
 use text_io::MOST_INPUT;
 
 /// The most bytes that are dropped: a body of the most bytes, behind a head of the most.

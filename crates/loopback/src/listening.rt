@@ -5,7 +5,7 @@ ghost use Rattle.loopback.specs.Faults.{fault_of};
 
 use crate::drain::drain;
 use crate::peer::{PeerReader, PeerWriter};
-use heads::ByteSource;
+use http_messages::ByteSource;
 use server::{Connections, NextFault, Served};
 use std::io::{self, ErrorKind};
 use std::net::{Ipv4Addr, Net, OpenListener, OpenStream, SocketAddr, SocketAddrV4};

@@ -7,7 +7,7 @@ ghost use Rattle.loopback.specs.Starts.{kept_of};
 use crate::clock::Side;
 use crate::start::ReplyStart;
 use crate::timed::TimedStream;
-use heads::ByteSource;
+use http_messages::ByteSource;
 use std::io::{self, Write};
 use std::net::Net;
 use std::time::{Clock, Instant};

@@ -1,12 +1,11 @@
 //! What the program does with the store of a file, and as a machine.
-ghost use Rattle.program_words.specs.Words.{IsBoot};
+ghost use Rattle.arguments.specs.Words.{IsBoot};
 
-use command_line::{End, end_of_close, run_feed};
+use arguments::FeedStart;
 use event_lines::{EventLog, Level};
 use job_facts::ServerStore;
 use loopback::{Loopback, Port};
 use over_tables::serve_over_tables;
-use program_words::FeedStart;
 use reports::close_report;
 use schema::SqlStore;
 use server::Opened;
@@ -15,6 +14,7 @@ use sqlite_disk::Disk;
 use std::io::{self, Write};
 use store_data::Name;
 use store_files::{Found, StoreTask};
+use subcommands::{End, end_of_close, run_feed};
 
 /// Serves so many connections to a port of 127.0.0.1.
 #[derive(Drop)]

@@ -100,7 +100,10 @@ fn drop_all<S: Alter>(tx: &mut Transaction<'_, S>, version: Version) -> Result<(
 
 /// Drops all tables of a version and makes our own, with the version alone in them, in an open
 /// transaction. A crash leaves nothing of it.
-pub(crate) fn make_anew<S: Alter>(tx: &mut Transaction<'_, S>, version: Version) -> Result<(), Error>
+pub(crate) fn make_anew<S: Alter>(
+    tx: &mut Transaction<'_, S>,
+    version: Version,
+) -> Result<(), Error>
     ensures same_reference { tx.new.conn.ghost_name ≡ tx.old.conn.ghost_name }
     ensures made { HasCleanDisk (state S.Store tx.new.conn.now)
         → Wrote (MakesAnew version) (state S.Store tx.old.conn.now)

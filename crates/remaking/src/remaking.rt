@@ -6,9 +6,9 @@ ghost use Rattle.sql_base.specs.Ends.{Ends, IsKept, IsLeft, Wrote};
 ghost use Rattle.remaking.specs.Remakes.{Remakes};
 
 use crate::anew::make_anew;
+use crate::filling::fill;
 use sql_tables::Version;
 use sqlite::{Alter, Connection, Error, Transaction};
-use crate::filling::fill;
 use table_rows::Tables;
 
 // Drops the tables of a version, makes ours and puts rows in, in an open transaction.

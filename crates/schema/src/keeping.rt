@@ -7,11 +7,11 @@ ghost use Rattle.sql_base.specs.Ends.{Ends, IsKept, IsLeft};
 ghost use Rattle.schema.specs.Takes.{Takes};
 ghost use Rattle.table_rows.specs.Kept.{kept_reply};
 
+use change_writes::{Writing, commit};
 use image_laws::{rows_after_change, rows_after_release, rows_with_reply};
 use job_facts::Change;
 use sqlite::{Alter, Connection, Error};
 use std::alloc::Global;
-use change_writes::{Writing, commit};
 use store_data::Name;
 use store_reads::before;
 

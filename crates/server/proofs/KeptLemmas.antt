@@ -6,7 +6,7 @@ use Rattle.std.proofs.KnownBytes.{Appends-kept, Appends-trans, Consumes-trans}
 use Rattle.std.proofs.Props.{props}
 use Rattle.std.proofs.lemmas.Bool.{false≢true}
 use Rattle.std.proofs.lemmas.List.{append_cancel_left, take-append-drop}
-use Rattle.heads.specs.Messages.{Tells}
+use Rattle.http_messages.specs.Messages.{Tells}
 use Rattle.server.specs.declared.served.End.{End}
 use Rattle.server.specs.declared.served.End.TheVariants.{Answered, Broken, WriteFailed}
 use Rattle.server.specs.Bytes.{IsBeginning, IsReplyOf, KeepsRead, KeepsReply, KeepsWritten}

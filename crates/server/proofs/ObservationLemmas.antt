@@ -3,7 +3,7 @@ use Rattle.std.proofs.Common.{◌≡◌, ℕ, List, Option, subst, sym}
 use Rattle.std.specs.Prelude.{is_some}
 use Rattle.std.specs.Io.KnownBytes.{Appends}
 use Rattle.std.proofs.Math.Logic.{∥∥₁_elim}
-use Rattle.heads.specs.Messages.{Tells}
+use Rattle.http_messages.specs.Messages.{Tells}
 use Rattle.server.specs.Exchanges.{Exchange}
 use Rattle.server.specs.declared.served.Served.{Served}
 use Rattle.server.specs.Bytes.{IsReplyOf, KeepsRead, KeepsReply}

@@ -8,7 +8,7 @@ use Rattle.std.proofs.lemmas.Option.{none-some}
 use Rattle.job_facts.specs.declared.store.StoreFault.{StoreFault}
 use Rattle.job_facts.specs.Store.{State, Stays}
 use Rattle.reply_store.specs.Runs.{AreLeftInTurn}
-use Rattle.heads.specs.Messages.{Tells}
+use Rattle.http_messages.specs.Messages.{Tells}
 use Rattle.job_facts.specs.Reopening.{counts_of}
 use Rattle.job_facts.specs.declared.server_store.FaultCounts.{FaultCounts}
 use Rattle.server.specs.Exchanges.{Exchange, Moves, Opens, Queue, Serves, ServesAll, moved}

@@ -10,10 +10,10 @@ use Rattle.job_facts.specs.Store.{State, IsHonest}
 use Rattle.job_facts.proofs.Lists.{each_more}
 use Rattle.arrivals.specs.Meaning.{contents_after}
 use Rattle.reply_store.specs.Runs.{Tried, arrived, decided, AreLeftInTurn, Leaves}
-use Rattle.asks.specs.declared.ask.Asked.TheVariants as asked
-use Rattle.heads.specs.Messages.{Tells}
+use Rattle.http_requests.specs.declared.ask.Asked.TheVariants as asked
+use Rattle.http_messages.specs.Messages.{Tells}
 use Rattle.server.specs.declared.served.Served.{Served}
-use Rattle.asks.specs.Meant.{Meant, Broken, Refused, Asks, Means}
+use Rattle.http_requests.specs.Meant.{Meant, Broken, Refused, Asks, Means}
 use Rattle.server.specs.Exchanges.{Exchange, Does, Entry, IsAnswered, IsFixed, IsNext, Moves, Opens, Queue, Serves, ServesAll, moved, shown, tries, tries_at, tries_of}
 
 abbrev brought : Exchange → List ℕ

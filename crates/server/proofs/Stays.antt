@@ -8,12 +8,12 @@ use Rattle.job_facts.specs.Store.{State, Stays}
 use Rattle.reply_store.specs.Handled.{Handles}
 use Rattle.arrivals.specs.Meaning.{Arrived}
 use Rattle.reply_store.specs.Runs.{arrived}
-use Rattle.asks.specs.declared.ask.Asked.TheVariants as asked
-use Rattle.heads.specs.declared.fixed.FixedReply.TheVariants.{Storage}
-use Rattle.heads.specs.Messages.{HasHead}
-use Rattle.heads.specs.FixedReplies.{refusal_text}
+use Rattle.http_requests.specs.declared.ask.Asked.TheVariants as asked
+use Rattle.http_messages.specs.declared.fixed.FixedReply.TheVariants.{Storage}
+use Rattle.http_messages.specs.Messages.{HasHead}
+use Rattle.http_messages.specs.FixedReplies.{refusal_text}
 use Rattle.server.specs.declared.served.Served.{Served}
-use Rattle.asks.specs.Meant.{Meant, Broken, Refused, Asks, Means}
+use Rattle.http_requests.specs.Meant.{Meant, Broken, Refused, Asks, Means}
 use Rattle.server.specs.Replies.{IsWritten}
 use Rattle.server.specs.Exchanges.{Does, Exchange, IsNext, Serves}
 use Rattle.server.specs.Serving.{MayServe}

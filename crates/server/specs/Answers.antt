@@ -1,6 +1,6 @@
 -- The text of an answer.
 use Rattle.std.specs.Prelude.{ℕ, List}
-use Rattle.heads.specs.Texts.{reply_text}
+use Rattle.http_messages.specs.Texts.{reply_text}
 use Rattle.server.specs.declared.account.Answer.{Answer}
 
 abbrev pub answer_text : Answer → List ℕ

@@ -2,7 +2,7 @@
 use Rattle.std.specs.Prelude.{ℕ, ◌&&◌, ◌||◌, Bool, true, false, not, List, [], ◌∷◌, ◌++◌, bytes_eq, codes, if◌then◌else◌, Option, Some, None}
 use Rattle.job_facts.specs.declared.store.StoreFault.{StoreFault}
 use Rattle.job_facts.specs.declared.store.StoreFault.TheVariants as fault
-use Rattle.heads.specs.ReplyParts.{body_behind}
+use Rattle.http_messages.specs.ReplyParts.{body_behind}
 use Rattle.server.specs.declared.served.End.{End}
 use Rattle.server.specs.declared.served.End.TheVariants.{Answered, Broken, WriteFailed}
 use Rattle.event_lines.specs.Lines.{pair, quoted_pair}

@@ -9,11 +9,11 @@ use Rattle.arrivals.specs.Meaning.{contents_after, reply_to}
 use Rattle.arrivals.specs.Commands.{HandsOutNext}
 use Rattle.reply_store.specs.Handled.{Handles, IsFirst}
 use Rattle.reply_store.specs.Runs.{Tried, arrived, decided, Leaves}
-use Rattle.asks.specs.declared.ask.Asked.{Asked}
-use Rattle.asks.specs.declared.ask.Asked.TheVariants as asked
-use Rattle.heads.specs.Messages.{HasHead}
+use Rattle.http_requests.specs.declared.ask.Asked.{Asked}
+use Rattle.http_requests.specs.declared.ask.Asked.TheVariants as asked
+use Rattle.http_messages.specs.Messages.{HasHead}
 use Rattle.server.specs.declared.served.Served.{Served}
-use Rattle.asks.specs.Meant.{Meant, Broken, Refused, Asks, AsksNothing, Means}
+use Rattle.http_requests.specs.Meant.{Meant, Broken, Refused, Asks, AsksNothing, Means}
 use Rattle.server.specs.Replies.{IsAnswer, IsUnavailable}
 
 -- ---- one connection

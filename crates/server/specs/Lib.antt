@@ -1,6 +1,6 @@
 pub use Rattle.job_facts.specs.Store
 pub use Rattle.reply_store.specs.Runs
-pub use Rattle.asks.specs.Meant
+pub use Rattle.http_requests.specs.Meant
 pub mod Replies
 pub mod Answers
 pub mod Exchanges

@@ -10,19 +10,19 @@ use Rattle.arrivals.specs.Meaning.{told_on}
 use Rattle.reply_store.specs.Runs.{arrived}
 use Rattle.reports.specs.Accounts.{batch_account, blank_account}
 use Rattle.reports.specs.Report.{report_text}
-use Rattle.asks.specs.declared.ask.Asked.{Asked}
-use Rattle.asks.specs.declared.ask.Asked.TheVariants as asked
-use Rattle.asks.specs.declared.ask.Wanted.{Wanted}
-use Rattle.asks.specs.declared.ask.Wanted.TheVariants as wanted
-use Rattle.heads.specs.declared.fixed.FixedReply.TheVariants.{Storage}
-use Rattle.heads.specs.declared.reply.Content.{Content}
-use Rattle.heads.specs.declared.reply.Content.TheVariants as content
-use Rattle.heads.specs.FixedReplies.{refusal_text}
-use Rattle.heads.specs.Texts.{reply_text}
+use Rattle.http_requests.specs.declared.ask.Asked.{Asked}
+use Rattle.http_requests.specs.declared.ask.Asked.TheVariants as asked
+use Rattle.http_requests.specs.declared.ask.Wanted.{Wanted}
+use Rattle.http_requests.specs.declared.ask.Wanted.TheVariants as wanted
+use Rattle.http_messages.specs.declared.fixed.FixedReply.TheVariants.{Storage}
+use Rattle.http_messages.specs.declared.reply.Content.{Content}
+use Rattle.http_messages.specs.declared.reply.Content.TheVariants as content
+use Rattle.http_messages.specs.FixedReplies.{refusal_text}
+use Rattle.http_messages.specs.Texts.{reply_text}
 use Rattle.server.specs.declared.served.End.{End}
 use Rattle.server.specs.declared.served.End.TheVariants as ended
 use Rattle.server.specs.declared.served.Served.{Served}
-use Rattle.asks.specs.Meant.{Meant, Broken, Refused, Asks}
+use Rattle.http_requests.specs.Meant.{Meant, Broken, Refused, Asks}
 
 -- ---- texts
 

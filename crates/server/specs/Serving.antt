@@ -3,7 +3,7 @@ use Rattle.std.specs.Prelude.{◌⊎◌, ℕ, List}
 use Rattle.job_facts.specs.Contents.{Contents}
 use Rattle.job_facts.specs.Store.{State, IsHonest}
 use Rattle.server.specs.declared.served.Served.{Served}
-use Rattle.asks.specs.Meant.{AsksNothing, Meant}
+use Rattle.http_requests.specs.Meant.{AsksNothing, Meant}
 use Rattle.server.specs.Replies.{IsAnswer, IsUnavailable}
 use Rattle.server.specs.Exchanges.{Does, IsNext}
 

@@ -3,7 +3,7 @@ use Rattle.std.specs.Prelude.{ℕ, ◌==◌, ◌||◌, Bool, not, List, drop, ta
 use Rattle.std.specs.List.{take_while}
 use Rattle.std.specs.Option.{option_and_then, option_map_or}
 use Rattle.std.specs.Char.{is_ascii_digit, is_ascii_lowercase}
-use Rattle.heads.specs.ReplyParts.{status_in}
+use Rattle.http_messages.specs.ReplyParts.{status_in}
 
 -- a CR or an LF
 abbrev pub is_line_end : ℕ → Bool

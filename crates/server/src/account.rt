@@ -11,8 +11,8 @@ ghost use Rattle.server.specs.Replies.{unknown_of};
 ghost use Rattle.server.specs.Answers.{answer_text};
 
 use arrivals::{body_of, status_of};
-use asks::Wanted;
-use heads::Content;
+use http_messages::Content;
+use http_requests::Wanted;
 use job_facts::{JobStore, Refusal, Reply, StoreFault};
 use reports::{AccountFault, batch_counts, blank_counts, close_report};
 use std::alloc::{AllocError, Global};

@@ -3,7 +3,7 @@ ghost use Rattle.std.specs.Prelude.{◌≡◌};
 ghost use Rattle.server.specs.declared.connections.NextFault.TheVariants.{Memory};
 
 use crate::served::Served;
-use heads::ByteSource;
+use http_messages::ByteSource;
 use std::alloc::AllocError;
 use std::io::Write;
 

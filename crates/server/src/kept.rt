@@ -4,7 +4,7 @@ ghost use Rattle.server.specs.Bytes.{KeepsRead, KeepsReply, KeepsWritten};
 
 use crate::beginning::Beginning;
 use crate::served::End;
-use heads::ByteSource;
+use http_messages::ByteSource;
 use std::io::{self, Write};
 use std::marker::{Brand, PhantomData};
 

@@ -8,7 +8,7 @@ use crate::observation::Observation;
 use crate::served::End;
 use crate::words::{refusal_in, request_line};
 use event_lines::EventLine;
-use heads::reply_parts;
+use http_messages::reply_parts;
 use job_facts::StoreFault;
 use std::alloc::{AllocError, Global};
 

@@ -4,7 +4,7 @@ ghost use Rattle.server.specs.Memory.{bytes_left, queue, replies_of, texts};
 
 use crate::connections::{Connections, NextFault};
 use crate::served::Served;
-use heads::ByteSource;
+use http_messages::ByteSource;
 use std::alloc::Global;
 use std::mem;
 

@@ -1,7 +1,7 @@
 //! One connection, served and observed.
 ghost use Rattle.std.specs.Prelude.{◌≡◌, is_some};
 ghost use Rattle.std.specs.Io.KnownBytes.{Appends};
-ghost use Rattle.heads.specs.Messages.{Tells};
+ghost use Rattle.http_messages.specs.Messages.{Tells};
 ghost use Rattle.job_facts.specs.Reopening.{counts_of};
 ghost use Rattle.server.specs.Exchanges.{Exchange, Serves};
 ghost use Rattle.server.specs.Bytes.{KeepsRead, KeepsReply};
@@ -10,7 +10,7 @@ ghost use Rattle.server.specs.Observations.{IsObservationOf};
 use crate::kept::{KeepingReader, KeepingWriter, Start};
 use crate::observation::Observation;
 use crate::one::serve_one;
-use heads::ByteSource;
+use http_messages::ByteSource;
 use job_facts::ServerStore;
 use std::alloc::Global;
 use std::io::Write;

@@ -1,13 +1,13 @@
 //! Replies, written from a fixed array and from a body. That takes no memory.
 ghost use Rattle.std.specs.Prelude.{◌≡◌, ℕ, List, false};
 ghost use Rattle.std.specs.Io.KnownBytes.{Appends};
-ghost use Rattle.heads.specs.FixedReplies.{refusal_text};
-ghost use Rattle.heads.specs.Texts.{reply_text};
+ghost use Rattle.http_messages.specs.FixedReplies.{refusal_text};
+ghost use Rattle.http_messages.specs.Texts.{reply_text};
 ghost use Rattle.text_io.specs.Written.{Writes};
 ghost use Rattle.server.specs.Replies.{IsWritten};
 
 use crate::served::{End, Served};
-use heads::{Content, FixedReply, reply_head};
+use http_messages::{Content, FixedReply, reply_head};
 use std::io::Write;
 use text_io::{WriteFailed, write_text};
 

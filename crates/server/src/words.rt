@@ -6,7 +6,7 @@ ghost use Rattle.server.specs.Words.{behind, digits_in, is_line_end, is_word_byt
 ghost use Rattle.server.specs.Words.{past_mark, refusal_in, request_line, status_digits};
 ghost use Rattle.server.specs.Words.{word_in};
 
-use heads::reply_parts;
+use http_messages::reply_parts;
 use std::str::from_utf8;
 
 /// A request's first line, without its end.

@@ -1,6 +1,6 @@
 //! Where a server listens, how long a peer holds it, and how often a connection is asked for.
 use crate::fake::{Fake, Floor, Step, local, millis};
-use heads::ByteSource;
+use http_messages::ByteSource;
 use loopback::Loopback;
 use server::{Connections, NextFault};
 use std::io::{ErrorKind, Write};

@@ -8,7 +8,7 @@ use Rattle.row_reads.specs.declared.batches.BatchHead.{BatchHead}
 use Rattle.row_reads.specs.declared.lots.LotRow.{LotRow}
 use Rattle.row_reads.specs.Telling.{head_of, lot_row_of}
 use Rattle.table_rows.specs.Tables.{StoredBatch, StoredLot}
-use Rattle.rows_answer.specs.Telling.{blanks_of}
+use Rattle.row_laws.specs.Telling.{blanks_of}
 use Rattle.store_reads.specs.Sums.{totals_told}
 
 sum_told : {X Y : Type 0} (tell : X → Y) (n : Y → ℕ) (xs : List X) → sum_by n (map tell xs) ≡ sum_by (λ x. n (tell x)) xs

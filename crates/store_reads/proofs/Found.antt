@@ -8,8 +8,8 @@ use Rattle.row_reads.specs.declared.sessions.SessionAt.{SessionAt}
 use Rattle.row_reads.specs.CardDecoding.{record_at, session_at}
 use Rattle.table_rows.specs.Keys.{is_batch, is_batch_named, is_record_at, is_record_named, is_session}
 use Rattle.table_rows.specs.Tables.{StoredBatch, StoredRecord, StoredSession}
-use Rattle.rows_answer.specs.Telling.{record_row, session_in, session_of}
-use Rattle.rows_answer.proofs.Finding.{option_map-map}
+use Rattle.row_laws.specs.Telling.{record_row, session_in, session_of}
+use Rattle.row_laws.proofs.Finding.{option_map-map}
 
 pub found_some : {X Y : Type 0} (f : X → Y) (o : Option X) (y : Y) → Some y ≡ option_map f o → (x : X) × (o ≡ Some x) × (y ≡ f x)
 found_some f o y is = let it = mapped f o y (sym is) in (it.0, it.1, sym it.2)

@@ -4,8 +4,8 @@ use Rattle.std.specs.Prelude.{AllPairs, filter, find, option_map}
 use Rattle.std.proofs.lemmas.List.Elements.{at_from_Contains}
 use Rattle.std.proofs.lemmas.List.Sorted.{IsPermutation-sym}
 use Rattle.row_reads.specs.Extremes.{AreSorted, IsLeastBy}
-use Rattle.rows_answer.proofs.Finding.{AllPairs-map}
-use Rattle.rows_answer.proofs.InOrder.{in_order}
+use Rattle.row_laws.proofs.Finding.{AllPairs-map}
+use Rattle.row_laws.proofs.InOrder.{in_order}
 
 abbrev pub first_of : {X : Type 0} → List X → Option X
 first_of [] = None

@@ -14,7 +14,7 @@ use Rattle.row_reads.specs.declared.lots.LotRow.{LotRow}
 use Rattle.row_reads.specs.declared.records.RecordAt.{RecordAt}
 use Rattle.row_reads.specs.CardDecoding.{record_at}
 use Rattle.row_reads.specs.Telling.{head_of, lot_row_of}
-use Rattle.rows_answer.specs.Telling.{place_of}
+use Rattle.row_laws.specs.Telling.{place_of}
 use Rattle.image_laws.specs.Before.{IsPlaceOf, IsPlaceOfSession}
 use Rattle.image_laws.specs.Image.{stored_batches, stored_lots, stored_records}
 use Rattle.step_laws.specs.Sums.{discarded_in}

@@ -21,8 +21,8 @@ use Rattle.sql_base.proofs.Selecting.{map_map}
 use Rattle.step_laws.proofs.Permuted.{count_moved, find_moved}
 use Rattle.table_rows.specs.Keys.{is_batch_named, is_good_of, is_record_of}
 use Rattle.table_rows.specs.Tables.{StoredBatch, StoredRecord, StoredSession}
-use Rattle.rows_answer.specs.Telling.{line_of, lines_at, lines_in}
-use Rattle.rows_answer.proofs.Finding.{find-map, option_map-map}
+use Rattle.row_laws.specs.Telling.{line_of, lines_at, lines_in}
+use Rattle.row_laws.proofs.Finding.{find-map, option_map-map}
 use Rattle.store_reads.specs.Lines.{blank_of, is_card_at, line_told, lines_with}
 use Rattle.store_reads.proofs.Found.{found_some}
 use Rattle.store_reads.proofs.Ordered.{told_in_order}

@@ -23,7 +23,7 @@ use Rattle.sql_base.proofs.Selecting.{map_map}
 use Rattle.table_rows.specs.Keys.{is_batch_named, is_grouping_at, is_record_named}
 use Rattle.table_rows.specs.Tables.{StoredBatch, StoredGrouping, StoredRecord}
 use Rattle.table_rows.proofs.Found.{find_passes}
-use Rattle.rows_answer.specs.Telling.{groupings_for, plan_in, row_of}
+use Rattle.row_laws.specs.Telling.{groupings_for, plan_in, row_of}
 use Rattle.store_reads.specs.declared.segments.BatchProduct.{BatchProduct}
 use Rattle.store_reads.specs.Segments.{product_in, product_under, row_told, rows_in}
 use Rattle.store_reads.proofs.Found.{found_some}

@@ -7,7 +7,7 @@ use Rattle.row_reads.specs.declared.batches.BatchHead.{BatchHead}
 use Rattle.row_reads.specs.Telling.{head_of}
 use Rattle.table_rows.specs.Keys.{is_grouping_of}
 use Rattle.table_rows.specs.Tables.{StoredBatch, StoredGrouping}
-use Rattle.rows_answer.specs.Telling.{size_of}
+use Rattle.row_laws.specs.Telling.{size_of}
 
 pub no_size : (groupings : List StoredGrouping) (o : Option StoredBatch) → None ≡ option_map head_of o → None ≡ option_map (size_of groupings) o
 no_size groupings None none = refl

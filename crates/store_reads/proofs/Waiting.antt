@@ -7,8 +7,8 @@ use Rattle.row_reads.specs.CardDecoding.{place_of, record_at}
 use Rattle.row_reads.specs.Extremes.{IsLeastBy}
 use Rattle.table_rows.specs.Keys.{is_batch_named, is_waiting_of}
 use Rattle.table_rows.specs.Tables.{StoredBatch, StoredRecord}
-use Rattle.rows_answer.specs.Telling.{waiting_in}
-use Rattle.rows_answer.proofs.Finding.{option_map-map}
+use Rattle.row_laws.specs.Telling.{waiting_in}
+use Rattle.row_laws.proofs.Finding.{option_map-map}
 use Rattle.store_reads.proofs.Found.{found_some}
 use Rattle.store_reads.proofs.Ordered.{Rises, first_passing, told_of_first}
 

@@ -4,7 +4,7 @@ use Rattle.job_facts.specs.declared.rows.BatchRow.{BatchRow}
 use Rattle.job_facts.specs.declared.rows.BatchTotals.{BatchTotals}
 use Rattle.row_reads.specs.declared.batches.BatchHead.{BatchHead}
 use Rattle.row_reads.specs.declared.batches.BatchTold.{BatchTold}
-use Rattle.rows_answer.specs.Telling.{no_totals}
+use Rattle.row_laws.specs.Telling.{no_totals}
 
 abbrev pub row_of : BatchTold → BatchRow
 row_of b = record { product = b.product; is_closed = b.is_closed }

@@ -6,7 +6,7 @@ use Rattle.row_reads.specs.declared.records.RecordAt.{RecordAt}
 use Rattle.row_reads.specs.declared.sessions.GoodCard.{GoodCard}
 use Rattle.image_laws.specs.Image.{stored_records, stored_sessions}
 use Rattle.table_rows.specs.Keys.{is_good_of, is_record_of}
-use Rattle.rows_answer.specs.Telling.{cards, line_of}
+use Rattle.row_laws.specs.Telling.{cards, line_of}
 
 -- it is of the record at this place
 abbrev pub is_card_at : ℕ → GoodCard → Bool

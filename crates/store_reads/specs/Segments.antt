@@ -9,7 +9,7 @@ use Rattle.row_reads.specs.declared.groupings.GroupingAt.{GroupingAt}
 use Rattle.image_laws.specs.Image.{stored_batches, stored_groupings, stored_records}
 use Rattle.table_rows.specs.Keys.{is_batch_named, is_grouping_at, is_record_named}
 use Rattle.table_rows.specs.Tables.{StoredBatch, StoredRecord}
-use Rattle.rows_answer.specs.Telling.{row_of}
+use Rattle.row_laws.specs.Telling.{row_of}
 use Rattle.store_reads.specs.declared.segments.BatchProduct.{BatchProduct}
 
 -- ---- the product of a batch

@@ -9,8 +9,8 @@ ghost use Rattle.store_reads.specs.Heads.{is_over_in, row_of, totals_in};
 ghost use Rattle.store_reads.specs.Tells.{Tells};
 
 use job_facts::{BatchRow, BatchSize, BatchTotals};
+use row_laws::{batches_by_name, batches_by_rows, totals_by_rows};
 use row_reads::{BatchHead, BatchTold, batch_head, batch_told, grouping_count};
-use rows_answer::{batches_by_name, batches_by_rows, totals_by_rows};
 use sqlite::{Alter, Connection, Error};
 use store_data::Name;
 

@@ -4,8 +4,8 @@ ghost use Rattle.sqlite.specs.Held.{state};
 ghost use Rattle.row_reads.specs.Reads.{Looks};
 ghost use Rattle.store_reads.specs.Tells.{Tells};
 
+use row_laws::numbers_of_rows;
 use row_reads::{last_batch, last_session};
-use rows_answer::numbers_of_rows;
 use sqlite::{Alter, Connection, Error};
 
 /// How many products there are.

@@ -1,7 +1,7 @@
 //! How the records of a batch stand, by their rows and its good cards.
 ghost use Rattle.std.specs.Prelude.{All, IfOk, count_by, map, nat_eq, ℕ, ◌==◌, ◌≡◌, ◌≤◌};
 ghost use Rattle.std.specs.HashMap.{get};
-ghost use Rattle.rows_answer.specs.Telling.{cards};
+ghost use Rattle.row_laws.specs.Telling.{cards};
 ghost use Rattle.row_reads.specs.CardDecoding.{IsRecordAt};
 ghost use Rattle.store_reads.specs.Lines.{blank_of, is_card_at, line_told, line_with};
 

@@ -8,8 +8,8 @@ ghost use Rattle.store_reads.specs.Tells.{Tells};
 
 use crate::numbers::END;
 use job_facts::Lot;
+use row_laws::{blanks_by_serial, lots_by_name, lots_by_range};
 use row_reads::LotRow;
-use rows_answer::{blanks_by_serial, lots_by_name, lots_by_range};
 use sqlite::{Alter, Connection, Error};
 use store_data::Name;
 

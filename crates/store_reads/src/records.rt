@@ -7,8 +7,8 @@ ghost use Rattle.row_reads.specs.Reads.{Looks};
 ghost use Rattle.store_reads.specs.Tells.{Tells};
 
 use job_facts::RecordState;
+use row_laws::{batches_by_name, records_by_name, records_of_batches};
 use row_reads::{RecordAt, batch_id, record_named};
-use rows_answer::{batches_by_name, records_by_name, records_of_batches};
 use sqlite::{Alter, Connection, Error};
 use store_data::Name;
 

@@ -7,7 +7,7 @@ ghost use Rattle.store_reads.specs.Tells.{Tells};
 
 use crate::numbers::END;
 use job_facts::KeptReply;
-use rows_answer::replies_by_number;
+use row_laws::replies_by_number;
 use sqlite::{Alter, Connection, Error};
 use store_data::Name;
 

@@ -9,8 +9,8 @@ ghost use Rattle.store_reads.specs.Tells.{Tells};
 use crate::lines::lines_told;
 use crate::sums::totals_told;
 use job_facts::{BlankTotals, RecordLine};
+use row_laws::{batches_by_name, blanks_by_rows, lines_by_rows, records_of_batches};
 use row_reads::{batch_id, batches_of, good_sessions, lots_of, records_of};
-use rows_answer::{batches_by_name, blanks_by_rows, lines_by_rows, records_of_batches};
 use sqlite::{Alter, Connection, Error};
 use store_data::Name;
 

@@ -11,8 +11,8 @@ ghost use Rattle.store_reads.specs.Tells.{Tells};
 
 use crate::plans::{rows_told, segment_in};
 use job_facts::SegmentRow;
+use row_laws::{batches_by_name, groupings_by_place, plans_by_rows, records_by_name};
 use row_reads::{batch_told, groupings_of, record_named};
-use rows_answer::{batches_by_name, groupings_by_place, plans_by_rows, records_by_name};
 use sqlite::{Alter, Connection, Error};
 use store_data::{Name, Product, Row};
 

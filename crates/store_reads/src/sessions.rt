@@ -10,10 +10,8 @@ ghost use Rattle.store_reads.specs.Tells.{Tells};
 
 use crate::numbers::END;
 use job_facts::SessionRow;
+use row_laws::{batches_by_id, records_by_place, running_sessions_by_machine, sessions_by_number};
 use row_reads::{batch_name, record_at};
-use rows_answer::{
-    batches_by_id, records_by_place, running_sessions_by_machine, sessions_by_number,
-};
 use sqlite::{Alter, Connection, Error};
 use store_data::Name;
 

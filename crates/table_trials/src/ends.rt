@@ -1,11 +1,11 @@
 //! How each end of the program is seen from outside: by its status, and its words on standard error.
 use crate::exchanges::at_last;
 use batch_import::{Kind, RowFault};
-use command_line::{End, Exit, exit_of};
 use job_facts::Refusal;
 use std::alloc::{AllocError, Global};
 use std::process::Abort;
 use std::test::Fail;
+use subcommands::{End, Exit, exit_of};
 
 // The words as they are displayed.
 fn shown(alloc: Global, exit: &Exit) -> Result<String, AllocError> {

@@ -1,11 +1,11 @@
 //! What is asked of a store, and what is told. What is refused memory is asked again.
 ghost use Rattle.std.specs.Prelude.{IfOk};
 ghost use Rattle.job_facts.specs.Requests.{IsArrival};
-ghost use Rattle.asks.specs.Asks.{IsInRange};
+ghost use Rattle.http_requests.specs.Asks.{IsInRange};
 
 use arrivals::Kept;
-use asks::{AskFault, Asked, to_ask};
-use heads::{FixedReply, Pieces, Reading, read_message};
+use http_messages::{FixedReply, Pieces, Reading, read_message};
+use http_requests::{AskFault, Asked, to_ask};
 use job_facts::{Arrival, JobStore, StoreFault};
 use reply_store::handle;
 use std::alloc::{AllocError, Global};

@@ -1,17 +1,17 @@
 //! What joins the program's words to its streams, its file and its event lines.
 use crate::ends::check_exit;
 use crate::exchanges::at_last;
+use arguments::{WordsFault, read_words};
 use audit_rows::Rule;
-use command_line::{End, end_of_close, explain, level_by, note_refusal, told_end, wanted_of};
 use event_lines::{EventLog, Level};
 use file_causes::{Damage, Difference};
 use job_facts::StoreFault;
 use over_tables::{Cause, FileFault, Wanted};
-use program_words::{WordsFault, read_words};
 use std::alloc::{AllocError, Global};
 use std::env::VarError;
 use std::process::Abort;
 use std::test::Fail;
+use subcommands::{End, end_of_close, explain, level_by, note_refusal, told_end, wanted_of};
 
 // What words that give no subcommand print into two pages, and how much of each is used.
 fn explained(

@@ -1,14 +1,14 @@
 //! Runs of the program, from its words to its exit.
 use crate::ends::check_exit;
 use crate::exchanges::at_last;
-use command_line::{End, run, run_feed, told_end};
+use arguments::{Words, WordsFault, read_words};
 use event_lines::{EventLog, Level};
 use feeding::Exchange;
-use program_words::{Words, WordsFault, read_words};
 use std::alloc::{AllocError, Global};
 use std::io::{self, BufWriter, Cursor, ErrorKind, Write};
 use std::process::Abort;
 use std::test::Fail;
+use subcommands::{End, run, run_feed, told_end};
 use worked_files::{JSON, reply_bytes};
 
 /// Takes all, and fails to flush.

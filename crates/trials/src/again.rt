@@ -1,11 +1,11 @@
 //! Asking again where memory was refused. So each test says the same whichever one allocation is refused, in its set-up too.
+use arguments::WordsFault;
 use batch_import::ImportFault;
 use dgi::DgiFault;
 use drill::DrillStop;
 use feeding::FeedStop;
 use job_facts::StoreFault;
 use plan_print::PlanStop;
-use program_words::WordsFault;
 use reports::AccountFault;
 use server::NextFault;
 use std::alloc::AllocError;

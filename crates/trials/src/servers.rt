@@ -5,7 +5,10 @@ use event_lines::{EventLog, Level};
 use faulty_store::{Fault, FaultyStore, Plan};
 use job_facts::{ServerStore, StoreFault};
 use list_store::ListStore;
-use server::{Connections, MemoryConnections, NextFault, Opened, ServeStop, Served, refusal_in, serve_and_tell};
+use server::{
+    Connections, MemoryConnections, NextFault, Opened, ServeStop, Served, refusal_in,
+    serve_and_tell,
+};
 use std::alloc::{AllocError, Global};
 use std::io::Write;
 use std::process::Abort;

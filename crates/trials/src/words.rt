@@ -1,5 +1,5 @@
 //! The program's words.
-use program_words::{Words, WordsFault, read_words};
+use arguments::{Words, WordsFault, read_words};
 use std::alloc::{AllocError, Global};
 use std::process::Abort;
 

@@ -5,11 +5,11 @@ use Rattle.job_facts.specs.declared.request.Call.{Call}
 use Rattle.job_facts.specs.declared.request.Call.TheVariants.{Job}
 use Rattle.job_facts.specs.declared.request.Request.{Request}
 use Rattle.job_facts.specs.declared.request.Request.TheVariants as request
-use Rattle.asks.specs.declared.ask.Asked.TheVariants as asked
-use Rattle.asks.specs.Asks.{ask_with, import_tail}
-use Rattle.asks.specs.Meant.{Asks, Means}
-use Rattle.asks.specs.Posts.{post_with, posted_with}
-use Rattle.asks.specs.Requests.{call_in}
+use Rattle.http_requests.specs.declared.ask.Asked.TheVariants as asked
+use Rattle.http_requests.specs.Asks.{ask_with, import_tail}
+use Rattle.http_requests.specs.Meant.{Asks, Means}
+use Rattle.http_requests.specs.Posts.{post_with, posted_with}
+use Rattle.http_requests.specs.Requests.{call_in}
 use Rattle.wire.specs.Sending.{AreNames, Arrives, IsMessageOf, IsNoImport, IsSendable, body_of}
 use Rattle.wire.proofs.SendLemmas.{file_is_sent, json_is_sent, no_tail}
 use Rattle.wire.proofs.SentRequests.{call_is_read}

@@ -44,12 +44,12 @@ use Rattle.arrivals.specs.Told.{Told, body_of, status_of}
 use Rattle.arrivals.specs.Values.{IsPlain, made_name, value_of}
 use Rattle.arrivals.proofs.Escapes.{escape_plain, hex_plain, name_plain, plain_ascii}
 use Rattle.store_data.specs.Name.{is_name}
-use Rattle.heads.specs.declared.reply.Content.TheVariants.{Json}
+use Rattle.http_messages.specs.declared.reply.Content.TheVariants.{Json}
 use Rattle.wire.specs.ReplyReading.{HasNoBrace, reply_in}
 use Rattle.wire.specs.ReplyText.{AreToldApart, IsReply, reply_bytes}
-use Rattle.asks.specs.Members.{name_at, text_at, value_in}
-use Rattle.asks.proofs.RequestLemmas.{value_in-read}
-use Rattle.heads.specs.Texts.{head_text, status_text}
+use Rattle.http_requests.specs.Members.{name_at, text_at, value_in}
+use Rattle.http_requests.proofs.RequestLemmas.{value_in-read}
+use Rattle.http_messages.specs.Texts.{head_text, status_text}
 
 -- ---- JSON
 

@@ -7,8 +7,8 @@ use Rattle.job_facts.specs.declared.request.Call.TheVariants.{Job, Release}
 use Rattle.job_facts.specs.declared.request.Request.TheVariants as request
 use Rattle.arrivals.specs.Values.{IsPlain}
 use Rattle.arrivals.proofs.Escapes.{hex_plain}
-use Rattle.asks.specs.Asks.{import_tail}
-use Rattle.asks.specs.Posts.{post_with}
+use Rattle.http_requests.specs.Asks.{import_tail}
+use Rattle.http_requests.specs.Posts.{post_with}
 use Rattle.wire.specs.Sending.{IsNoImport, body_of, sending_of, tail_of, value_of, word_text}
 
 pub no_float : (r : Call) → has_float (value_of r) ≡ false

@@ -12,7 +12,7 @@ use Rattle.job_facts.specs.declared.reply.Made.TheVariants.{Created, Known}
 use Rattle.job_facts.specs.declared.reply.Reply.{Reply}
 use Rattle.job_facts.specs.declared.reply.Reply.TheVariants.{Product, Lot, Import, Opened, Next, Good, Spoiled, Reset, Discarded, Waiting, Withdrawn, Closed, Refused, Busy, Released, NumberReleased, Faulty}
 use Rattle.std.specs.Option.{option_or}
-use Rattle.asks.specs.Members.{passing, name_at, number_at, text_at}
+use Rattle.http_requests.specs.Members.{passing, name_at, number_at, text_at}
 
 -- ---- where a body begins
 

@@ -5,8 +5,8 @@ use Rattle.job_facts.specs.Sound.{IsName}
 use Rattle.job_facts.specs.declared.reply.Reply.{Reply}
 use Rattle.job_facts.specs.declared.reply.Reply.TheVariants.{Product, Lot, Import, Opened, Next, Good, Spoiled, Reset, Discarded, Waiting, Withdrawn, Closed, Refused, Busy, Released, NumberReleased, Faulty}
 use Rattle.arrivals.specs.Told.{body_of, status_of, told_of}
-use Rattle.heads.specs.declared.reply.Content.TheVariants.{Json}
-use Rattle.heads.specs.Texts.{reply_text}
+use Rattle.http_messages.specs.declared.reply.Content.TheVariants.{Json}
+use Rattle.http_messages.specs.Texts.{reply_text}
 
 -- all of a reply, from the status line to the end of its body
 abbrev pub reply_bytes : Reply → List ℕ

@@ -9,10 +9,10 @@ use Rattle.job_facts.specs.Requests.{IsRequest}
 use Rattle.job_facts.specs.declared.request.Call.{Call}
 use Rattle.job_facts.specs.declared.request.Call.TheVariants.{Job, Release}
 use Rattle.job_facts.specs.declared.request.Request.TheVariants as request
-use Rattle.asks.specs.declared.ask.Asked.TheVariants as asked
-use Rattle.asks.specs.Asks.{ask_with, import_tail}
-use Rattle.asks.specs.Meant.{Asks, Means}
-use Rattle.asks.specs.Posts.{post_with}
+use Rattle.http_requests.specs.declared.ask.Asked.TheVariants as asked
+use Rattle.http_requests.specs.Asks.{ask_with, import_tail}
+use Rattle.http_requests.specs.Meant.{Asks, Means}
+use Rattle.http_requests.specs.Posts.{post_with}
 use Rattle.text_io.specs.Inputs.{most_input}
 
 -- ---- what callers owe

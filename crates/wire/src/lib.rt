@@ -6,11 +6,11 @@ ghost use Rattle.wire.specs.ReplyText.{AreToldApart};
 mod parse;
 mod sending;
 
-pub use asks::{AskFault, Asked, Wanted, to_ask};
-pub use heads::{
+pub use http_messages::{
     ByteSource, Content, FixedReply, Message, Method, Pieces, Reading, read_message, reply_head,
     reply_parts,
 };
+pub use http_requests::{AskFault, Asked, Wanted, to_ask};
 pub use parse::parse_reply;
 pub use sending::request_text;
 

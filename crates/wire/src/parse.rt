@@ -9,13 +9,13 @@ ghost use Rattle.wire.specs.ReplyReading.{HasNoBrace, accepted_in, bytes_at, com
 ghost use Rattle.wire.specs.ReplyReading.{ended_in, import_in, made_in, next_in, noted_in};
 ghost use Rattle.wire.specs.ReplyReading.{opened_in, refused_in, reply_in};
 ghost use Rattle.wire.specs.ReplyText.{IsReply, reply_bytes};
-ghost use Rattle.asks.specs.Members.{name_at, number_at, text_at};
+ghost use Rattle.http_requests.specs.Members.{name_at, number_at, text_at};
 
 use arrivals::{body_of, status_of};
-use asks::members::{name_at, number_at, text_at, value_in};
 use batch_import::{Kind as FaultKind, RowFault};
-use heads::{Content, reply_head};
 use hex::FromHexError;
+use http_messages::{Content, reply_head};
+use http_requests::members::{name_at, number_at, text_at, value_in};
 use job_facts::{Made, Refusal, Reply};
 use serde_json::Value;
 use std::alloc::{AllocError, Global};

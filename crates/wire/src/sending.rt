@@ -8,7 +8,7 @@ ghost use Rattle.wire.specs.Sending.{record_request, sending_of};
 ghost use Rattle.wire.specs.Sending.{value_of, word_text};
 
 use arrivals::name_text;
-use asks::{import_text, job_text};
+use http_requests::{import_text, job_text};
 use job_facts::{Call, Lot, Request};
 use serde_json::{Value, json};
 use std::alloc::{AllocError, Global};

@@ -1,8 +1,8 @@
 //! Scripts of drills, and what is printed.
-use case_exchanges::Scripted;
 use drill::{DrillStop, drill_over_lists};
 use over_tables::drill_engine;
 use std::alloc::{AllocError, Global};
+use worked_exchanges::Scripted;
 use worked_files::{Case, CaseFault, Line, check_bytes};
 
 /// A script prints what it must, over tables.

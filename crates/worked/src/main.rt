@@ -5,13 +5,13 @@ mod drills;
 mod feeds;
 mod stores;
 
-use case_exchanges::{check_exchanges, check_machine, check_messages};
 use drills::{check_script, check_scripted};
 use feeds::check_feed;
 use std::alloc::Global;
 use std::process::ExitCode;
 use std::{env, fs, io};
 use stores::{Lists, ListsBehindDevice, Tables};
+use worked_exchanges::{check_exchanges, check_machine, check_messages};
 use worked_files::{Case, CaseFault, Repeats, Table, cases, check_plan, check_table};
 
 const USAGE: &str =

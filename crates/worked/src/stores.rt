@@ -1,10 +1,10 @@
 //! The kinds of stores that the cases are gone over.
-use case_exchanges::StoreKind;
 use faulty_store::FaultyStore;
 use list_store::ListStore;
 use schema::SqlStore;
 use sqlite::{Connection, MemStore};
 use std::alloc::Global;
+use worked_exchanges::StoreKind;
 use worked_files::CaseFault;
 
 /// Plain lists.

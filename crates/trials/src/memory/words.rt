@@ -1,6 +1,6 @@
 //! The program's words.
 use crate::words::read_at_last;
-use program_words::{Words, WordsFault};
+use arguments::{Words, WordsFault};
 
 #[test]
 fn words_are_read_after_refused_memory(rt: HostRuntime) {

@@ -4,8 +4,8 @@ use Rattle.std.proofs.lemmas.List.{length-map}
 use Rattle.audit_cards.specs.Sessions.{IsAuditedWith}
 use Rattle.audit_cards.proofs.BatchLemmas.{at_place, own_with, with_own}
 use Rattle.audit_cards.proofs.FileLemmas.{groups_count, has_rows}
-use Rattle.ordered_rows.proofs.SameLists.{All-done, All-here, All-next}
-use Rattle.ordered_rows.proofs.Told.{granted, refused}
+use Rattle.audit_order.proofs.SameLists.{All-done, All-here, All-next}
+use Rattle.audit_order.proofs.Told.{granted, refused}
 use Rattle.audit_cards.proofs.batches.are_audited.Goals as goal
 
 pub bounds-groups-place : goal.bounds-groups-place

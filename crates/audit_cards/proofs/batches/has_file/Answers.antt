@@ -5,7 +5,7 @@ use Rattle.store_data.specs.Groups.{grouped}
 use Rattle.audit_laws.specs.Audited.{key_of}
 use Rattle.audit_cards.specs.Files.{HasFile, groupings_in, keys_of, names_in}
 use Rattle.audit_cards.proofs.BatchLemmas.{all_placed, audited_file, counts_told, file_parts, file_told, groupings_here, keys_here, own_rising, own_same, parts_file}
-use Rattle.ordered_rows.proofs.Told.{refused, told_as}
+use Rattle.audit_order.proofs.Told.{refused, told_as}
 use Rattle.audit_cards.proofs.batches.has_file.Goals as goal
 
 pub returns-then-not-has_records : goal.returns-then-not-has_records

@@ -3,7 +3,7 @@ use Rattle.std.specs.List.Sorted.{IsPartitionedBy}
 use Rattle.std.proofs.lemmas.List.{take_rest}
 use Rattle.std.proofs.lemmas.List.Sorted.{IsNonDecreasingBy-drop, IsPartitionPoint-from_clause, IsPartitionedBy-leb, IsPartitionedBy-ltb}
 use Rattle.table_rows.specs.Tables.{StoredSession}
-use Rattle.ordered_rows.proofs.RangeLemmas.{range_is}
+use Rattle.audit_order.proofs.RangeLemmas.{range_is}
 use Rattle.audit_cards.proofs.by_record.sessions_at.Goals as goal
 
 pub returns : goal.returns

@@ -1,5 +1,5 @@
 use Rattle.audit_cards.specs.Files.{groupings_in}
-use Rattle.ordered_rows.proofs.SameLists.{AreSameBelow}
+use Rattle.audit_order.proofs.SameLists.{AreSameBelow}
 use Rattle.audit_cards.proofs.files.are_groupings.Given as goal
 
 abbrev pub invariant-loop-place : goal.invariant-loop-place

@@ -1,6 +1,6 @@
 use Rattle.audit_laws.specs.Audited.{key_of}
 use Rattle.audit_cards.specs.Files.{keys_of}
-use Rattle.ordered_rows.proofs.SameLists.{AreSameBelow}
+use Rattle.audit_order.proofs.SameLists.{AreSameBelow}
 use Rattle.audit_cards.proofs.files.are_records.Given as goal
 
 abbrev pub invariant-loop-place : goal.invariant-loop-place

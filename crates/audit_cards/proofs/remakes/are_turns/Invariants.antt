@@ -1,5 +1,5 @@
 use Rattle.audit_laws.specs.Audited.{turns_of}
-use Rattle.ordered_rows.proofs.SameLists.{AreSameBelow}
+use Rattle.audit_order.proofs.SameLists.{AreSameBelow}
 use Rattle.audit_cards.proofs.remakes.are_turns.Given as goal
 
 abbrev pub invariant-loop-before : goal.invariant-loop-before

@@ -1,5 +1,5 @@
 use Rattle.audit_cards.specs.Cards.{words_placed}
-use Rattle.ordered_rows.proofs.SameLists.{AreSameBelow}
+use Rattle.audit_order.proofs.SameLists.{AreSameBelow}
 use Rattle.audit_cards.proofs.words.are_placed.Given as goal
 
 abbrev pub invariant-loop-place : goal.invariant-loop-place

@@ -1,7 +1,7 @@
 use Rattle.std.proofs.Common.{◌≡◌, ◌∙◌, ℕ, false, subst, sym}
 use Rattle.std.specs.Prelude.{◌==◌, AllPairs}
 use Rattle.audit_rows.proofs.BlankLemmas.{apart_once, once_apart}
-use Rattle.ordered_rows.proofs.Told.{told_as}
+use Rattle.audit_order.proofs.Told.{told_as}
 use Rattle.audit_rows.proofs.blanks.are_blanks_once.Goals as goal
 
 pub returns : goal.returns

@@ -3,8 +3,8 @@ use Rattle.std.specs.Prelude.{count_by}
 use Rattle.std.proofs.lemmas.Bool.{false≢true}
 use Rattle.job_facts.specs.States.{is_in}
 use Rattle.table_rows.specs.Tables.{StoredLot}
-use Rattle.ordered_rows.proofs.SameLists.{All-done, All-here, All-next}
-use Rattle.ordered_rows.proofs.Told.{granted, refused}
+use Rattle.audit_order.proofs.SameLists.{All-done, All-here, All-next}
+use Rattle.audit_order.proofs.Told.{granted, refused}
 use Rattle.audit_rows.proofs.blanks.count_all.Goals as goal
 
 pub counts-requires-clause-range : goal.counts-requires-clause-range

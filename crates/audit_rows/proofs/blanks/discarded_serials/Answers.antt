@@ -1,6 +1,6 @@
 use Rattle.std.proofs.Common.{◌∙◌, ◌++◌, ◌∷◌, [], List, ℕ, ap, sym}
 use Rattle.table_rows.specs.Tables.{StoredBlank}
-use Rattle.ordered_rows.proofs.SameLists.{kept_less, kept_more}
+use Rattle.audit_order.proofs.SameLists.{kept_less, kept_more}
 use Rattle.audit_rows.proofs.blanks.discarded_serials.Goals as goal
 use Rattle.audit_rows.proofs.blanks.discarded_serials.Goals.{then-is_discarded+in_ok-push, else-is_discarded}
 

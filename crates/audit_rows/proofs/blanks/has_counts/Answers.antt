@@ -3,7 +3,7 @@ use Rattle.std.specs.Prelude.{count_by}
 use Rattle.job_facts.specs.States.{is_in}
 use Rattle.table_rows.specs.Tables.{StoredBlank, StoredLot, Tables}
 use Rattle.image_laws.specs.Decided.{discarded_rows}
-use Rattle.ordered_rows.proofs.Told.{told_as}
+use Rattle.audit_order.proofs.Told.{told_as}
 use Rattle.audit_rows.proofs.blanks.has_counts.Goals as goal
 
 abbrev Count : List StoredLot → List StoredBlank → Type 0

@@ -1,7 +1,7 @@
 use Rattle.std.proofs.Common.{◌≢◌, ◌∙◌, List, ap, subst, sym}
 use Rattle.std.specs.Prelude.{AllPairs}
 use Rattle.table_rows.specs.Tables.{StoredBlank, Tables}
-use Rattle.ordered_rows.proofs.Told.{told_as}
+use Rattle.audit_order.proofs.Told.{told_as}
 use Rattle.audit_rows.proofs.blanks.has_once.Goals as goal
 
 abbrev AreOnce : List StoredBlank → Type 0

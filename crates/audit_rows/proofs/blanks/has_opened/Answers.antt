@@ -2,7 +2,7 @@ use Rattle.std.proofs.Common.{◌∙◌, List, ap, map, subst, sym}
 use Rattle.std.specs.Prelude.{IsPermutation}
 use Rattle.table_rows.specs.Tables.{StoredBlank, StoredSession, Tables}
 use Rattle.audit_laws.specs.Audited.{opened_rows}
-use Rattle.ordered_rows.proofs.Told.{told_as}
+use Rattle.audit_order.proofs.Told.{told_as}
 use Rattle.audit_rows.proofs.blanks.has_opened.Goals as goal
 
 abbrev AreOpened : List StoredBlank → List StoredSession → Type 0

@@ -2,7 +2,7 @@ use Rattle.std.proofs.Common.{◌∙◌, sym, ap}
 use Rattle.std.specs.Prelude.{option_map}
 use Rattle.std.proofs.lemmas.Option.{none-some, same_Some}
 use Rattle.job_facts.specs.declared.facts.Lot.{Lot}
-use Rattle.ordered_rows.proofs.Told.{refused}
+use Rattle.audit_order.proofs.Told.{refused}
 use Rattle.audit_rows.proofs.blanks.is_audited_blank.Goals as goal
 
 pub returns-in-None : goal.returns-in-None

@@ -1,6 +1,6 @@
 use Rattle.std.proofs.Common.{◌∙◌, ◌++◌, ◌∷◌, [], List, ℕ, not, ap, sym}
 use Rattle.table_rows.specs.Tables.{StoredBlank}
-use Rattle.ordered_rows.proofs.SameLists.{kept_less, kept_more}
+use Rattle.audit_order.proofs.SameLists.{kept_less, kept_more}
 use Rattle.audit_rows.proofs.blanks.opened_serials.Goals as goal
 use Rattle.audit_rows.proofs.blanks.opened_serials.Goals.{then-is_opened+in_ok-push, else-is_opened}
 

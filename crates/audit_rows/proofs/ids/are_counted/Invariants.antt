@@ -1,6 +1,6 @@
 use Rattle.std.proofs.Common.{length}
 use Rattle.std.specs.List.{range_with_len}
-use Rattle.ordered_rows.proofs.SameLists.{AreSameBelow}
+use Rattle.audit_order.proofs.SameLists.{AreSameBelow}
 use Rattle.audit_rows.proofs.ids.are_counted.Given as goal
 
 abbrev pub invariant-loop-place : goal.invariant-loop-place

@@ -1,8 +1,8 @@
 use Rattle.std.proofs.Common.{◌∙◌, sym, subst}
 use Rattle.std.proofs.lemmas.Bool.{false≢true}
 use Rattle.audit_rows.specs.Audit.{IsIdOf}
-use Rattle.ordered_rows.proofs.SameLists.{All-done, All-here, All-next}
-use Rattle.ordered_rows.proofs.Told.{granted, refused}
+use Rattle.audit_order.proofs.SameLists.{All-done, All-here, All-next}
+use Rattle.audit_order.proofs.Told.{granted, refused}
 use Rattle.audit_rows.proofs.ids.have_ids.Goals as goal
 
 pub returns-then-not-is_id : goal.returns-then-not-is_id

@@ -1,7 +1,7 @@
 use Rattle.std.proofs.Common.{◌≡◌, ◌∙◌, List, ℕ, false, subst, sym}
 use Rattle.std.specs.Prelude.{AllPairs, bytes_eq}
 use Rattle.audit_rows.proofs.MachineLemmas.{once_runs, runs_once}
-use Rattle.ordered_rows.proofs.Told.{told_as}
+use Rattle.audit_order.proofs.Told.{told_as}
 use Rattle.audit_rows.proofs.machines.run_once.Goals as goal
 
 pub returns : goal.returns

@@ -1,7 +1,7 @@
 use Rattle.std.proofs.Common.{◌∙◌, ◌++◌, ◌∷◌, [], List, ℕ, ap, sym}
 use Rattle.job_facts.specs.States.{is_running}
 use Rattle.table_rows.specs.Tables.{StoredSession}
-use Rattle.ordered_rows.proofs.SameLists.{kept_less, kept_more}
+use Rattle.audit_order.proofs.SameLists.{kept_less, kept_more}
 use Rattle.audit_rows.proofs.machines.running_machines.Goals as goal
 use Rattle.audit_rows.proofs.machines.running_machines.Goals.{then-runs+in_ok-push, else-runs}
 

@@ -3,8 +3,8 @@ use Rattle.std.proofs.lemmas.Bool.{false≢true}
 use Rattle.store_data.specs.declared.row.Product.{Product}
 use Rattle.store_data.specs.Sequence.{IsProduct}
 use Rattle.job_facts.specs.Sound.{IsName}
-use Rattle.ordered_rows.proofs.SameLists.{All-done, All-here, All-next}
-use Rattle.ordered_rows.proofs.Told.{granted, refused}
+use Rattle.audit_order.proofs.SameLists.{All-done, All-here, All-next}
+use Rattle.audit_order.proofs.Told.{granted, refused}
 use Rattle.audit_rows.proofs.named.are_in_range.Goals as goal
 
 pub returns-then-not-is_product : goal.returns-then-not-is_product

@@ -2,8 +2,8 @@ use Rattle.std.proofs.Common.{◌∙◌, sym}
 use Rattle.std.proofs.lemmas.Bool.{false≢true}
 use Rattle.job_facts.specs.Sound.{IsLot}
 use Rattle.table_rows.specs.Tables.{StoredLot}
-use Rattle.ordered_rows.proofs.SameLists.{All-done, All-here, All-next}
-use Rattle.ordered_rows.proofs.Told.{granted, refused}
+use Rattle.audit_order.proofs.SameLists.{All-done, All-here, All-next}
+use Rattle.audit_order.proofs.Told.{granted, refused}
 use Rattle.audit_rows.proofs.named.are_lots_in_range.Goals as goal
 
 pub returns-then-not-is_lot : goal.returns-then-not-is_lot

@@ -1,7 +1,7 @@
 use Rattle.std.proofs.Common.{◌∙◌, subst, sym}
 use Rattle.std.specs.Prelude.{AllPairs}
 use Rattle.audit_rows.proofs.ReplyLemmas.{is_other, kept_once, once_kept}
-use Rattle.ordered_rows.proofs.Told.{told_as}
+use Rattle.audit_order.proofs.Told.{told_as}
 use Rattle.audit_rows.proofs.replies.are_kept_once.Goals as goal
 
 pub returns : goal.returns

@@ -1,8 +1,8 @@
 use Rattle.std.proofs.Common.{◌∙◌, sym}
 use Rattle.std.proofs.lemmas.Bool.{false≢true}
 use Rattle.job_facts.specs.Contents.{IsMark}
-use Rattle.ordered_rows.proofs.SameLists.{All-done, All-here, All-next}
-use Rattle.ordered_rows.proofs.Told.{granted, refused}
+use Rattle.audit_order.proofs.SameLists.{All-done, All-here, All-next}
+use Rattle.audit_order.proofs.Told.{granted, refused}
 use Rattle.audit_rows.proofs.replies.are_marks.Goals as goal
 
 pub returns-then-not-is_mark : goal.returns-then-not-is_mark

@@ -1,5 +1,5 @@
 use Rattle.job_facts.specs.Contents.{IsMark}
-use Rattle.ordered_rows.proofs.SameLists.{All-here}
+use Rattle.audit_order.proofs.SameLists.{All-here}
 use Rattle.audit_rows.proofs.replies.clients_of.Goals as goal
 
 pub client_of-requires : goal.client_of-requires

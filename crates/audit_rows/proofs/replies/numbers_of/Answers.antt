@@ -1,5 +1,5 @@
 use Rattle.job_facts.specs.Contents.{IsEntry}
-use Rattle.ordered_rows.proofs.SameLists.{All-here}
+use Rattle.audit_order.proofs.SameLists.{All-here}
 use Rattle.audit_rows.proofs.replies.numbers_of.Goals as goal
 
 pub number_of-requires : goal.number_of-requires

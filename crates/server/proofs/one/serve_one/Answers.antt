@@ -1,6 +1,6 @@
 use Rattle.std.proofs.Common.{false, [], refl, inl}
 use Rattle.std.proofs.KnownBytes.{Appends-nil}
-use Rattle.asks.specs.Meant.{Asks, Broken, Refused}
+use Rattle.http_requests.specs.Meant.{Asks, Broken, Refused}
 use Rattle.server.specs.declared.served.End.TheVariants as ended
 use Rattle.server.specs.declared.served.Served.{Served}
 use Rattle.server.specs.Exchanges.{Exchange}

@@ -3,7 +3,7 @@ use Rattle.std.specs.Prelude.{find, option_map}
 use Rattle.sqlite.specs.Held.{state}
 use Rattle.row_reads.specs.Telling.{told_of}
 use Rattle.table_rows.specs.Keys.{is_batch_named}
-use Rattle.rows_answer.proofs.Finding.{option_map-map}
+use Rattle.row_laws.proofs.Finding.{option_map-map}
 use Rattle.image_laws.specs.Image.{stored_batches}
 use Rattle.store_reads.specs.Heads.{row_of}
 use Rattle.store_reads.proofs.Telling.{shown}

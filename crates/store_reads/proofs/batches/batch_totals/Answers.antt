@@ -4,7 +4,7 @@ use Rattle.sqlite.specs.Held.{state}
 use Rattle.row_reads.specs.Telling.{head_of}
 use Rattle.table_rows.specs.Keys.{is_batch_named}
 use Rattle.table_rows.specs.Tables.{StoredBatch}
-use Rattle.rows_answer.specs.Telling as rows
+use Rattle.row_laws.specs.Telling as rows
 use Rattle.image_laws.specs.Image.{stored_batches}
 use Rattle.store_reads.specs.Heads.{totals_in}
 use Rattle.store_reads.proofs.Telling.{shown}

@@ -3,7 +3,7 @@ use Rattle.std.specs.Prelude.{option_map}
 use Rattle.sqlite.specs.Held.{state}
 use Rattle.row_reads.specs.declared.lots.LotRow.{LotRow}
 use Rattle.row_reads.specs.Telling.{lot_row_of}
-use Rattle.rows_answer.proofs.Finding.{option_map-map}
+use Rattle.row_laws.proofs.Finding.{option_map-map}
 use Rattle.store_reads.proofs.Telling.{shown}
 use Rattle.store_reads.proofs.lots.lot.Goals as goal
 

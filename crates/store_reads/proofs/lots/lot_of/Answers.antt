@@ -4,7 +4,7 @@ use Rattle.job_facts.specs.declared.facts.Lot.{Lot}
 use Rattle.job_facts.specs.States.{is_in, lot_of}
 use Rattle.table_rows.specs.Tables.{StoredLot}
 use Rattle.image_laws.specs.Image.{stored_lots}
-use Rattle.rows_answer.proofs.Finding.{AllPairs-map}
+use Rattle.row_laws.proofs.Finding.{AllPairs-map}
 use Rattle.store_reads.proofs.Telling.{tells}
 use Rattle.store_reads.proofs.lots.lot_of.Goals as goal
 

@@ -3,8 +3,8 @@ use Rattle.std.proofs.lemmas.Bool.Decides.{Decides-eqb}
 use Rattle.std.proofs.lemmas.Slice.Eq.{strip_prefix_is}
 use Rattle.std.specs.Prelude.{bytes_eq}
 use Rattle.arrivals.specs.Told.{body_of, status_of}
-use Rattle.heads.specs.declared.reply.Content.TheVariants.{Json}
-use Rattle.heads.specs.Texts.{head_text}
+use Rattle.http_messages.specs.declared.reply.Content.TheVariants.{Json}
+use Rattle.http_messages.specs.Texts.{head_text}
 use Rattle.wire.proofs.ParseLemmas.{same_text, other_text}
 use Rattle.wire.proofs.parse.is_text_of.Goals as goal
 

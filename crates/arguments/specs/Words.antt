@@ -1,0 +1,269 @@
+-- What the words of the program mean: this project's profile, as a command of `clap`.
+use Rattle.std.specs.Prelude.{◌≡◌, ◌≢◌, ◌≤◌, ◌⊎◌, ⊤, ℕ, Bool, List, [], ◌∷◌, codes}
+use Rattle.std.specs.Prelude.{Option, Some, pos, true, false, string_bytes}
+use Rattle.std.specs.Str.Parse.{IsNumeral, digits_value, without_leading_plus}
+use Rattle.clap.specs.Words.{App, IsAmong, Kinds, Row, Rule, Text, new_app, new_rule}
+use Rattle.clap.specs.Words.{first_of, one_of, subcommand_of, with_rule, with_subcommand}
+use Rattle.clap.specs.Words.{fault_of}
+use Rattle.clap.specs.Values.{bool_text}
+use Rattle.clap.specs.declared.builder.action.ArgAction.TheVariants.{SetTrue}
+use Rattle.clap.specs.declared.builder.value_parser.ValueParser.{ValueParser}
+use Rattle.clap.specs.declared.builder.value_parser.ValueParser.TheVariants.{Signed, Unsigned}
+use Rattle.clap.specs.declared.error.kind.ErrorKind.{ErrorKind}
+use Rattle.clap.specs.declared.error.kind.ErrorKind.TheVariants.{DisplayHelp, DisplayVersion}
+use Rattle.std.specs.declared.io.ErrorKind.{ErrorKind as IoKind}
+use Rattle.std.specs.declared.io.ErrorKind.TheVariants as io
+use Rattle.store_data.specs.Name.{is_name}
+use Rattle.arguments.specs.declared.words.Words.{Words}
+use Rattle.arguments.specs.declared.words.Words.TheVariants.{Plan, Drill, Serve, Report, Feed}
+use Rattle.arguments.specs.declared.words.Unread.{Unread}
+use Rattle.arguments.specs.declared.words.Unread.TheVariants as lacks
+use Rattle.arguments.specs.declared.words.WordsFault.{WordsFault}
+use Rattle.arguments.specs.declared.words.WordsFault.TheVariants.{Help, Version, Usage}
+use Rattle.arguments.specs.declared.words.WordsFault.TheVariants.{NotText, BadName, Memory}
+
+-- ---- the command
+
+-- the numbers from low to high
+abbrev pub numbers : ℕ → ℕ → ValueParser
+numbers low high = Signed (pos low) (pos high)
+
+-- `--name N`; where it is not given, the default stands
+abbrev pub number_option : Text → ValueParser → Text → Rule
+number_option name parser default = record (new_rule name) {
+  long = Some name;
+  value_names = 1;
+  parser = Some parser;
+  defaults = default ∷ [];
+}
+
+-- `--name`, which is on where it is given
+abbrev pub flag : Text → Rule
+flag name = record (new_rule name) { long = Some name; action = Some SetTrue }
+
+-- `plan [--max N] [--low N] [--check]`
+abbrev pub plan_command : App
+plan_command =
+    with_rule (with_rule (with_rule (new_app (codes "plan"))
+    (number_option (codes "max") (numbers 16 255) (codes "255")))
+    (number_option (codes "low") (numbers 0 31) (codes "0")))
+    (flag (codes "check"))
+
+-- `drill`, which has no options
+abbrev pub drill_command : App
+drill_command = new_app (codes "drill")
+
+-- `--name WORD`, which has to be given
+abbrev pub text_needed : Text → Rule
+text_needed name = record (new_rule name) { long = Some name; value_names = 1; required = true }
+
+-- `--name N`, which has to be given
+abbrev pub number_needed : Text → ValueParser → Rule
+number_needed name parser = record (text_needed name) { parser = Some parser }
+
+-- `--port N`, a port
+abbrev pub port_needed : Rule
+port_needed = number_needed (codes "port") (numbers 1 65535)
+
+-- `--boot N`, a machine's boot
+abbrev pub boot_needed : Rule
+boot_needed = number_needed (codes "boot") (Unsigned 1 9999999999)
+
+-- `serve --db PATH --port N --turns N`
+abbrev pub serve_command : App
+serve_command =
+    with_rule (with_rule (with_rule (new_app (codes "serve"))
+    (text_needed (codes "db")))
+    port_needed)
+    (number_needed (codes "turns") (numbers 1 1000000))
+
+-- `report --db PATH --batch NAME`
+abbrev pub report_command : App
+report_command =
+    with_rule (with_rule (new_app (codes "report"))
+    (text_needed (codes "db")))
+    (text_needed (codes "batch"))
+
+-- `feed --port N --machine NAME --boot N --batch NAME`
+abbrev pub feed_command : App
+feed_command =
+    with_rule (with_rule (with_rule (with_rule (new_app (codes "feed"))
+    port_needed)
+    (text_needed (codes "machine")))
+    boot_needed)
+    (text_needed (codes "batch"))
+
+-- the command has a version, for which `--version` or `-V` asks, and subcommands, one of which has
+-- to be named
+abbrev pub versioned : App → App
+versioned a = record a { top = record a.top { has_version = true; subcommand_required = true } }
+
+-- the program's command: its words are refused by `fault_of`, and else have `subcommand_of`
+abbrev pub program : App
+program =
+    with_subcommand (with_subcommand (with_subcommand
+    (with_subcommand (with_subcommand (versioned (new_app (codes "persod")))
+    plan_command.top) drill_command.top)
+    serve_command.top) report_command.top) feed_command.top
+
+-- ---- the answers
+
+-- a boot is 1 to 9,999,999,999
+abbrev pub IsBoot : ℕ → Type 0
+IsBoot boot = (1 ≤ boot) × (boot ≤ 9999999999)
+
+-- each value is in its range
+abbrev pub InRange : Words → Type 0
+InRange (Plan max low check) = (16 ≤ max) × (max ≤ 255) × (low ≤ 31)
+InRange Drill = ⊤
+InRange (Serve db port turns) = (1 ≤ port) × (port ≤ 65535) × (1 ≤ turns) × (turns ≤ 1000000)
+InRange (Report db batch) = ⊤
+InRange (Feed port start) = (1 ≤ port) × (port ≤ 65535) × IsBoot start.boot
+
+-- it uses the standard streams alone, and no file or socket
+abbrev pub UsesStreams : Words → Type 0
+UsesStreams (Plan max low check) = ⊤
+UsesStreams Drill = ⊤
+UsesStreams (Serve db port turns) = ⊥
+UsesStreams (Report db batch) = ⊥
+UsesStreams (Feed port start) = ⊥
+
+-- an option has this number, by the words or by default: its text is its decimal digits, before
+-- which a plus may stand
+abbrev pub IsNumber : Text → List Row → ℕ → Type 0
+IsNumber name rows n = (t : Text) × (one_of name rows ≡ Some t)
+    × IsNumeral 10 (without_leading_plus t) × (digits_value 10 (without_leading_plus t) ≡ n)
+
+-- the flag is on or off, by the words or by default
+abbrev pub IsFlag : Text → List Row → Bool → Type 0
+IsFlag name rows on = one_of name rows ≡ Some (bool_text on)
+
+-- an option has this text, and it is a name
+abbrev pub HasName : Text → List Row → Text → Type 0
+HasName option rows name = (first_of option rows ≡ Some name) × (is_name name ≡ true)
+
+-- an option has a text that isn't one
+abbrev pub HasBadName : Text → List Row → Type 0
+HasBadName option rows = (name : Text) × (first_of option rows ≡ Some name)
+    × (is_name name ≡ false)
+
+-- the subcommand is `drill`
+abbrev pub IsDrill : Option (Text × List Row) → Type 0
+IsDrill sub = (rows : List Row) × (sub ≡ Some (codes "drill", rows))
+
+-- the options of `plan` are read as this answer
+abbrev pub ReadsPlan : List Row → Words → Type 0
+ReadsPlan rows (Plan max low check) = IsNumber (codes "max") rows max
+    × IsNumber (codes "low") rows low × IsFlag (codes "check") rows check
+ReadsPlan rows _ = ⊥
+
+-- those of `serve`
+abbrev pub ReadsServe : List Row → Words → Type 0
+ReadsServe rows (Serve db port turns) = (first_of (codes "db") rows ≡ Some (string_bytes db))
+    × IsNumber (codes "port") rows port × IsNumber (codes "turns") rows turns
+ReadsServe rows _ = ⊥
+
+-- those of `report`
+abbrev pub ReadsReport : List Row → Words → Type 0
+ReadsReport rows (Report db batch) = (first_of (codes "db") rows ≡ Some (string_bytes db))
+    × HasName (codes "batch") rows batch
+ReadsReport rows _ = ⊥
+
+-- those of `feed`
+abbrev pub ReadsFeed : List Row → Words → Type 0
+ReadsFeed rows (Feed port start) = IsNumber (codes "port") rows port
+    × HasName (codes "machine") rows start.machine × IsNumber (codes "boot") rows start.boot
+    × HasName (codes "batch") rows start.batch
+ReadsFeed rows _ = ⊥
+
+-- the subcommand of this name is read as its options are
+abbrev pub Reads : Text → (List Row → Words → Type 0) → Option (Text × List Row) → Words → Type 0
+Reads name how sub w = (rows : List Row) × (sub ≡ Some (name, rows)) × how rows w
+
+-- a subcommand with its options is read as this answer
+abbrev pub ReadsAs : Option (Text × List Row) → Words → Type 0
+ReadsAs sub (Plan max low check) = Reads (codes "plan") ReadsPlan sub (Plan max low check)
+ReadsAs sub Drill = IsDrill sub
+ReadsAs sub (Serve db port turns) = Reads (codes "serve") ReadsServe sub (Serve db port turns)
+ReadsAs sub (Report db batch) = Reads (codes "report") ReadsReport sub (Report db batch)
+ReadsAs sub (Feed port start) = Reads (codes "feed") ReadsFeed sub (Feed port start)
+
+-- the words ask for this: it is how clap's subcommand of the words reads
+abbrev pub Means : List Text → Words → Type 0
+Means words = ReadsAs (subcommand_of program words)
+
+-- some words ask for this, in range
+abbrev pub IsAsked : Words → Type 0
+IsAsked w = InRange w × (words : List Text) × Means words w
+
+-- the words ask for nothing in range
+abbrev pub MeanNothing : List Text → Type 0
+MeanNothing words = (w : Words) → InRange w → ¬ Means words w
+
+-- nothing in range is read
+abbrev pub ReadsNone : (Words → Type 0) → Type 0
+ReadsNone how = (w : Words) → InRange w → ¬ how w
+
+-- an option has no name
+abbrev pub NamesNot : Text → List Row → Unread → Type 0
+NamesNot option rows lacks.Nothing = (t : Text) → ¬ (first_of option rows ≡ Some t)
+NamesNot option rows lacks.BadName = HasBadName option rows
+NamesNot option rows lacks.Memory = ⊥
+
+-- the options of `serve` aren't read
+abbrev pub ServesNot : List Row → Unread → Type 0
+ServesNot rows lacks.Nothing = ReadsNone (ReadsServe rows)
+ServesNot rows lacks.BadName = ⊥
+ServesNot rows lacks.Memory = ⊤
+
+-- those of `report` aren't
+abbrev pub ReportsNot : List Row → Unread → Type 0
+ReportsNot rows lacks.Nothing = ReadsNone (ReadsReport rows)
+ReportsNot rows lacks.BadName = HasBadName (codes "batch") rows
+ReportsNot rows lacks.Memory = ⊤
+
+-- those of `feed` aren't
+abbrev pub FeedsNot : List Row → Unread → Type 0
+FeedsNot rows lacks.Nothing = ReadsNone (ReadsFeed rows)
+FeedsNot rows lacks.BadName = HasBadName (codes "machine") rows ⊎ HasBadName (codes "batch") rows
+FeedsNot rows lacks.Memory = ⊥
+
+-- a subcommand tells a bad name
+abbrev pub TellsBadName : Option (Text × List Row) → Type 0
+TellsBadName sub =
+    ((rows : List Row) × (sub ≡ Some (codes "report", rows)) × ReportsNot rows lacks.BadName)
+    ⊎ ((rows : List Row) × (sub ≡ Some (codes "feed", rows)) × FeedsNot rows lacks.BadName)
+
+-- a subcommand with its options isn't: it asks for nothing in range, or tells a bad name
+abbrev pub ReadsNot : Option (Text × List Row) → Unread → Type 0
+ReadsNot sub lacks.Nothing = ReadsNone (ReadsAs sub)
+ReadsNot sub lacks.BadName = TellsBadName sub
+ReadsNot sub lacks.Memory = ⊤
+
+-- help and the version where they are among clap's kinds, a usage fault where another is; memory
+-- needs no cause
+abbrev pub IsRefusedBy : Kinds → WordsFault → Type 0
+IsRefusedBy kinds (Help text) = IsAmong DisplayHelp kinds
+IsRefusedBy kinds (Version text) = IsAmong DisplayVersion kinds
+IsRefusedBy kinds (Usage text) =
+    (k : ErrorKind) × IsAmong k kinds × (k ≢ DisplayHelp) × (k ≢ DisplayVersion)
+IsRefusedBy kinds NotText = ⊥
+IsRefusedBy kinds BadName = ⊥
+IsRefusedBy kinds Memory = ⊤
+
+-- clap refuses the words so, or it takes them and they are a usage fault, since they ask for nothing
+-- or tell a batch or a machine by what isn't a name
+abbrev pub IsRefusal : List Text → WordsFault → Type 0
+IsRefusal words (Help text) = IsRefusedBy (fault_of program words) (Help text)
+IsRefusal words (Version text) = IsRefusedBy (fault_of program words) (Version text)
+IsRefusal words (Usage text) = IsRefusedBy (fault_of program words) (Usage text)
+    ⊎ ((fault_of program words ≡ []) × MeanNothing words)
+IsRefusal words NotText = ⊥
+IsRefusal words BadName =
+    (fault_of program words ≡ []) × TellsBadName (subcommand_of program words)
+IsRefusal words Memory = ⊤
+
+-- why the process gives no words, by the kind of the error
+abbrev pub unread : IoKind → WordsFault
+unread io.OutOfMemory = Memory
+unread _ = NotText

@@ -1,0 +1,461 @@
+//! The program's words: the subcommand that they ask for, each of its values in its range.
+ghost use Rattle.std.specs.Prelude.{◌≡◌, ◌≤◌, ◌<◌, ◌^◌, ℕ, [], IfOk, IfErr, IfSome, IsTrue, ◌↔◌};
+ghost use Rattle.std.specs.Prelude.{None, Some, false, map, option_map};
+ghost use Rattle.clap.specs.Words.{HasKind, Kinds, app_of, fault_of, first_of, rule_of};
+ghost use Rattle.clap.specs.declared.builder.command.Command.TheViews.{out-Command as fields_of};
+ghost use Rattle.clap.specs.Words.{found_of, rows_of, subcommand_rows_of};
+ghost use Rattle.arguments.specs.Words.{InRange, IsNumber, IsRefusal, IsRefusedBy, Means};
+ghost use Rattle.arguments.specs.Words.{ReadsAs, ReadsNot, ReadsPlan, ReadsReport, ReadsServe};
+ghost use Rattle.arguments.specs.Words.{FeedsNot, HasName, NamesNot, ReadsFeed, ReportsNot};
+ghost use Rattle.arguments.specs.Words.{ServesNot, UsesStreams, drill_command, feed_command};
+ghost use Rattle.arguments.specs.Words.{boot_needed, flag, number_option, port_needed};
+ghost use Rattle.arguments.specs.Words.{plan_command, program, report_command, serve_command};
+ghost use Rattle.arguments.specs.Words.{text_needed, number_needed};
+ghost use Rattle.arguments.specs.declared.words.WordsFault.TheVariants.{Memory};
+ghost use Rattle.arguments.specs.declared.words.Unread.TheVariants as lacks;
+
+use clap::builder::ValueParser;
+use clap::error::ErrorKind;
+use clap::{Arg, ArgAction, ArgMatches, Command, Error, value_parser};
+use std::alloc::{AllocError, Global};
+use std::convert::AsStr;
+use std::{fmt, io};
+use store_data::Name;
+
+/// What is printed for words that clap takes and that ask for nothing: none do.
+const OUT_OF_RANGE: &str = "error: a value is out of its range\n";
+
+/// The program's version, which `--version` prints behind its name.
+const VERSION: &str = "1.0.0";
+
+/// The last lines of each help.
+const STATUSES: &str =
+    "Exit statuses: 0 done; 1 refused; 2 wrong arguments; 3 storage, device or memory";
+
+/// The same of `plan`.
+const STATUSES_OF_PLAN: &str =
+    "Exit statuses: 0 done; 1 refused; 2 wrong arguments; 3 storage, device or memory\n\n\
+    A refused batch prints `refused N row R`: docs/PROFILE.md lists each fault by its number N";
+
+/// A subcommand of the program, each value in its range.
+#[derive(PartialEq, Eq, Drop)]
+pub enum Words {
+    /// Prints the commands of a batch, with at most `max` bytes of data in each STORE DATA, 16 to
+    /// 255, the product's number `low` in its P1, 0 to 31, and whether plain records are checked.
+    Plan { max: u8, low: u8, check: bool },
+    /// Serves a script of requests in memory. It has no options.
+    Drill,
+    /// Serves `turns` connections to `port` of 127.0.0.1, one after the other, over the file at the
+    /// path `db`. A port is 1 to 65,535, and there are 1 to 1,000,000 turns.
+    Serve { db: String, port: u16, turns: u32 },
+    /// Prints the report of a batch in the file at the path `db`.
+    Report { db: String, batch: Name },
+    /// Feeds a machine with cards, by a server at `port` of 127.0.0.1, 1 to 65,535.
+    Feed { port: u16, start: FeedStart },
+}
+
+/// What a feed starts with: its machine, the boot of that machine, 1 to 9,999,999,999, and the batch
+/// that its cards are for.
+#[derive(Clone, Copy, PartialEq, Eq)]
+pub struct FeedStart {
+    pub machine: Name,
+    pub boot: u64,
+    pub batch: Name,
+}
+
+impl fmt::Debug for Words {
+    fn fmt<W: fmt::Write>(&self, f: &mut fmt::Formatter<W>) -> fmt::Result {
+        f.write_str(match self {
+            Words::Plan { .. } => "Plan",
+            Words::Drill => "Drill",
+            Words::Serve { .. } => "Serve",
+            Words::Report { .. } => "Report",
+            Words::Feed { .. } => "Feed",
+        })
+    }
+}
+
+impl Words {
+    /// Whether the subcommand uses the standard streams alone, and no file or socket.
+    pub fn uses_streams(&self) -> bool
+        ensures { IsTrue result ↔ UsesStreams self.now }
+    {
+        matches!(self, Words::Plan { .. } | Words::Drill)
+    }
+}
+
+/// Why the words give no subcommand.
+#[derive(Debug, Drop)]
+pub enum WordsFault {
+    /// They ask for help: its text is for standard output, and the exit status is 0.
+    Help(String),
+    /// They ask for the version: its text is for standard output, and the exit status is 0.
+    Version(String),
+    /// They are wrong: the text is for standard error, and the exit status is 2.
+    Usage(String),
+    /// One of them isn't UTF-8.
+    NotText,
+    /// What should be a batch's or a machine's name isn't a name.
+    BadName,
+    /// Memory ran out.
+    Memory,
+}
+
+impl From<io::Error> for WordsFault {
+    ghost use Rattle.std.specs.IoError.{error_kind};
+    ghost use Rattle.arguments.specs.Words.{unread};
+
+    ghost from_gives = { λ error fault. fault ≡ unread (error_kind error) };
+
+    fn from(error: io::Error) -> WordsFault {
+        if error.kind() == io::ErrorKind::OutOfMemory {
+            WordsFault::Memory
+        } else {
+            WordsFault::NotText
+        }
+    }
+}
+
+impl From<AllocError> for WordsFault {
+    ghost from_gives = { λ _ fault. fault ≡ Memory };
+
+    fn from(_error: AllocError) -> WordsFault {
+        WordsFault::Memory
+    }
+}
+
+/// What the words ask for. The first is the program's own name, as `env::args` gives them.
+///
+/// `Help` and `Version` come only where `clap` answers the words so, with `clap`'s text. `Usage`
+/// comes where `clap` refuses them, with `clap`'s text too, or where they ask for nothing in range.
+pub fn read_words<S: AsStr>(alloc: Global, words: &[S]) -> Result<Words, WordsFault>
+    ensures ranges { IfOk result InRange }
+    ensures meaning { IfOk result (Means (map S.text words.now)) }
+    ensures taken { IfOk result (λ _. fault_of program (map S.text words.now) ≡ []) }
+    ensures refusal { IfErr result (IsRefusal (map S.text words.now)) }
+{
+    match program(alloc)?.try_get_matches_from(words) {
+        Ok(matches) => match words_of(alloc, &matches) {
+            Ok(words) => Ok(words),
+            Err(Unread::Nothing) => {
+                Err(WordsFault::Usage(String::from_str(alloc, OUT_OF_RANGE)?))
+            }
+            Err(Unread::BadName) => Err(WordsFault::BadName),
+            Err(Unread::Memory) => Err(WordsFault::Memory),
+        },
+        Err(error) => Err(refusal_of(alloc, &error)?),
+    }
+}
+
+fn program<'a>(alloc: Global) -> Result<Command<'a>, AllocError>
+    ensures { IfOk result (λ c. app_of c ≡ program) }
+{
+    Command::new(alloc, "persod")
+        .version(VERSION)
+        .about("A job server for card personalisation")
+        .after_help(STATUSES)
+        .subcommand_required(true)
+        .subcommand(plan_command(alloc)?)?
+        .subcommand(drill_command(alloc))?
+        .subcommand(serve_command(alloc)?)?
+        .subcommand(report_command(alloc)?)?
+        .subcommand(feed_command(alloc)?)
+}
+
+fn plan_command<'a>(alloc: Global) -> Result<Command<'a>, AllocError>
+    ensures { IfOk result (λ c. (app_of c ≡ plan_command) × ((fields_of c).has_globals ≡ false)) }
+{
+    let max = number_option(alloc, "max", value_parser!(u8).range(16..=255), "255").help(
+        "The most bytes of data in one STORE DATA, 16 to 255",
+    );
+    let low = number_option(alloc, "low", value_parser!(u8).range(0..=31), "0").help(
+        "Bits 5 to 1 of P1 in each STORE DATA, 0 to 31",
+    );
+    let check = flag(alloc, "check").help(
+        "Checks each plain record of a card's files (EMV Book 3)",
+    );
+    Command::new(alloc, "plan")
+        .about("Prints the commands for each record of a batch, read from standard input")
+        .after_help(STATUSES_OF_PLAN)
+        .arg(max)?
+        .arg(low)?
+        .arg(check)
+}
+
+fn drill_command<'a>(alloc: Global) -> Command<'a>
+    ensures { (app_of result ≡ drill_command) × ((fields_of result).has_globals ≡ false) }
+{
+    Command::new(alloc, "drill")
+        .about("Serves a script of requests, read from standard input, in memory")
+        .after_help(STATUSES)
+}
+
+fn serve_command<'a>(alloc: Global) -> Result<Command<'a>, AllocError>
+    ensures { IfOk result (λ c. (app_of c ≡ serve_command) × ((fields_of c).has_globals ≡ false)) }
+{
+    let db = text_needed(alloc, "db", "PATH").help(
+        "The file that holds everything; a new one is made where there is none",
+    );
+    let port = port_needed(alloc).help("The port of 127.0.0.1, 1 to 65535");
+    let turns = number_needed(alloc, "turns", value_parser!(u32).range(1..=1_000_000)).help(
+        "How many connections are served before it ends, 1 to 1000000",
+    );
+    Command::new(alloc, "serve")
+        .about("Serves requests on 127.0.0.1 over a file, one connection after the other")
+        .after_help(STATUSES)
+        .arg(db)?
+        .arg(port)?
+        .arg(turns)
+}
+
+fn report_command<'a>(alloc: Global) -> Result<Command<'a>, AllocError>
+    ensures { IfOk result (λ c. (app_of c ≡ report_command) × ((fields_of c).has_globals ≡ false)) }
+{
+    let db = text_needed(alloc, "db", "PATH").help("The file that holds everything");
+    let batch = text_needed(alloc, "batch", "NAME").help("The batch");
+    Command::new(alloc, "report")
+        .about("Prints the report of a batch")
+        .after_help(STATUSES)
+        .arg(db)?
+        .arg(batch)
+}
+
+fn feed_command<'a>(alloc: Global) -> Result<Command<'a>, AllocError>
+    ensures { IfOk result (λ c. (app_of c ≡ feed_command) × ((fields_of c).has_globals ≡ false)) }
+{
+    let port = port_needed(alloc).help("The server's port of 127.0.0.1, 1 to 65535");
+    let machine = text_needed(alloc, "machine", "NAME").help("The machine");
+    let boot = boot_needed(alloc).help(
+        "A number that is greater at each start of the machine, 1 to 9999999999",
+    );
+    let batch = text_needed(alloc, "batch", "NAME").help("The batch");
+    Command::new(alloc, "feed")
+        .about("Makes cards, read from standard input, as a machine of a server")
+        .after_help(STATUSES)
+        .arg(port)?
+        .arg(machine)?
+        .arg(boot)?
+        .arg(batch)
+}
+
+// `--port N`, a port.
+fn port_needed<'a>(alloc: Global) -> Arg<'a>
+    ensures rule { rule_of result ≡ port_needed }
+    ensures own { result.global ≡ false }
+{
+    number_needed(alloc, "port", value_parser!(u16).range(1..=65_535))
+}
+
+// `--boot N`, a machine's boot.
+fn boot_needed<'a>(alloc: Global) -> Arg<'a>
+    ensures rule { rule_of result ≡ boot_needed }
+    ensures own { result.global ≡ false }
+{
+    number_needed(alloc, "boot", ValueParser::unsigned(1, 9_999_999_999))
+}
+
+// `--name WORD`, which has to be given.
+fn text_needed<'a>(alloc: Global, name: &'a str, word: &'a str) -> Arg<'a>
+    ensures rule { rule_of result ≡ text_needed name.entry.now }
+    ensures own { result.global ≡ false }
+{
+    Arg::new(alloc, name)
+        .long(name)
+        .value_name(word)
+        .required(true)
+}
+
+// `--name N`, which has to be given.
+fn number_needed<'a>(alloc: Global, name: &'a str, parser: ValueParser<'a>) -> Arg<'a>
+    ensures rule { rule_of result ≡ number_needed name.entry.now parser.entry }
+    ensures own { result.global ≡ false }
+{
+    Arg::new(alloc, name)
+        .long(name)
+        .value_name("N")
+        .value_parser(parser)
+        .required(true)
+}
+
+// `--name N`, and the default where it is not given.
+fn number_option<'a>(
+    alloc: Global,
+    name: &'a str,
+    parser: ValueParser<'a>,
+    default: &'a str,
+) -> Arg<'a>
+    ensures rule { rule_of result ≡ number_option name.entry.now parser.entry default.entry.now }
+    ensures own { result.global ≡ false }
+{
+    Arg::new(alloc, name)
+        .long(name)
+        .value_name("N")
+        .value_parser(parser)
+        .default_value(default)
+}
+
+// `--name`, which is on where it is given.
+fn flag<'a>(alloc: Global, name: &'a str) -> Arg<'a>
+    ensures rule { rule_of result ≡ flag name.entry.now }
+    ensures own { result.global ≡ false }
+{
+    Arg::new(alloc, name).long(name).action(ArgAction::SetTrue)
+}
+
+/// Why words that `clap` takes are not read.
+#[derive(Clone, Copy, Debug, PartialEq, Eq)]
+enum Unread {
+    /// They ask for nothing in range.
+    Nothing,
+    /// What should be a name isn't a name.
+    BadName,
+    /// Memory was refused.
+    Memory,
+}
+
+impl From<AllocError> for Unread {
+    ghost from_gives = { λ _ why. why ≡ lacks.Memory };
+
+    fn from(_error: AllocError) -> Unread {
+        Unread::Memory
+    }
+}
+
+// The subcommand, if it is one of the program's and each of its values is there, in its range.
+fn words_of(alloc: Global, matches: &ArgMatches<'_>) -> Result<Words, Unread>
+    ensures ranges { IfOk result InRange }
+    ensures meaning { IfOk result (ReadsAs (subcommand_rows_of matches.now)) }
+    ensures unread { IfErr result (ReadsNot (subcommand_rows_of matches.now)) }
+{
+    let Some((name, values)) = matches.subcommand() else {
+        return Err(Unread::Nothing);
+    };
+    match name {
+        "plan" => plan_of(values).ok_or(Unread::Nothing),
+        "drill" => Ok(Words::Drill),
+        "serve" => serve_of(alloc, values),
+        "report" => report_of(alloc, values),
+        "feed" => feed_of(values),
+        _ => Err(Unread::Nothing),
+    }
+}
+
+// The values of `plan`, if each is there, in its range.
+fn plan_of(values: &ArgMatches<'_>) -> Option<Words>
+    ensures ranges { IfSome result InRange }
+    ensures values { IfSome result (ReadsPlan (rows_of (found_of values.now))) }
+    ensures nothing { result ≡ None → (w : Words) → InRange w
+        → ¬ ReadsPlan (rows_of (found_of values.now)) w }
+{
+    Some(Words::Plan {
+        max: number(values, "max", 16, 255)? as u8,
+        low: number(values, "low", 0, 31)? as u8,
+        check: values.get_one("check")?,
+    })
+}
+
+// The values of `serve`, if each is there, in its range.
+fn serve_of(alloc: Global, values: &ArgMatches<'_>) -> Result<Words, Unread>
+    ensures ranges { IfOk result InRange }
+    ensures values { IfOk result (ReadsServe (rows_of (found_of values.now))) }
+    ensures unread { IfErr result (ServesNot (rows_of (found_of values.now))) }
+{
+    let Some(db) = values.get_str("db") else {
+        return Err(Unread::Nothing);
+    };
+    let Some(port) = number(values, "port", 1, 65_535) else {
+        return Err(Unread::Nothing);
+    };
+    let Some(turns) = number(values, "turns", 1, 1_000_000) else {
+        return Err(Unread::Nothing);
+    };
+    Ok(Words::Serve {
+        db: String::from_str(alloc, db)?,
+        port: port as u16,
+        turns: turns as u32,
+    })
+}
+
+// The values of `report`, if each is there, and the batch's is a name.
+fn report_of(alloc: Global, values: &ArgMatches<'_>) -> Result<Words, Unread>
+    ensures ranges { IfOk result InRange }
+    ensures values { IfOk result (ReadsReport (rows_of (found_of values.now))) }
+    ensures unread { IfErr result (ReportsNot (rows_of (found_of values.now))) }
+{
+    let Some(db) = values.get_str("db") else {
+        return Err(Unread::Nothing);
+    };
+    let batch = name_of(values, "batch")?;
+    Ok(Words::Report {
+        db: String::from_str(alloc, db)?,
+        batch,
+    })
+}
+
+// The values of `feed`, if each is there, the numbers in their ranges, and the names names.
+fn feed_of(values: &ArgMatches<'_>) -> Result<Words, Unread>
+    ensures ranges { IfOk result InRange }
+    ensures values { IfOk result (ReadsFeed (rows_of (found_of values.now))) }
+    ensures unread { IfErr result (FeedsNot (rows_of (found_of values.now))) }
+{
+    let Some(port) = number(values, "port", 1, 65_535) else {
+        return Err(Unread::Nothing);
+    };
+    let Some(boot) = number(values, "boot", 1, 9_999_999_999) else {
+        return Err(Unread::Nothing);
+    };
+    let machine = name_of(values, "machine")?;
+    let batch = name_of(values, "batch")?;
+    let port = port as u16;
+    let start = FeedStart {
+        machine,
+        boot,
+        batch,
+    };
+    Ok(Words::Feed { port, start })
+}
+
+// The name that an option has.
+fn name_of(values: &ArgMatches<'_>, option: &str) -> Result<Name, Unread>
+    ensures name { IfOk result (HasName option.now (rows_of (found_of values.now))) }
+    ensures unread { IfErr result (NamesNot option.now (rows_of (found_of values.now))) }
+{
+    let Some(text) = values.get_str(option) else {
+        return Err(Unread::Nothing);
+    };
+    let Some(name) = Name::new(text.as_bytes()) else {
+        return Err(Unread::BadName);
+    };
+    Ok(name)
+}
+
+// The number of an option, if it has one from `low` to `high`.
+fn number(values: &ArgMatches<'_>, name: &str, low: u64, high: u64) -> Option<u64>
+    ensures some { IfSome result (λ n.
+        IsNumber name.now (rows_of (found_of values.now)) n × (low ≤ n) × (n ≤ high)) }
+    ensures none { result ≡ None → (n : ℕ) → (low ≤ n) → (n ≤ high)
+        → ¬ IsNumber name.now (rows_of (found_of values.now)) n }
+{
+    let number = values.get_one(name)?;
+    if low <= number && number <= high {
+        Some(number)
+    } else {
+        None
+    }
+}
+
+fn refusal_of(alloc: Global, error: &Error) -> Result<WordsFault, AllocError>
+    ensures { IfOk result (λ fault. (kinds : Kinds) → HasKind kinds error.now
+        → IsRefusedBy kinds fault) }
+{
+    let kind = error.kind();
+    if kind == ErrorKind::OutOfMemory {
+        return Ok(WordsFault::Memory);
+    }
+    let text = format!(in alloc; "{error}")?;
+    match kind {
+        ErrorKind::DisplayHelp => Ok(WordsFault::Help(text)),
+        ErrorKind::DisplayVersion => Ok(WordsFault::Version(text)),
+        _ => Ok(WordsFault::Usage(text)),
+    }
+}

@@ -1,9 +1,0 @@
-use Rattle.std.proofs.Common.{◌≡◌, ◌+◌, ◌≤◌, false, drop}
-use Rattle.heads.specs.Heads.{pairs_after}
-use Rattle.heads.proofs.head.pairs.Given as goal
-
-abbrev pub invariant-loop-byte : goal.invariant-loop-byte
-invariant-loop-byte l = record {
-  few : l.pairs ≤ l.byte-index;
-  rest : pairs_after false l.head ≡ l.pairs + pairs_after l.cr (drop l.byte-index l.head);
-}

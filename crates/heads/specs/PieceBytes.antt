@@ -1,7 +1,0 @@
--- What a connection in memory brings.
-use Rattle.std.specs.Prelude.{ℕ, List}
-use Rattle.heads.specs.declared.source.Pieces.{Pieces}
-
--- the bytes that still come
-abbrev pub bytes_of : Pieces → List ℕ
-bytes_of p = p.bytes.now

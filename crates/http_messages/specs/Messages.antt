@@ -1,0 +1,82 @@
+-- Messages: HTTP/1.1 (RFC 9112), as this project's profile takes them, by the whole bytes of a connection.
+use Rattle.std.specs.Prelude.{◌≡◌, ◌<◌, ◌≤◌, ℕ, nat_lt, Bool, true, false, if◌then◌else◌, List, length, take, drop, Option, Some, None, Result, Ok, Err}
+pub use Rattle.text_io.specs.Inputs.{Tells}
+use Rattle.http_messages.specs.declared.message.Message.{Message}
+use Rattle.http_messages.specs.declared.message.Reading.{Reading}
+use Rattle.http_messages.specs.declared.message.Reading.TheVariants as reading
+use Rattle.http_messages.specs.declared.fixed.FixedReply.{FixedReply}
+use Rattle.http_messages.specs.declared.fixed.FixedReply.TheVariants.{HeadTooLarge}
+use Rattle.http_messages.specs.Heads.{HeadParts, IsJudged, head_end}
+
+-- what a message brings
+pub record MessageParts : Type 0 where
+  pub method : List ℕ
+  pub target : List ℕ
+  pub body : List ℕ
+
+-- what the bytes of a connection are
+pub data Heard : Type 0 where
+  Broken : Heard
+  Refused : FixedReply → Heard
+  Brings : MessageParts → Heard
+
+-- a head that passes its tests, or the first that it fails, before these bytes
+abbrev pub after_head : Result HeadParts FixedReply → List ℕ → Heard
+after_head (Ok p) rest =
+    if nat_lt (length rest) p.size then Broken else Brings (record { method = p.method; target = p.target; body = take p.size rest })
+after_head (Err why) rest = Refused why
+
+-- a head ends within the first 8,192 bytes
+abbrev pub end_of_head : List ℕ → Option ℕ
+end_of_head bytes = head_end (take 8192 bytes)
+
+-- by where the head ends; what comes after the message is ignored
+abbrev pub IsHeardBy : List ℕ → Option ℕ → Heard → Type 0
+IsHeardBy bytes None heard = heard ≡ (if nat_lt (length bytes) 8192 then Broken else Refused HeadTooLarge)
+IsHeardBy bytes (Some end) heard = (judged : Result HeadParts FixedReply) × IsJudged (take end bytes) judged × (heard ≡ after_head judged (drop end bytes))
+
+abbrev pub IsHeard : List ℕ → Heard → Type 0
+IsHeard bytes heard = IsHeardBy bytes (end_of_head bytes) heard
+
+-- and as nothing else
+pub record IsHeardAs (bytes : List ℕ) (heard : Heard) : Type 0 where
+  pub is : IsHeard bytes heard
+  pub alone : (other : Heard) → IsHeard bytes other → other ≡ heard
+
+-- a head is there, and passes its tests
+abbrev pub HasHead : List ℕ → Type 0
+HasHead bytes = (end : ℕ) × (p : HeadParts) × (end_of_head bytes ≡ Some end) × IsJudged (take end bytes) (Ok p)
+
+-- ---- what the code calls them
+
+abbrev pub as_parts : Message → MessageParts
+as_parts m = record { method = m.method; target = m.target; body = m.body }
+
+-- memory is only wanted for what follows a head; the bytes are something all the same
+abbrev pub IsReading : List ℕ → Reading → Type 0
+IsReading bytes (reading.Message m) = IsHeardAs bytes (Brings (as_parts m))
+IsReading bytes reading.Broken = IsHeardAs bytes Broken
+IsReading bytes (reading.Refused why) = IsHeardAs bytes (Refused why)
+IsReading bytes reading.Memory = HasHead bytes × ((h : Heard) × IsHeardAs bytes h)
+
+-- ---- on the way
+
+-- the body of this size in front of these bytes, if so many came
+abbrev pub IsBody : ℕ → List ℕ → Option (List ℕ) → Type 0
+IsBody size rest None = length rest < size
+IsBody size rest (Some body) = (size ≤ length rest) × (body ≡ take size rest)
+
+-- the body is in front of these bytes, or too few came
+abbrev pub IsFilled : List ℕ → List ℕ → Bool → Type 0
+IsFilled body rest true = (length body ≤ length rest) × (body ≡ take (length body) rest)
+IsFilled body rest false = length rest < length body
+
+-- what is read behind a head
+abbrev pub IsReadingBy : Result HeadParts FixedReply → List ℕ → Reading → Type 0
+IsReadingBy judged rest (reading.Message m) = after_head judged rest ≡ Brings (as_parts m)
+IsReadingBy judged rest reading.Broken = after_head judged rest ≡ Broken
+IsReadingBy judged rest (reading.Refused why) = after_head judged rest ≡ Refused why
+IsReadingBy judged rest reading.Memory = (p : HeadParts) × (judged ≡ Ok p)
+
+abbrev pub IsReadingAfter : List ℕ → List ℕ → Reading → Type 0
+IsReadingAfter head rest result = (judged : Result HeadParts FixedReply) × IsJudged head judged × IsReadingBy judged rest result

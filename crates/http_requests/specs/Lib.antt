@@ -1,0 +1,11 @@
+pub use Rattle.http_messages.specs.FixedReplies
+pub use Rattle.http_messages.specs.Heads
+pub use Rattle.http_messages.specs.Messages
+pub use Rattle.http_messages.specs.RequestHeads
+pub mod Routes
+pub mod RouterRows
+pub mod Members
+pub mod Requests
+pub mod Asks
+pub mod Meant
+pub mod Posts

@@ -1,0 +1,231 @@
+//! What a message asks for.
+ghost use Rattle.std.specs.Prelude.{◌≡◌, ◌++◌, [], ◌∷◌, Err, IfOk, Ok, OnOk};
+ghost use Rattle.std.specs.Prelude.{bytes_eq, if◌then◌else◌};
+ghost use Rattle.store_data.specs.Name.{is_name};
+ghost use Rattle.job_facts.specs.Sound.{IsName};
+ghost use Rattle.http_requests.specs.Asks.{IsAsked, IsInRange, ask_in, ask_with, asked_of, import_tail};
+ghost use Rattle.http_requests.specs.Asks.{method_text, or_malformed};
+ghost use Rattle.http_messages.specs.Messages.{as_parts};
+ghost use Rattle.http_requests.specs.RouterRows.{shown};
+ghost use Rattle.http_requests.specs.Routes.{Import, Job};
+ghost use Rattle.http_messages.specs.declared.fixed.FixedReply.TheVariants.{Malformed};
+
+use crate::request::call_of;
+use crate::route::{Route, route_of};
+use http_messages::{FixedReply, Message, Method};
+use job_facts::{Arrival, Call, Request};
+use std::alloc::{AllocError, Global};
+use std::error::Error;
+use std::fmt;
+use store_data::{Bytes, Name};
+use text_io::number_in;
+
+/// The most bytes of what follows the number in a target: two names of at most 32 characters with what stands before them.
+const MOST_TAIL: usize = 72;
+
+/// An account that is asked for.
+#[derive(Clone, Copy, PartialEq, Eq)]
+pub enum Wanted {
+    /// The account of a batch.
+    Batch(Name),
+    /// The report of a batch.
+    Report(Name),
+    /// The account of a product's blanks.
+    Blanks(Name),
+}
+
+/// What a message asks for.
+#[derive(Drop)]
+pub enum Asked {
+    /// A call under its client's number.
+    Arrival(Arrival),
+    /// An account, which changes nothing.
+    Account(Wanted),
+}
+
+/// Why a message asks for nothing.
+#[derive(Clone, Copy, Debug, PartialEq, Eq)]
+pub enum AskFault {
+    /// Its target, its method, a name, a number or its JSON isn't as it has to be.
+    Refused(FixedReply),
+    /// Memory was refused.
+    Memory,
+}
+
+impl fmt::Display for AskFault {
+    ghost use Rattle.std.specs.Prelude.{Some};
+    ghost use Rattle.http_requests.specs.Asks.{fault_text};
+
+    ghost output = { λ fault. Some (fault_text fault) };
+
+    fn fmt<W: fmt::Write>(&self, f: &mut fmt::Formatter<W>) -> fmt::Result {
+        f.write_str(match self {
+            AskFault::Refused(_) => "the message is refused",
+            AskFault::Memory => "memory was refused",
+        })
+    }
+}
+
+impl Error for AskFault {}
+
+impl From<FixedReply> for AskFault {
+    ghost use Rattle.http_requests.specs.declared.ask.AskFault.TheVariants.{Refused};
+
+    ghost from_gives = { λ why fault. fault ≡ Refused why };
+
+    fn from(why: FixedReply) -> AskFault {
+        AskFault::Refused(why)
+    }
+}
+
+impl From<AllocError> for AskFault {
+    ghost use Rattle.http_requests.specs.declared.ask.AskFault.TheVariants.{Memory};
+
+    ghost from_gives = { λ _ fault. fault ≡ Memory };
+
+    fn from(_error: AllocError) -> AskFault {
+        AskFault::Memory
+    }
+}
+
+/// What a message asks for, by its target, its method and its body; else the first test that it fails: `NoRoute`, `OnlyMethod`,
+/// `Malformed`. Errors: these, and refused memory as `Memory`.
+pub fn to_ask(alloc: Global, message: Message) -> Result<Asked, AskFault>
+    ensures asked { IsAsked (asked_of (as_parts message)) result }
+    ensures ranged { IfOk result IsInRange }
+{
+    let Message {
+        method,
+        target,
+        body,
+    } = message;
+    let route = route_of(alloc, target.as_slice())?.ok_or(FixedReply::NoRoute)?;
+    if !has_method(method.as_slice(), route.method()) {
+        return Err(AskFault::Refused(FixedReply::OnlyMethod(route.method())));
+    }
+    ask_in(alloc, route, body)
+}
+
+// Whether a message's method is that of its target.
+fn has_method(text: &[u8], method: Method) -> bool
+    ensures { result ≡ bytes_eq text.now (method_text method) }
+{
+    let wanted = match method {
+        Method::Get => http::Method::GET,
+        Method::Post => http::Method::POST,
+    };
+    text == wanted.as_str().as_bytes()
+}
+
+// By the route of the target, whose method the message has.
+fn ask_in(alloc: Global, route: Route<'_>, body: Bytes) -> Result<Asked, AskFault>
+    ensures asked { IsAsked (or_malformed (ask_in (shown route.entry) body)) result }
+    ensures ranged { IfOk result IsInRange }
+{
+    match route {
+        Route::Job { client, number } => job(alloc, client, number, body),
+        Route::Import {
+            client,
+            number,
+            batch,
+            product,
+        } => import(alloc, client, number, batch, product, body),
+        Route::Batch(batch) => Ok(Asked::Account(Wanted::Batch(name_in(batch)?))),
+        Route::Report(batch) => Ok(Asked::Account(Wanted::Report(name_in(batch)?))),
+        Route::Blanks(product) => Ok(Asked::Account(Wanted::Blanks(name_in(product)?))),
+    }
+}
+
+// A call in JSON, under a client's number.
+fn job(alloc: Global, client: &[u8], number: &[u8], body: Bytes) -> Result<Asked, AskFault>
+    ensures asked { IsAsked (or_malformed (ask_in (Job client.now number.now) body)) result }
+    ensures ranged { IfOk result IsInRange }
+{
+    let client = name_in(client)?;
+    let number = number_in(number).ok_or(FixedReply::Malformed)?;
+    let request = call_of(alloc, body.as_slice())?.ok_or(FixedReply::Malformed)?;
+    let ask = job_ask(alloc, body.as_slice())?;
+    Ok(Asked::Arrival(Arrival {
+        client,
+        number,
+        ask,
+        request,
+    }))
+}
+
+// A batch file for a product, under a client's number.
+fn import(
+    alloc: Global,
+    client: &[u8],
+    number: &[u8],
+    batch: &[u8],
+    product: &[u8],
+    body: Bytes,
+) -> Result<Asked, AskFault>
+    ensures asked { IsAsked
+        (or_malformed (ask_in (Import client.now number.now batch.now product.now) body)) result }
+    ensures ranged { IfOk result IsInRange }
+{
+    let client = name_in(client)?;
+    let number = number_in(number).ok_or(FixedReply::Malformed)?;
+    let batch = name_in(batch)?;
+    let product = name_in(product)?;
+    let ask = import_ask(alloc, &batch, &product, body.as_slice())?;
+    let request = Request::Import {
+        batch,
+        product,
+        raw: body,
+    };
+    let request = Call::Job { request };
+    Ok(Asked::Arrival(Arrival {
+        client,
+        number,
+        ask,
+        request,
+    }))
+}
+
+fn name_in(text: &[u8]) -> Result<Name, FixedReply>
+    ensures { result ≡ (if is_name text.now then Ok text.now else Err Malformed) }
+{
+    Name::new(text).ok_or(FixedReply::Malformed)
+}
+
+// What a repeat of a request in JSON has to have alike: a byte 00, and the body.
+fn job_ask(alloc: Global, body: &[u8]) -> Result<Bytes, AllocError>
+    ensures { IfOk result (λ ask. ask ≡ ask_with [] body.now) }
+{
+    let mut ask = Vec::with_capacity(alloc, 1 + body.len())?;
+    push_body(&mut ask, body)?;
+    Ok(Bytes::from_vec(ask))
+}
+
+// What a repeat of an import has to have alike: what follows the number in the target, a byte 00, and the body.
+fn import_ask(alloc: Global, batch: &Name, product: &Name, body: &[u8]) -> Result<Bytes, AllocError>
+    ensures { IfOk result (λ ask. ask ≡ ask_with (import_tail batch.now product.now) body.now) }
+{
+    let mut ask = Vec::with_capacity(alloc, MOST_TAIL + 1 + body.len())?;
+    push_import_tail(&mut ask, batch, product)?;
+    push_body(&mut ask, body)?;
+    Ok(Bytes::from_vec(ask))
+}
+
+/// Adds what follows the number in an import's target.
+pub fn push_import_tail(text: &mut Vec<u8>, batch: &Name, product: &Name) -> Result<(), AllocError>
+    ensures tail { OnOk result (text.new.items ≡ text.old.items
+        ++ import_tail batch.now product.now) }
+    ensures names { OnOk result (IsName batch.now × IsName product.now) }
+{
+    text.extend_from_slice(b"/batch/")?;
+    text.extend_from_slice(batch.bytes())?;
+    text.push(b'/')?;
+    text.extend_from_slice(product.bytes())
+}
+
+// Adds a byte 00, and the body.
+fn push_body(ask: &mut Vec<u8>, body: &[u8]) -> Result<(), AllocError>
+    ensures { OnOk result (ask.new.items ≡ ask.old.items ++ 0 ∷ body.now) }
+{
+    ask.push(0)?;
+    ask.extend_from_slice(body)
+}

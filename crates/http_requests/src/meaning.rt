@@ -1,0 +1,44 @@
+//! What the bytes of a connection mean.
+ghost use Rattle.std.specs.Prelude.{ℕ, List};
+ghost use Rattle.http_messages.specs.Messages.{Tells, as_parts};
+ghost use Rattle.http_requests.specs.Asks.{asked_of};
+ghost use Rattle.http_requests.specs.Meant.{IsMeant, IsMeantBy, meant_by};
+
+use crate::ask::{AskFault, Asked, to_ask};
+use http_messages::{ByteSource, FixedReply, Message, Reading, read_message};
+use std::alloc::Global;
+
+/// What the bytes of a connection mean.
+#[derive(Drop)]
+pub enum Meaning {
+    /// A message came, and asks for this.
+    Asks(Asked),
+    /// The bytes ended before the message did.
+    Broken,
+    /// The message, or its head, fails a test.
+    Refused(FixedReply),
+    /// A head came that passes its tests, and memory was refused.
+    Memory,
+}
+
+/// Reads one message, and what it asks. Bytes behind it are ignored.
+pub fn read_meaning<I: ByteSource>(alloc: Global, incoming: &mut I) -> Meaning
+    ensures { (bytes : List ℕ) × Tells (I.brings incoming.old) bytes × IsMeant bytes result }
+{
+    match read_message(alloc, incoming) {
+        Reading::Message(message) => meaning_of(alloc, message),
+        Reading::Broken => Meaning::Broken,
+        Reading::Refused(why) => Meaning::Refused(why),
+        Reading::Memory => Meaning::Memory,
+    }
+}
+
+fn meaning_of(alloc: Global, message: Message) -> Meaning
+    ensures { IsMeantBy (meant_by (asked_of (as_parts message))) result }
+{
+    match to_ask(alloc, message) {
+        Ok(asked) => Meaning::Asks(asked),
+        Err(AskFault::Refused(why)) => Meaning::Refused(why),
+        Err(AskFault::Memory) => Meaning::Memory,
+    }
+}

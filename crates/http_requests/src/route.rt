@@ -1,0 +1,121 @@
+//! The targets that are served.
+ghost use Rattle.std.specs.Prelude.{◌≡◌, IfOk, IsUtf8, option_map};
+ghost use Rattle.matchit.specs.Params.{AllText, named};
+ghost use Rattle.http_requests.specs.RouterRows.{built, forms, shown, taken};
+ghost use Rattle.http_requests.specs.Routes.{method_of, route_in};
+
+use http_messages::Method;
+use matchit::{InsertError, Params, Router};
+use std::alloc::{AllocError, Global};
+use std::str::from_utf8;
+
+/// What a target names, by its parts.
+#[derive(Clone, Copy)]
+pub(crate) enum Route<'a> {
+    /// A request of a client, under a number.
+    Job {
+        client: &'a [u8],
+        number: &'a [u8],
+    },
+    /// A batch file for a product, from a client, under a number.
+    Import {
+        client: &'a [u8],
+        number: &'a [u8],
+        batch: &'a [u8],
+        product: &'a [u8],
+    },
+    /// The account of a batch.
+    Batch(&'a [u8]),
+    /// The report of a batch.
+    Report(&'a [u8]),
+    /// The account of a product's blanks.
+    Blanks(&'a [u8]),
+}
+
+// The forms of targets that are served.
+#[derive(Clone, Copy)]
+enum Form {
+    Job,
+    Import,
+    Batch,
+    Report,
+    Blanks,
+}
+
+impl Route<'_> {
+    /// The method that the target has.
+    pub fn method(&self) -> Method
+        ensures { result ≡ method_of (shown self.now) }
+    {
+        match self {
+            Route::Job { .. } | Route::Import { .. } => Method::Post,
+            Route::Batch(_) | Route::Report(_) | Route::Blanks(_) => Method::Get,
+        }
+    }
+}
+
+/// What a target names, if it is served. Errors: memory was refused.
+pub(crate) fn route_of<'a>(alloc: Global, target: &'a [u8]) -> Result<Option<Route<'a>>, AllocError>
+    ensures { IfOk result (λ route. option_map shown route ≡ route_in target.now) }
+{
+    match from_utf8(target) {
+        Ok(path) => route_of_path(alloc, path),
+        Err(_) => Ok(None),
+    }
+}
+
+// By a router, which is built for each message.
+fn route_of_path<'a>(alloc: Global, path: &'a str) -> Result<Option<Route<'a>>, AllocError>
+    requires { IsUtf8 path.now }
+    ensures { IfOk result (λ route. option_map shown route ≡ route_in path.now) }
+{
+    let Ok(router) = router(alloc) else {
+        return Err(AllocError);
+    };
+    match router.at(path) {
+        Ok(found) => Ok(route_by(*found.value, &found.params)),
+        Err(_) => Ok(None),
+    }
+}
+
+// The forms of targets, each with its pattern.
+fn router(alloc: Global) -> Result<Router<Form>, InsertError>
+    ensures { IfOk result (λ router. router ≡ forms) }
+{
+    let mut router = Router::new(alloc);
+    router.insert("/c/{client}/{number}", Form::Job)?;
+    router.insert("/c/{client}/{number}/batch/{batch}/{product}", Form::Import)?;
+    router.insert("/batch/{batch}", Form::Batch)?;
+    router.insert("/batch/{batch}/report", Form::Report)?;
+    router.insert("/blanks/{product}", Form::Blanks)?;
+    Ok(router)
+}
+
+// A target of a form, by what its parameters took.
+fn route_by<'a>(form: Form, params: &Params<'_, 'a>) -> Option<Route<'a>>
+    ensures { AllText (taken params.now) → option_map shown result ≡ built form (taken params.now) }
+{
+    match form {
+        Form::Job => Some(Route::Job {
+            client: part(params, "client")?,
+            number: part(params, "number")?,
+        }),
+        Form::Import => Some(Route::Import {
+            client: part(params, "client")?,
+            number: part(params, "number")?,
+            batch: part(params, "batch")?,
+            product: part(params, "product")?,
+        }),
+        Form::Batch => Some(Route::Batch(part(params, "batch")?)),
+        Form::Report => Some(Route::Report(part(params, "batch")?)),
+        Form::Blanks => Some(Route::Blanks(part(params, "product")?)),
+    }
+}
+
+// What the parameter of this name took.
+fn part<'a>(params: &Params<'_, 'a>, name: &str) -> Option<&'a [u8]>
+    ensures { AllText (taken params.now)
+        → option_map (λ part. part.now) result ≡ named name.now (taken params.now) }
+{
+    Some(params.get(name)?.as_bytes())
+}

@@ -1,0 +1,108 @@
+-- How many of a record's sessions are spoiled, and how many have a card.
+use Rattle.std.proofs.Common.{◌≡◌, ℕ, ◌+◌, Bool, true, false, cond, List, [], ◌∷◌, length, inl, inr, refl, sym, ◌∙◌, arith}
+use Rattle.std.specs.Prelude.{count_by}
+use Rattle.std.specs.List.{list_any}
+use Rattle.std.proofs.lemmas.Bool.{cases_Bool}
+use Rattle.std.proofs.lemmas.List.Sums.{sum_by-cons}
+use Rattle.job_facts.specs.declared.facts.RecordState.{RecordState}
+use Rattle.job_facts.specs.declared.facts.RecordState.TheVariants as rec
+use Rattle.job_facts.specs.declared.facts.SessionState.{SessionState}
+use Rattle.job_facts.specs.declared.facts.SessionState.TheVariants as session
+use Rattle.job_facts.specs.Sound.{IsSoundRecord, has_card}
+use Rattle.job_facts.specs.States.{is_good, is_running, is_spoiled, same_record_state, same_session_state, state_by}
+use Rattle.job_facts.proofs.Lists.{count_by_any, count_by_none}
+use Rattle.step_laws.proofs.BlankSums.{one}
+use Rattle.row_laws.specs.Telling.{cards}
+
+card_or_not : (t : SessionState) → cond {A = ℕ} (is_spoiled t) 1 0 + cond {A = ℕ} (has_card t) 1 0 ≡ 1
+card_or_not session.Running = refl
+card_or_not session.Good = refl
+card_or_not session.Spoiled = refl
+
+pub spoiled_or_card : (states : List SessionState) → length states ≡ count_by is_spoiled states + count_by has_card states
+spoiled_or_card [] = refl
+spoiled_or_card (t ∷ states) =
+    omega (arith, spoiled_or_card states, card_or_not t, sum_by-cons (λ s. cond {A = ℕ} (is_spoiled s) 1 0) t states, sum_by-cons (λ s. cond {A = ℕ} (has_card s) 1 0) t states)
+
+good_or_running : (t : SessionState) → cond {A = ℕ} (has_card t) 1 0 ≡ cond {A = ℕ} (is_good t) 1 0 + cond {A = ℕ} (is_running t) 1 0
+good_or_running session.Running = refl
+good_or_running session.Good = refl
+good_or_running session.Spoiled = refl
+
+two_cards : (states : List SessionState) → count_by has_card states ≡ count_by is_good states + count_by is_running states
+two_cards [] = refl
+two_cards (t ∷ states) = omega (
+  arith,
+  two_cards states,
+  good_or_running t,
+  sum_by-cons (λ s. cond {A = ℕ} (has_card s) 1 0) t states,
+  sum_by-cons (λ s. cond {A = ℕ} (is_good s) 1 0) t states,
+  sum_by-cons (λ s. cond {A = ℕ} (is_running s) 1 0) t states,
+)
+
+-- ---- a record's good session, or its running one
+
+-- the session of a record that stands so, where that is with a card
+abbrev pub IsCardOf : SessionState → RecordState → Type 0
+IsCardOf state stands = (states : List SessionState) (withdrawn : Bool) (remakes : ℕ) → IsSoundRecord states withdrawn remakes
+    → count_by (same_session_state state) states ≡ one (same_record_state stands (state_by states withdrawn remakes))
+
+not_good : (withdrawn failed : Bool) → one (same_record_state rec.Good (cond withdrawn rec.Withdrawn (cond failed rec.Failed rec.Waiting))) ≡ 0
+not_good true failed = refl
+not_good false true = refl
+not_good false false = refl
+
+not_running : (withdrawn failed : Bool) → one (same_record_state rec.Running (cond withdrawn rec.Withdrawn (cond failed rec.Failed rec.Waiting))) ≡ 0
+not_running true failed = refl
+not_running false true = refl
+not_running false false = refl
+
+pub good_counted : IsCardOf session.Good rec.Good
+good_counted states withdrawn remakes is =
+    let both = two_cards states in
+    let most = is.one_card in
+    elim (cases_Bool (list_any is_good states)) [
+      | inl good ↦
+          let single : count_by is_good states ≡ 1 = omega (arith, both, most, count_by_any is_good states good) in
+          single ∙ sym (rw good refl)
+      | inr ungood ↦
+          let none : count_by is_good states ≡ 0 = count_by_none is_good states ungood in
+          elim (cases_Bool (list_any is_running states)) [
+            | inl runs ↦ none ∙ sym (rw (ungood, runs) refl)
+            | inr idle ↦ none ∙ sym (rw (ungood, idle) (not_good withdrawn _))
+          ]
+    ]
+
+pub running_counted : IsCardOf session.Running rec.Running
+running_counted states withdrawn remakes is =
+    let both = two_cards states in
+    let most = is.one_card in
+    elim (cases_Bool (list_any is_good states)) [
+      | inl good ↦
+          let none : count_by is_running states ≡ 0 = omega (arith, both, most, count_by_any is_good states good) in
+          none ∙ sym (rw good refl)
+      | inr ungood ↦ elim (cases_Bool (list_any is_running states)) [
+        | inl runs ↦
+            let single : count_by is_running states ≡ 1 = omega (arith, both, most, count_by_any is_running states runs) in
+            single ∙ sym (rw (ungood, runs) refl)
+        | inr idle ↦
+            let none : count_by is_running states ≡ 0 = count_by_none is_running states idle in
+            none ∙ sym (rw (ungood, idle) (not_running withdrawn _))
+      ]
+    ]
+
+-- ---- both
+
+each_card : (s : RecordState) → cards s ≡ one (same_record_state rec.Good s) + one (same_record_state rec.Running s)
+each_card rec.Waiting = refl
+each_card rec.Running = refl
+each_card rec.Failed = refl
+each_card rec.Withdrawn = refl
+each_card rec.Good = refl
+
+pub cards_counted : (states : List SessionState) (withdrawn : Bool) (remakes : ℕ) → IsSoundRecord states withdrawn remakes → count_by has_card states ≡ cards (state_by states withdrawn remakes)
+cards_counted states withdrawn remakes is =
+    let stands : RecordState = state_by states withdrawn remakes in
+    let good : count_by is_good states ≡ one (same_record_state rec.Good stands) = good_counted states withdrawn remakes is in
+    let running : count_by is_running states ≡ one (same_record_state rec.Running stands) = running_counted states withdrawn remakes is in
+    omega (arith, two_cards states, good, running, each_card stands)

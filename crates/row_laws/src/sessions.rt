@@ -1,0 +1,43 @@
+//! Sessions by number and by machine.
+ghost use Rattle.std.specs.Prelude.{◌≡◌, ℕ, List, Some, find, option_map};
+ghost use Rattle.job_facts.specs.Facts.{Facts, Session};
+ghost use Rattle.job_facts.specs.Rows.{session_row_of};
+ghost use Rattle.job_facts.specs.Sound.{IsSound};
+ghost use Rattle.job_facts.specs.States.{running_session, session_numbered};
+ghost use Rattle.row_laws.specs.Telling.{place_of, session_in};
+ghost use Rattle.image_laws.specs.Before.{IsPlaceOfSession};
+ghost use Rattle.image_laws.specs.Image.{stored_batches, stored_records, stored_session};
+ghost use Rattle.image_laws.specs.Image.{stored_sessions};
+ghost use Rattle.table_rows.specs.Keys.{is_batch, is_record_at, is_running_on, is_session};
+ghost use Rattle.table_rows.specs.Tables.{PassesOnce, StoredBatch, StoredRecord, StoredSession};
+
+/// A session's number finds its row, and this the rows of its batch and its record, which tell
+/// their names and its record's place.
+pub fn sessions_by_number()
+    ensures once { (f : Facts) (id : ℕ) → PassesOnce (is_session id) (stored_sessions f) }
+    ensures found { (f : Facts) (id : ℕ) → find (is_session id) (stored_sessions f)
+        ≡ option_map (λ (x : Session). stored_session f (id, x))
+        (session_numbered f.sessions id) }
+    ensures row { (f : Facts) (id : ℕ) → IsSound f → session_row_of f id
+        ≡ session_in (stored_sessions f) (stored_batches f) (stored_records f) id }
+    ensures place { (f : Facts) (id : ℕ) (s : StoredSession) (b : StoredBatch) (r : StoredRecord)
+        → IsSound f → find (is_session id) (stored_sessions f) ≡ Some s
+        → find (is_batch s.batch) (stored_batches f) ≡ Some b
+        → find (is_record_at s.batch s.place) (stored_records f) ≡ Some r
+        → IsPlaceOfSession f id (place_of b r) }
+    ensures there { (f : Facts) (id : ℕ) (x : Session) → IsSound f
+        → session_numbered f.sessions id ≡ Some x
+        → (s : StoredSession) × (b : StoredBatch) × (r : StoredRecord)
+        × (find (is_session id) (stored_sessions f) ≡ Some s)
+        × (find (is_batch s.batch) (stored_batches f) ≡ Some b)
+        × (find (is_record_at s.batch s.place) (stored_records f) ≡ Some r) }
+{}
+
+/// A machine has one row of a running session at most, which tells its number.
+pub fn running_sessions_by_machine()
+    ensures once { (f : Facts) (machine : List ℕ) → IsSound f
+        → PassesOnce (is_running_on machine) (stored_sessions f) }
+    ensures number { (f : Facts) (machine : List ℕ) → running_session f machine
+        ≡ option_map (λ (s : StoredSession). s.id)
+        (find (is_running_on machine) (stored_sessions f)) }
+{}

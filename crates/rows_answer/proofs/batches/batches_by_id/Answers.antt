@@ -1,5 +1,0 @@
-use Rattle.rows_answer.proofs.BatchRows.{id_once, id_row}
-use Rattle.rows_answer.proofs.batches.batches_by_id.Goals as goal
-
-pub returns : goal.returns
-returns call = record { once = id_once; found = id_row }

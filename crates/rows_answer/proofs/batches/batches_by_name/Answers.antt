@@ -1,5 +1,0 @@
-use Rattle.rows_answer.proofs.BatchRows.{name_once, named_row}
-use Rattle.rows_answer.proofs.batches.batches_by_name.Goals as goal
-
-pub returns : goal.returns
-returns call = record { once = λ f n sound. name_once f sound n; found = named_row }

@@ -1,5 +1,0 @@
-use Rattle.rows_answer.proofs.BatchRows.{finished_told, totals_told}
-use Rattle.rows_answer.proofs.batches.totals_by_rows.Goals as goal
-
-pub returns : goal.returns
-returns call = record { totals = λ f n sound. totals_told f sound n; finished = λ f n sound. finished_told f sound n }

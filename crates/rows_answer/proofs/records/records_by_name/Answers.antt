@@ -1,5 +1,0 @@
-use Rattle.rows_answer.proofs.RecordRows.{name_once, name_row, place_told, rows_there, state_told}
-use Rattle.rows_answer.proofs.records.records_by_name.Goals as goal
-
-pub returns : goal.returns
-returns call = record { once = name_once; found = name_row; state = state_told; place = place_told; there = rows_there }

@@ -1,5 +1,0 @@
-use Rattle.rows_answer.proofs.BatchRecords.{records_rise, rows_of_batch, waiting_rise, waiting_told}
-use Rattle.rows_answer.proofs.records.records_of_batches.Goals as goal
-
-pub returns : goal.returns
-returns call = record { rows = rows_of_batch; rising = records_rise; waiting_rising = waiting_rise; waiting = waiting_told }

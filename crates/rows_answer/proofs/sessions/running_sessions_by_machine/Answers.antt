@@ -1,5 +1,0 @@
-use Rattle.rows_answer.proofs.SessionRows.{running_once, running_told}
-use Rattle.rows_answer.proofs.sessions.running_sessions_by_machine.Goals as goal
-
-pub returns : goal.returns
-returns call = record { once = λ f machine sound. running_once f sound machine; number = running_told }

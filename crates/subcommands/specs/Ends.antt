@@ -1,0 +1,138 @@
+-- How the program ends: its exit status, and its words on standard error (this project's profile).
+use Rattle.std.specs.Prelude.{ℕ, Bool, List, ◌++◌, codes, if◌then◌else◌, None, Some}
+use Rattle.std.specs.Prelude.{Result, Ok, Err}
+use Rattle.std.specs.Fmt.{decimal}
+use Rattle.batch_import.specs.Kinds.{code_of}
+use Rattle.job_facts.specs.Refusals as refusals
+use Rattle.job_facts.specs.declared.store.StoreFault.{StoreFault}
+use Rattle.job_facts.specs.declared.store.StoreFault.TheVariants as store
+use Rattle.reports.specs.declared.fault.AccountFault.{AccountFault}
+use Rattle.reports.specs.declared.fault.AccountFault.TheVariants as account
+use Rattle.server.specs.declared.stopping.ServeStop.{ServeStop}
+use Rattle.server.specs.declared.stopping.ServeStop.TheVariants as serve
+use Rattle.over_tables.specs.declared.fault.FileFault.{FileFault}
+use Rattle.over_tables.specs.declared.fault.FileFault.TheVariants as file
+use Rattle.feeding.specs.declared.engine.FeedStop.{FeedStop}
+use Rattle.feeding.specs.declared.engine.FeedStop.TheVariants as feed
+use Rattle.drill.specs.declared.stop.DrillStop.{DrillStop}
+use Rattle.drill.specs.declared.stop.DrillStop.TheVariants as drill
+use Rattle.subcommands.specs.declared.end.End.{End}
+use Rattle.subcommands.specs.declared.end.End.TheVariants as end
+use Rattle.subcommands.specs.declared.end.Exit.{Exit}
+use Rattle.subcommands.specs.declared.end.Told.{Told}
+use Rattle.subcommands.specs.declared.end.Told.TheVariants as told
+use Rattle.arguments.specs.declared.words.WordsFault.{WordsFault}
+use Rattle.arguments.specs.declared.words.WordsFault.TheVariants as words
+use Rattle.plan_print.specs.declared.plan.PlanStop.{PlanStop}
+use Rattle.plan_print.specs.declared.plan.PlanStop.TheVariants as stop
+
+-- done and help end with 0, a refusal or a bad line with 1, wrong arguments with 2, and a fault of a
+-- file, a device or of memory with 3; a fault of a batch is told by its number and row, every other
+-- refusal by its number alone, and there are no words where clap has a text of its own
+abbrev pub exit_of : End → Exit
+exit_of end.Done = record { status = 0; words = None }
+exit_of end.Helped = record { status = 0; words = None }
+exit_of end.Usage = record { status = 2; words = None }
+exit_of end.NotText = record { status = 2; words = Some told.NotText }
+exit_of end.BadName = record { status = 2; words = Some told.BadName }
+exit_of (end.Refused fault) =
+    record { status = 1; words = Some (told.RefusedRow (code_of fault.kind) fault.row) }
+exit_of end.TooLarge = record { status = 1; words = Some (told.Refused 413) }
+exit_of (end.BadLine line) = record { status = 1; words = Some (told.BadLine line) }
+exit_of end.NotOurs = record { status = 1; words = Some (told.Refused 81) }
+exit_of end.Damaged = record { status = 1; words = Some (told.Refused 82) }
+exit_of (end.NotReported why) =
+    record { status = 1; words = Some (told.Refused (refusals.code_of why)) }
+exit_of end.BadCard = record { status = 1; words = Some (told.Refused 400) }
+exit_of end.Released = record { status = 1; words = Some (told.Refused 73) }
+exit_of end.Storage = record { status = 3; words = Some told.Storage }
+exit_of end.PortFailed = record { status = 3; words = Some told.Device }
+exit_of end.NoReply = record { status = 3; words = Some told.Device }
+exit_of end.ReadFailed = record { status = 3; words = Some told.Device }
+exit_of end.WriteFailed = record { status = 3; words = Some told.Device }
+exit_of end.Memory = record { status = 3; words = Some told.Memory }
+
+-- the text of the words
+abbrev pub told_text : Told → List ℕ
+told_text (told.Refused number) = codes "refused " ++ decimal number
+told_text (told.RefusedRow number row) =
+    codes "refused " ++ (decimal number ++ (codes " row " ++ decimal row))
+told_text (told.BadLine line) = codes "bad line " ++ decimal line
+told_text told.NotText = codes "error: an argument isn't UTF-8"
+told_text told.BadName = codes "bad name"
+told_text told.Storage = codes "storage"
+told_text told.Device = codes "device"
+told_text told.Memory = codes "memory"
+
+-- ---- which end it is
+
+abbrev pub end_of_plan_stop : PlanStop → End
+end_of_plan_stop (stop.Refused fault) = end.Refused fault
+end_of_plan_stop stop.TooLarge = end.TooLarge
+end_of_plan_stop stop.ReadFailed = end.ReadFailed
+end_of_plan_stop stop.WriteFailed = end.WriteFailed
+end_of_plan_stop stop.Memory = end.Memory
+
+-- of `plan`
+abbrev pub end_of_plan : Result (Unit {0}) PlanStop → End
+end_of_plan (Ok u) = end.Done
+end_of_plan (Err stop) = end_of_plan_stop stop
+
+abbrev pub end_of_drill_stop : DrillStop → End
+end_of_drill_stop (drill.BadLine line) = end.BadLine line
+end_of_drill_stop drill.Storage = end.Storage
+end_of_drill_stop drill.ReadFailed = end.ReadFailed
+end_of_drill_stop drill.WriteFailed = end.WriteFailed
+end_of_drill_stop drill.Memory = end.Memory
+
+-- of `drill`
+abbrev pub end_of_drill : Result (Unit {0}) DrillStop → End
+end_of_drill (Ok u) = end.Done
+end_of_drill (Err stop) = end_of_drill_stop stop
+
+abbrev pub end_of_store : StoreFault → End
+end_of_store store.Memory = end.Memory
+end_of_store store.Device = end.Storage
+end_of_store store.Full = end.Storage
+
+-- of a file that isn't taken
+abbrev pub end_of_file : FileFault → End
+end_of_file (file.NotOurs cause) = end.NotOurs
+end_of_file (file.Damaged cause) = end.Damaged
+end_of_file file.Storage = end.Storage
+end_of_file file.Memory = end.Memory
+
+-- of `serve`
+abbrev pub end_of_serve_stop : ServeStop → End
+end_of_serve_stop serve.Next = end.PortFailed
+end_of_serve_stop serve.Write = end.WriteFailed
+end_of_serve_stop serve.Memory = end.Memory
+end_of_serve_stop (serve.Store fault) = end_of_store fault
+
+-- of `report`
+abbrev pub end_of_account : AccountFault → End
+end_of_account (account.Refused why) = end.NotReported why
+end_of_account (account.Store fault) = end_of_store fault
+end_of_account account.Write = end.WriteFailed
+
+abbrev pub end_of_feed_stop : FeedStop → End
+end_of_feed_stop feed.BadLine = end.BadCard
+end_of_feed_stop feed.Stale = end.Released
+end_of_feed_stop feed.NoReply = end.NoReply
+end_of_feed_stop feed.ReadFailed = end.ReadFailed
+end_of_feed_stop feed.WriteFailed = end.WriteFailed
+end_of_feed_stop feed.Memory = end.Memory
+
+-- of `feed`
+abbrev pub end_of_feed : Result (Unit {0}) FeedStop → End
+end_of_feed (Ok u) = end.Done
+end_of_feed (Err stop) = end_of_feed_stop stop
+
+-- of words that give no subcommand, by whether clap's text was written
+abbrev pub told_end : WordsFault → Bool → End
+told_end (words.Help text) is_written = if is_written then end.Helped else end.WriteFailed
+told_end (words.Version text) is_written = if is_written then end.Helped else end.WriteFailed
+told_end (words.Usage text) is_written = end.Usage
+told_end words.NotText is_written = end.NotText
+told_end words.BadName is_written = end.BadName
+told_end words.Memory is_written = end.Memory

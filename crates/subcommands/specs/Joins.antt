@@ -1,0 +1,79 @@
+-- What joins the program's words to its streams and its file, and the file to its end.
+use Rattle.std.specs.Prelude.{◌≡◌, ◌++◌, ◌∷◌, [], ℕ, List, Option, Some, None, Result, Ok, Err}
+use Rattle.std.specs.Prelude.{String, codes, string_bytes}
+use Rattle.std.specs.Global.{Global}
+use Rattle.std.specs.declared.env.VarError.{VarError}
+use Rattle.std.specs.declared.env.VarError.TheVariants as variable
+use Rattle.event_lines.specs.Levels.{level_of}
+use Rattle.event_lines.specs.declared.level.Level.{Level}
+use Rattle.event_lines.specs.declared.level.Level.TheVariants.{Off, Usual}
+use Rattle.event_lines.specs.Lines.{number_pair, pair, quoted_pair}
+use Rattle.file_causes.specs.Words.{damage_word}
+use Rattle.job_facts.specs.declared.store.StoreFault.{StoreFault}
+use Rattle.over_tables.specs.Causes.{name_in, word_of}
+use Rattle.over_tables.specs.declared.fault.FileFault.{FileFault}
+use Rattle.over_tables.specs.declared.fault.FileFault.TheVariants as file
+use Rattle.subcommands.specs.Ends.{end_of_store}
+use Rattle.subcommands.specs.declared.end.End.{End}
+use Rattle.std.specs.Io.KnownBytes.{Keeps}
+use Rattle.over_tables.specs.declared.opening.Wanted.{Wanted}
+use Rattle.over_tables.specs.declared.opening.Wanted.TheVariants as wanted
+use Rattle.text_io.specs.Written.{Writes}
+use Rattle.text_io.specs.declared.writing.WriteFailed.{WriteFailed}
+use Rattle.arguments.specs.declared.words.Words.{Words}
+use Rattle.arguments.specs.declared.words.Words.TheVariants.{Plan, Drill, Serve, Report, Feed}
+use Rattle.arguments.specs.declared.words.WordsFault.{WordsFault}
+use Rattle.arguments.specs.declared.words.WordsFault.TheVariants as words
+
+-- by what the variable is found to be: a value that isn't UTF-8 asks for the usual lines
+abbrev pub level_by : Result (String Global) VarError → Level
+level_by (Ok value) = level_of (Some (string_bytes value))
+level_by (Err variable.NotPresent) = level_of None
+level_by (Err variable.NotUnicode) = Usual
+level_by (Err variable.OutOfMemory) = Off
+
+-- `serve` makes a new file where there is none, and no other subcommand does
+abbrev pub wanted_of : Words → Wanted
+wanted_of (Serve db port turns) = wanted.Any
+wanted_of (Plan max low check) = wanted.Ours
+wanted_of Drill = wanted.Ours
+wanted_of (Report db batch) = wanted.Ours
+wanted_of (Feed port start) = wanted.Ours
+
+-- clap's text of help or of the version goes to the output, that of a usage fault to the errors,
+-- and nothing else goes to either
+abbrev pub Explains : WordsFault → Option (List ℕ) → Option (List ℕ) → Option (List ℕ)
+    → Option (List ℕ) → Result (Unit {0}) WriteFailed → Type 0
+Explains (words.Help text) output output_after errors errors_after written =
+    Writes output output_after (string_bytes text) written × Keeps errors errors_after
+Explains (words.Version text) output output_after errors errors_after written =
+    Writes output output_after (string_bytes text) written × Keeps errors errors_after
+Explains (words.Usage text) output output_after errors errors_after written =
+    Keeps output output_after × Writes errors errors_after (string_bytes text) written
+Explains _ output output_after errors errors_after written =
+    Keeps output output_after × Keeps errors errors_after × (written ≡ Ok tt)
+
+-- what was done over a store ends so where the store is closed
+abbrev pub end_of_close : End → Result (Unit {0}) StoreFault → End
+end_of_close end (Ok u) = end
+end_of_close end (Err fault) = end_of_store fault
+
+-- ---- the event line of a file that is refused
+
+-- the table, the index or the view that a cause names
+abbrev pub table_pair : Option (List ℕ) → List ℕ
+table_pair None = []
+table_pair (Some name) = quoted_pair (codes "table") name
+
+abbrev pub refusal_line : ℕ → List ℕ → Option (List ℕ) → List ℕ → List ℕ
+refusal_line code cause table path =
+    codes "refused" ++ number_pair (codes "code") code ++ pair (codes "cause") cause
+    ++ table_pair table ++ quoted_pair (codes "db") path
+
+abbrev pub refusal_lines : FileFault → List ℕ → List (List ℕ)
+refusal_lines (file.NotOurs cause) path =
+    refusal_line 81 (word_of cause) (name_in cause) path ∷ []
+refusal_lines (file.Damaged cause) path =
+    refusal_line 82 (damage_word cause) None path ∷ []
+refusal_lines file.Storage path = []
+refusal_lines file.Memory path = []

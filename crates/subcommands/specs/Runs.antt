@@ -1,0 +1,58 @@
+-- A run of a subcommand: what it reads and prints, and how it ends.
+use Rattle.std.specs.Prelude.{◌≡◌, ⊤, ℕ, Bool, List, codes, Option, Result}
+use Rattle.store_data.specs.declared.row.Product.{Product}
+use Rattle.text_io.specs.Inputs.{Tells}
+use Rattle.plan_print.specs.PlanEnds.{PlanEnds}
+use Rattle.plan_print.specs.declared.plan.PlanStop.{PlanStop}
+use Rattle.over_tables.specs.Drills.{DrillEnds}
+use Rattle.drill.specs.declared.stop.DrillStop.{DrillStop}
+use Rattle.feeding.specs.Feeds.{at_first}
+use Rattle.event_lines.specs.declared.log.EventLog.{EventLog}
+use Rattle.feeding.specs.Events.{FeedEndsWithEvents}
+use Rattle.feeding.specs.Tries.{Try}
+use Rattle.feeding.specs.declared.engine.FeedStop.{FeedStop}
+use Rattle.subcommands.specs.Ends.{end_of_drill, end_of_feed, end_of_plan}
+use Rattle.subcommands.specs.declared.end.End.{End}
+use Rattle.subcommands.specs.declared.end.End.TheVariants.{Done, BadLine}
+use Rattle.arguments.specs.declared.words.FeedStart.{FeedStart}
+use Rattle.arguments.specs.declared.words.Words.{Words}
+use Rattle.arguments.specs.declared.words.Words.TheVariants.{Plan, Drill, Serve, Report, Feed}
+
+-- the product that the values of `plan` stand for, by the name `plan`
+abbrev pub product_of : ℕ → ℕ → Bool → Product
+product_of max low check = record { code = codes "plan"; max = max; low = low; check = check }
+
+-- for the known input the engine of `plan` writes so, and the end is its end
+abbrev pub PlanRuns : Product → Option (List ℕ) → Option (List ℕ) → Option (List ℕ) → End → Type 0
+PlanRuns p known before after end = (raw : List ℕ) × Tells known raw
+    × (ended : Result (Unit {0}) PlanStop) × (end ≡ end_of_plan ended)
+    × PlanEnds p raw before after ended
+
+-- so of the engine of `drill`
+abbrev pub DrillRuns : Option (List ℕ) → Option (List ℕ) → Option (List ℕ) → End → Type 0
+DrillRuns known before after end = (ended : Result (Unit {0}) DrillStop)
+    × (end ≡ end_of_drill ended) × DrillEnds known before after ended
+
+-- so of the engine of `feed`, whose machine and batch are those of the words, with its event lines
+abbrev pub FeedRuns : {E : Type 0} → (E → Option (List ℕ)) → FeedStart → Option (List ℕ)
+    → Option (List Try) → Option (List Try) → Option (List ℕ) → Option (List ℕ)
+    → EventLog E → EventLog E → End → Type 0
+FeedRuns contents start known log_before log_after before after old new end =
+    (ended : Result (Unit {0}) FeedStop) × (end ≡ end_of_feed ended)
+    × FeedEndsWithEvents contents (at_first start.machine start.boot start.batch) known
+    log_before log_after before after old new ended
+
+-- so of the subcommand that the words ask for, if it uses the streams alone
+abbrev pub Runs : Words → Option (List ℕ) → Option (List ℕ) → Option (List ℕ) → End → Type 0
+Runs (Plan max low check) known before after end =
+    PlanRuns (product_of max low check) known before after end
+Runs Drill known before after end = DrillRuns known before after end
+Runs (Serve db port turns) known before after end = ⊥
+Runs (Report db batch) known before after end = ⊥
+Runs (Feed port start) known before after end = ⊥
+
+-- the ends at which the whole text was printed
+abbrev pub IsPrinted : End → Type 0
+IsPrinted Done = ⊤
+IsPrinted (BadLine line) = ⊤
+IsPrinted _ = ⊥

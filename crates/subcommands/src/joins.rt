@@ -1,0 +1,121 @@
+//! What joins the program's words to its streams and its file, and the file to its end.
+ghost use Rattle.std.specs.Prelude.{◌≡◌, ◌++◌, IfOk, option_map};
+ghost use Rattle.event_lines.specs.Notes.{NotesAll};
+ghost use Rattle.event_lines.specs.Views.{text_of};
+ghost use Rattle.subcommands.specs.Joins.{Explains, end_of_close, level_by, refusal_line};
+ghost use Rattle.subcommands.specs.Joins.{refusal_lines, table_pair, wanted_of};
+
+use crate::end::End;
+use arguments::{Words, WordsFault};
+use event_lines::{EventLine, EventLog, Level, level_of};
+use job_facts::StoreFault;
+use over_tables::{FileFault, Wanted};
+use std::alloc::{AllocError, Global};
+use std::env::VarError;
+use std::io::Write;
+use text_io::{WriteFailed, write_text};
+
+/// Which event lines are written, by what the environment's variable is found to be. A value that
+/// isn't UTF-8 asks for the usual ones. Where memory is refused, none are written.
+pub fn level_by(variable: &Result<String, VarError>) -> Level
+    ensures { result ≡ level_by variable.now }
+{
+    match variable {
+        Ok(value) => level_of(Some(value.as_bytes())),
+        Err(VarError::NotPresent) => level_of(None),
+        Err(VarError::NotUnicode) => Level::Usual,
+        Err(VarError::OutOfMemory) => Level::Off,
+    }
+}
+
+/// Which file a subcommand takes: `serve` makes a new one where there is none, and no other does.
+pub fn wanted_of(words: &Words) -> Wanted
+    ensures { result ≡ wanted_of words.now }
+{
+    match words {
+        Words::Serve { .. } => Wanted::Any,
+        Words::Plan { .. } | Words::Drill | Words::Report { .. } | Words::Feed { .. } => {
+            Wanted::Ours
+        }
+    }
+}
+
+/// Prints `clap`'s text on words that give no subcommand: help and the version to the output, and
+/// what is wrong with the words to the errors. Of the other faults `exit_of` has the words. Where
+/// the writer fails, a beginning of the text was written.
+pub fn explain<O: Write, E: Write>(
+    fault: &WordsFault,
+    output: &mut O,
+    errors: &mut E,
+) -> Result<(), WriteFailed>
+    ensures { Explains fault.now (O.contents output.old) (O.contents output.new)
+        (E.contents errors.old) (E.contents errors.new) result }
+{
+    match fault {
+        WordsFault::Help(text) | WordsFault::Version(text) => write_text(output, text.as_bytes()),
+        WordsFault::Usage(text) => write_text(errors, text.as_bytes()),
+        WordsFault::NotText | WordsFault::BadName | WordsFault::Memory => Ok(()),
+    }
+}
+
+/// The end of what was done over a store, by how the store was closed: where it can't be closed, the
+/// fault of that.
+pub fn end_of_close(end: End, closed: Result<(), StoreFault>) -> End
+    ensures { result ≡ end_of_close end closed }
+{
+    match closed {
+        Ok(()) => end,
+        Err(fault) => End::from(fault),
+    }
+}
+
+/// Writes the event line of a file that is refused: the refusal's code, the cause, the table that it
+/// names, and the file's path. Of a fault of the device or of memory nothing is written.
+pub fn note_refusal<E: Write + Drop>(
+    alloc: Global,
+    fault: &FileFault,
+    path: &[u8],
+    events: &mut EventLog<E>,
+)
+    ensures level { events.new.level ≡ events.old.level }
+    ensures noted { NotesAll events.old.level (E.contents events.old.writer)
+        (E.contents events.new.writer) (refusal_lines fault.now path.now) }
+{
+    match fault {
+        FileFault::NotOurs { cause } => {
+            let line = refusal_line(alloc, 81, cause.word(), cause.name(), path);
+            events.note(line);
+        }
+        FileFault::Damaged { cause } => {
+            events.note(refusal_line(alloc, 82, cause.word(), None, path));
+        }
+        FileFault::Storage | FileFault::Memory => (),
+    }
+}
+
+fn refusal_line(
+    alloc: Global,
+    code: u64,
+    cause: &str,
+    table: Option<&[u8]>,
+    path: &[u8],
+) -> Result<EventLine, AllocError>
+    ensures { IfOk result (λ line. text_of line
+        ≡ refusal_line code cause.now (option_map (λ name. name.now) table.entry) path.now) }
+{
+    let line = EventLine::new(alloc, "refused")?
+        .number("code", code)?
+        .word("cause", cause)?;
+    with_table(line, table)?.quoted("db", path)
+}
+
+// With the table, if there is one.
+fn with_table(line: EventLine, table: Option<&[u8]>) -> Result<EventLine, AllocError>
+    ensures { IfOk result (λ more. text_of more
+        ≡ text_of line ++ table_pair (option_map (λ name. name.now) table.entry)) }
+{
+    match table {
+        Some(name) => line.quoted("table", name),
+        None => Ok(line),
+    }
+}

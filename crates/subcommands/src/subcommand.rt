@@ -1,0 +1,133 @@
+//! A run of a subcommand, from its words to its end.
+ghost use Rattle.std.specs.Prelude.{◌≡◌, ◌⊎◌, []};
+ghost use Rattle.std.specs.Io.Buffered.{writer_buffer, writer_contents};
+ghost use Rattle.std.specs.Io.KnownBytes.{Keeps};
+ghost use Rattle.store_data.specs.Sequence.{IsProduct};
+ghost use Rattle.subcommands.specs.Runs.{DrillRuns, FeedRuns, IsPrinted, PlanRuns, Runs};
+ghost use Rattle.subcommands.specs.Runs.{product_of};
+ghost use Rattle.arguments.specs.Words.{InRange, IsBoot, UsesStreams};
+ghost use Rattle.subcommands.specs.declared.end.End.TheVariants.{WriteFailed};
+
+use crate::end::End;
+use arguments::{FeedStart, Words};
+use drill::DrillStop;
+use event_lines::EventLog;
+use feeding::{Exchange, feed_with_events};
+use over_tables::drill_engine;
+use plan_print::plan_engine;
+use std::alloc::Global;
+use std::io::{BufWriter, Read, Write};
+use store_data::{Name, Product};
+
+/// Does what the words ask for, `plan` or `drill`, from the reader to the writer behind the buffer,
+/// which holds nothing where the whole text was printed. A flush that fails is a failed write.
+pub fn run<R: Read, W: Write + Drop>(
+    alloc: Global,
+    words: Words,
+    reader: &mut R,
+    writer: &mut BufWriter<W>,
+) -> End
+    requires range { InRange words }
+    requires streams { UsesStreams words }
+    ensures end { Runs words (R.remaining reader.old) (writer_contents W.contents writer.old)
+        (writer_contents W.contents writer.new) result }
+    ensures flushed { IsPrinted result → writer_buffer writer.new ≡ [] }
+{
+    match words {
+        Words::Plan { max, low, check } => {
+            run_plan(alloc, &product_of(max, low, check), reader, writer)
+        }
+        Words::Drill => run_drill(alloc, reader, writer),
+        Words::Serve { .. } | Words::Report { .. } | Words::Feed { .. } => unreachable!(),
+    }
+}
+
+/// The product that the values of `plan` stand for.
+pub fn product_of(max: u8, low: u8, check: bool) -> Product
+    ensures { result ≡ product_of max low check }
+{
+    Product {
+        code: Name::new(b"plan").unwrap(),
+        max,
+        low,
+        check,
+    }
+}
+
+/// Feeds the machine of a start with the reader's cards for its batch, over the exchange, prints
+/// what each card comes to, and writes event lines. What is printed is written as it comes, and left
+/// to the caller to flush.
+pub fn run_feed<R: Read, W: Write, X: Exchange, E: Write + Drop>(
+    alloc: Global,
+    start: FeedStart,
+    reader: &mut R,
+    writer: &mut W,
+    exchange: &mut X,
+    events: &mut EventLog<E>,
+) -> End
+    requires { IsBoot start.boot }
+    ensures { FeedRuns E.contents start (R.remaining reader.old) (X.log exchange.old)
+        (X.log exchange.new) (W.contents writer.old) (W.contents writer.new) events.old events.new
+        result }
+{
+    match feed_with_events(
+        alloc,
+        start.machine,
+        start.boot,
+        start.batch,
+        reader,
+        writer,
+        exchange,
+        events,
+    ) {
+        Ok(()) => End::Done,
+        Err(stop) => End::from(stop),
+    }
+}
+
+// Prints the commands of a batch.
+fn run_plan<R: Read, W: Write + Drop>(
+    alloc: Global,
+    product: &Product,
+    reader: &mut R,
+    writer: &mut BufWriter<W>,
+) -> End
+    requires { IsProduct product.now }
+    ensures end { PlanRuns product.now (R.remaining reader.old)
+        (writer_contents W.contents writer.old) (writer_contents W.contents writer.new) result }
+    ensures flushed { IsPrinted result → writer_buffer writer.new ≡ [] }
+{
+    match plan_engine(alloc, product, reader, writer) {
+        Ok(()) => flushed(writer, End::Done),
+        Err(stop) => End::from(stop),
+    }
+}
+
+// Serves a script, and prints its replies.
+fn run_drill<R: Read, W: Write + Drop>(
+    alloc: Global,
+    reader: &mut R,
+    writer: &mut BufWriter<W>,
+) -> End
+    ensures end { DrillRuns (R.remaining reader.old) (writer_contents W.contents writer.old)
+        (writer_contents W.contents writer.new) result }
+    ensures flushed { IsPrinted result → writer_buffer writer.new ≡ [] }
+{
+    match drill_engine(alloc, reader, writer) {
+        Ok(()) => flushed(writer, End::Done),
+        Err(DrillStop::BadLine(line)) => flushed(writer, End::BadLine(line)),
+        Err(stop) => End::from(stop),
+    }
+}
+
+// The end where the buffer goes out.
+fn flushed<W: Write + Drop>(writer: &mut BufWriter<W>, end: End) -> End
+    ensures keeps { Keeps (writer_contents W.contents writer.old)
+        (writer_contents W.contents writer.new) }
+    ensures end { ((result ≡ end) × (writer_buffer writer.new ≡ [])) ⊎ (result ≡ WriteFailed) }
+{
+    match writer.flush() {
+        Ok(()) => end,
+        Err(_) => End::WriteFailed,
+    }
+}
