@@ -13,7 +13,6 @@ use crate::faults::OpenFault;
 use crate::settling::settle;
 use sqlite::{Alter, Connection};
 use std::alloc::Global;
-use table_reads::rows_are_held_in_any_order;
 
 /// Takes a database whose tables, of any version, hold the rows of sound contents: they then stand
 /// in our own tables. Any other is refused, and stays as it is. A crash leaves what it could leave
@@ -35,7 +34,7 @@ pub fn adopt<S: Alter>(alloc: Global, conn: &mut Connection<S>) -> Result<(), Op
     ensures crash { Survives (state S.Store conn.old) (state S.Store conn.new)
         (IsLeft Adopts (state S.Store conn.old)) }
 {
-    rows_are_held_in_any_order();
+    table_reads::laws::rows_are_held_in_any_order();
     match audit(alloc, conn)? {
         Found::NotOurs => Err(OpenFault::NotOurs),
         Found::Unsound => Err(OpenFault::Damaged),

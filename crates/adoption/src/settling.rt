@@ -8,10 +8,10 @@ ghost use Rattle.adoption.specs.Comes.{Comes};
 
 use crate::ours::can_stay;
 use remaking::remake;
+use sql_base::laws;
 use sql_tables::Version;
 use sqlite::{Alter, Connection, Error};
 use std::alloc::Global;
-use table_reads::our_rows_are_an_image;
 use table_rows::Tables;
 
 /// Tables that stand as our own are made stay as they are. Others are made anew, and their rows put
@@ -31,11 +31,11 @@ pub(crate) fn settle<S: Alter>(
     ensures crash { Survives (state S.Store conn.old) (state S.Store conn.new)
         (IsLeft (Settles version tables.now) (state S.Store conn.old)) }
 {
-    our_rows_are_an_image();
-    let _settled = conn.is_autocommit();
+    table_reads::laws::our_rows_are_an_image();
+    laws::is_committed(conn);
     if can_stay(alloc, conn, version)? {
         return Ok(());
     }
-    let _live = conn.schema();
+    laws::is_live(conn);
     remake(conn, version, tables)
 }

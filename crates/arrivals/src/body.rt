@@ -7,7 +7,7 @@ ghost use Rattle.arrivals.specs.Told.{body_of, status_of};
 ghost use Rattle.arrivals.specs.Values.{IsPlain, ended_value, made_name, record_value, value_of};
 
 use batch_import::RowFault;
-use job_facts::{Made, Refusal, Reply};
+use job_facts::{MACHINE_BUSY, Made, NUMBER_RELEASED, Refusal, Reply};
 use serde_json::{Value, json};
 use std::alloc::{AllocError, Global};
 use store_data::{Bytes, Name};
@@ -174,13 +174,13 @@ fn refused_value(alloc: Global, refusal: Refusal) -> Result<Value, AllocError>
 fn busy_value(alloc: Global, session: u64) -> Result<Value, AllocError>
     ensures { IfOk result (λ v. view v ≡ value_of (Reply.Busy session)) }
 {
-    json!(in alloc; {"code": 61u64, "refused": "machine-busy", "session": session})
+    json!(in alloc; {"code": MACHINE_BUSY, "refused": "machine-busy", "session": session})
 }
 
 fn number_released_value(alloc: Global, mark: u64) -> Result<Value, AllocError>
     ensures { IfOk result (λ v. view v ≡ value_of (Reply.NumberReleased mark)) }
 {
-    json!(in alloc; {"code": 73u64, "mark": mark, "refused": "number-released"})
+    json!(in alloc; {"code": NUMBER_RELEASED, "mark": mark, "refused": "number-released"})
 }
 
 fn faulty_value(alloc: Global, fault: RowFault) -> Result<Value, AllocError>

@@ -9,7 +9,6 @@ mod kept;
 
 pub use body::{body_of, name_text, status_of};
 pub use kept::Kept;
-use step_laws::same_facts_answer_alike;
 
 /// Arrivals after arrivals: a law, for the proof of one who takes them in turn. It does nothing.
 pub fn in_turn()
@@ -25,5 +24,5 @@ pub fn repeats_are_told()
 pub fn same_contents_answer_alike()
     ensures { AreToldAlike }
 {
-    same_facts_answer_alike();
+    step_laws::same_facts_answer_alike();
 }

@@ -8,7 +8,6 @@ ghost use Rattle.audit_rows.specs.Rules.{FailsFirst, rules};
 
 use crate::audit::failing_rule;
 use crate::rule::Rule;
-use audit_laws::{audited_rows_are_sound, sound_rows_are_audited};
 use audit_order::sort_tables;
 use std::alloc::{AllocError, Global};
 use table_rows::Tables;
@@ -23,8 +22,8 @@ pub fn first_failing(alloc: Global, tables: &mut Tables) -> Result<Option<Rule>,
     ensures sorted { IfOk result (λ _. AreSorted tables.new) }
     ensures same { HaveSameRows tables.new tables.old }
 {
-    audited_rows_are_sound();
-    sound_rows_are_audited();
+    audit_laws::audited_rows_are_sound();
+    audit_laws::sound_rows_are_audited();
     sort_tables(tables)?;
     failing_rule(alloc, tables)
 }

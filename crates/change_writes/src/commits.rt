@@ -15,6 +15,7 @@ use crate::releases::write_release;
 use crate::writing::Writing;
 use job_facts::Change;
 use row_writes::add_reply;
+use sql_base::laws;
 use sqlite::{Alter, Connection, Error, Transaction};
 use std::alloc::Global;
 use store_data::Name;
@@ -100,7 +101,7 @@ pub fn commit<'x, S: Alter>(
         Survives (state S.Store conn.old) (state S.Store conn.new)
         (IsLeft (Moves (rows_written writing.now entry)) (state S.Store conn.old)) }
 {
-    let _settled = conn.is_autocommit();
+    laws::is_committed(conn);
     let mut tx = conn.transaction();
     write_all(&mut tx, alloc, client, number, ask, status, body, writing)?;
     tx.commit()

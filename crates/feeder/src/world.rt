@@ -99,6 +99,4 @@ pub fn every_world(events: &[Event])
         → RepeatsAreTold (world_after reads events.now) }
     // A reading of replies as the clauses want it there is.
     ensures reading { IsReadable }
-{
-    let _ = events;
-}
+{}

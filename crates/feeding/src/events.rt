@@ -13,7 +13,7 @@ use crate::card::card_of;
 use crate::feed::{Rejected, Rejection};
 use crate::flaw::{Flaw, flaw_of};
 use event_lines::{EventLine, EventLog};
-use job_facts::{Refusal, Reply};
+use job_facts::{MACHINE_BUSY, NUMBER_RELEASED, Refusal, Reply};
 use std::alloc::{AllocError, Global};
 use std::io::Write;
 
@@ -143,8 +143,8 @@ fn refusal_in(reply: &Reply) -> Option<(u8, &'static str)>
 {
     match reply {
         Reply::Refused { refusal } => Some((refusal.code(), refusal.name())),
-        Reply::Busy { .. } => Some((61, "machine-busy")),
-        Reply::NumberReleased { .. } => Some((73, "number-released")),
+        Reply::Busy { .. } => Some((MACHINE_BUSY, "machine-busy")),
+        Reply::NumberReleased { .. } => Some((NUMBER_RELEASED, "number-released")),
         Reply::Faulty { fault } => Some((fault.kind.code(), fault.kind.name())),
         _ => None,
     }

@@ -16,7 +16,7 @@ mod store;
 pub use change::Change;
 pub use facts::{Lot, RecordState, SessionState};
 pub use lots::{any_overlaps, lot_among};
-pub use refusal::Refusal;
+pub use refusal::{MACHINE_BUSY, NUMBER_RELEASED, Refusal};
 pub use reopen::Reopen;
 pub use reply::{Made, Reply};
 pub use request::{Arrival, Call, Request};

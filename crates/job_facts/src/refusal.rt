@@ -6,6 +6,12 @@ ghost use Rattle.job_facts.specs.declared.refusal.Refusal.{Refusal as RefusalVal
 use std::error::Error;
 use std::fmt;
 
+/// The number of the refusal that tells a machine's running session, machine-busy.
+pub const MACHINE_BUSY: u8 = 61;
+
+/// The number of the refusal that tells a client's mark, number-released.
+pub const NUMBER_RELEASED: u8 = 73;
+
 /// Why a request is refused (this project's profile).
 #[derive(Clone, Copy, Debug, PartialEq, Eq)]
 pub enum Refusal {

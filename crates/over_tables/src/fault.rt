@@ -7,6 +7,12 @@ use file_causes::Damage;
 use job_facts::StoreFault;
 use sqlite::{Error, ErrorCode};
 
+/// The number of the refusal of a file whose tables are not ours.
+pub const NOT_OURS: u16 = 81;
+
+/// The number of the refusal of a file whose rows are not those of sound contents.
+pub const DAMAGED: u16 = 82;
+
 /// Why a file is not taken.
 #[derive(Debug, Drop, PartialEq, Eq)]
 pub enum FileFault {

@@ -11,6 +11,6 @@ mod serving;
 
 pub use cause::Cause;
 pub use drilling::drill_engine;
-pub use fault::FileFault;
+pub use fault::{DAMAGED, FileFault, NOT_OURS};
 pub use opening::{Wanted, begins, store_over};
 pub use serving::serve_over_tables;

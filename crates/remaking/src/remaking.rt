@@ -7,6 +7,7 @@ ghost use Rattle.remaking.specs.Remakes.{Remakes};
 
 use crate::anew::make_anew;
 use crate::filling::fill;
+use sql_base::laws;
 use sql_tables::Version;
 use sqlite::{Alter, Connection, Error, Transaction};
 use table_rows::Tables;
@@ -45,7 +46,7 @@ pub fn remake<S: Alter>(
     ensures crash { Survives (state S.Store conn.old) (state S.Store conn.new)
         (IsLeft (Remakes version tables.now) (state S.Store conn.old)) }
 {
-    let _settled = conn.is_autocommit();
+    laws::is_committed(conn);
     let mut tx = conn.transaction();
     write_anew(&mut tx, version, tables)?;
     tx.commit()

@@ -11,9 +11,10 @@ ghost use Rattle.job_facts.specs.Requests.{IsArrival, IsCall};
 ghost use Rattle.job_facts.specs.Contents.{Contents};
 ghost use Rattle.job_facts.specs.Store.{CountsFaults, IsHonest};
 ghost use Rattle.reply_store.specs.Handled.{Handles};
-ghost use Rattle.reply_store.specs.Runs.{AreLeftInTurn, AreNext, Runs, arrived};
+ghost use Rattle.reply_store.specs.Runs.{AreNext, Runs, arrived};
 
 mod deciding;
+pub mod laws;
 mod settling;
 
 use crate::deciding::decide_call;
@@ -62,7 +63,7 @@ pub fn handle<S: JobStore>(
         return Ok(again(alloc, ask, kept)?);
     }
     // The entry owes that the client is a name.
-    let _ = client.bytes();
+    store_data::laws::is_a_name(client);
     let (reply, effect) = decide_call(alloc, store, client, number, call, mark)?;
     settle(alloc, store, client, number, ask, &reply, &effect)
 }
@@ -98,11 +99,6 @@ pub fn run<S: JobStore>(
     }
     Ok(outcomes)
 }
-
-/// That what arrivals leave is told of one after the other: a law, for the proof of one who handles them in turn. It does nothing.
-pub fn left_in_turn<S: JobStore>()
-    ensures { AreLeftInTurn S.state }
-{}
 
 // What is told of a number that is kept.
 fn again(alloc: Global, ask: &[u8], kept: KeptReply) -> Result<Kept, AllocError>

@@ -93,8 +93,13 @@ pub fn close_report<S: JobStore, W: Write>(
     Ok(())
 }
 
-// The report's text.
-fn report_of<S: JobStore>(alloc: Global, store: &mut S, batch: &Name) -> Result<Bytes, AccountFault>
+/// The text of a batch's close report. Errors: the batch is unknown (refusal 56), the store's faults,
+/// and refused memory.
+pub fn report_of<S: JobStore>(
+    alloc: Global,
+    store: &mut S,
+    batch: &Name,
+) -> Result<Bytes, AccountFault>
     ensures stays { Stays (S.state store.old) (S.state store.new) }
     ensures tells { TellsText (S.state store.old) (S.state store.new) BatchUnknown
         (λ c. report_text c.facts batch.now) result }

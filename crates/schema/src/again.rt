@@ -4,7 +4,6 @@ use adoption::OpenFault;
 use job_facts::{Reopen, StoreFault};
 use sqlite::Alter;
 use std::alloc::Global;
-use table_reads::our_rows_are_an_image;
 
 impl<S: Alter + Drop> Reopen for SqlStore<S> {
     ghost use Rattle.std.specs.Prelude.{IsTrue};
@@ -14,7 +13,7 @@ impl<S: Alter + Drop> Reopen for SqlStore<S> {
     ghost usable = { λ store. IsTrue (state S.Store (connection store)).is_open };
 
     fn reopen(self, alloc: Global) -> Result<SqlStore<S>, StoreFault> {
-        our_rows_are_an_image();
+        table_reads::laws::our_rows_are_an_image();
         match SqlStore::adopt(alloc, self.close()) {
             Ok(store) => Ok(store),
             Err((_, OpenFault::Store { fault })) => Err(fault),

@@ -5,6 +5,7 @@ ghost use Rattle.schema.specs.Closing.{FailsToFinish, LeavesWholeFile};
 use crate::store::SqlStore;
 use adoption::fault_of;
 use job_facts::{FaultCounts, ServerStore, StoreFault};
+use sql_base::laws;
 use sqlite::{Connection, FileStore, MemStore};
 use sqlite_disk::Disk;
 
@@ -14,7 +15,7 @@ fn close_files<D: Disk + Drop>(conn: Connection<FileStore<D>>) -> Result<(), Sto
     ensures closed { OnOk result (LeavesWholeFile conn) }
     ensures fault { IfErr result (FailsToFinish conn) }
 {
-    let _settled = conn.is_autocommit();
+    laws::is_committed(&conn);
     match conn.close_files() {
         Ok(_) => Ok(()),
         Err((error, store)) => {

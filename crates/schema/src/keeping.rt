@@ -8,7 +8,6 @@ ghost use Rattle.schema.specs.Takes.{Takes};
 ghost use Rattle.table_rows.specs.Kept.{kept_reply};
 
 use change_writes::{Writing, commit};
-use image_laws::{rows_after_change, rows_after_release, rows_with_reply};
 use job_facts::Change;
 use sqlite::{Alter, Connection, Error};
 use std::alloc::Global;
@@ -40,8 +39,8 @@ pub(crate) fn keep<'x, S: Alter>(
         (IsLeft (Takes (IsOwed change.now entry) (λ c. committed c change.now entry))
         (state S.Store conn.old)) }
 {
-    rows_after_change();
-    rows_with_reply();
+    image_laws::rows_after_change();
+    image_laws::rows_with_reply();
     let before = before(conn, change)?;
     let writing = Writing::Change {
         change,
@@ -76,7 +75,7 @@ pub(crate) fn release<'x, S: Alter>(
         (IsLeft (Takes (IsOwedRelease upto entry) (λ c. released c upto entry))
         (state S.Store conn.old)) }
 {
-    rows_after_release();
+    image_laws::rows_after_release();
     commit(
         conn,
         alloc,

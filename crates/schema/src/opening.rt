@@ -17,12 +17,10 @@ ghost use Rattle.schema.specs.Stores.{connection, stands_for};
 use crate::faults::Counts;
 use crate::store::SqlStore;
 use adoption::{OpenFault, adopt};
-use image_laws::same_rows_same_contents;
 use sql_base::is_empty;
 use sql_tables::make_tables;
 use sqlite::{Alter, Connection};
 use std::alloc::Global;
-use table_reads::{held_rows_are_one, rows_are_held_in_any_order};
 
 impl<S: Alter> SqlStore<S> {
     /// A store without facts, in an empty database. Any other is refused and stays as it is, and
@@ -54,7 +52,7 @@ impl<S: Alter> SqlStore<S> {
             (λ store. LeavesNoOther (state S.Store conn) (state S.Store (connection store)))
             (λ e. LeavesNoOther (state S.Store conn) (state S.Store e.0)) }
     {
-        same_rows_same_contents();
+        image_laws::same_rows_same_contents();
         if !is_empty(conn.schema()) {
             return Err((conn, OpenFault::NotOurs));
         }
@@ -111,9 +109,9 @@ impl<S: Alter> SqlStore<S> {
             (λ e. Survives (state S.Store conn) (state S.Store e.0)
             (IsLeft Adopts (state S.Store conn))) }
     {
-        same_rows_same_contents();
-        held_rows_are_one();
-        rows_are_held_in_any_order();
+        image_laws::same_rows_same_contents();
+        table_reads::laws::held_rows_are_one();
+        table_reads::laws::rows_are_held_in_any_order();
         match adopt(alloc, &mut conn) {
             Ok(()) => {
                 let counts = Counts { failed: 0, full: 0 };

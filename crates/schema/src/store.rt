@@ -5,7 +5,6 @@ ghost use Rattle.schema.specs.Link.{link};
 
 use crate::faults::Counts;
 use crate::keeping::{keep, release};
-use image_laws::same_rows_same_contents;
 use job_facts::{
     BatchRow, BatchSize, BatchTotals, BlankTotals, Change, FaultCounts, JobStore, KeptReply, Lot,
     RecordLine, RecordState, SegmentRow, SessionRow, StoreFault,
@@ -220,7 +219,7 @@ impl<S: Alter> JobStore for SqlStore<S> {
         if number >= LIMIT {
             return self.counts.told(Err(Error::InvalidQuery));
         }
-        same_rows_same_contents();
+        image_laws::same_rows_same_contents();
         let answer = keep(
             &mut self.conn,
             self.alloc,
@@ -246,7 +245,7 @@ impl<S: Alter> JobStore for SqlStore<S> {
         if number >= LIMIT {
             return self.counts.told(Err(Error::InvalidQuery));
         }
-        same_rows_same_contents();
+        image_laws::same_rows_same_contents();
         let answer = release(
             &mut self.conn,
             self.alloc,

@@ -1,8 +1,6 @@
 //! What is told of a batch, or of a product's blanks.
 ghost use Rattle.std.specs.Prelude.{◌≡◌, IfOk};
 ghost use Rattle.job_facts.specs.Store.{Reads, Stays};
-ghost use Rattle.job_facts.specs.declared.refusal.Refusal.TheVariants.{BatchUnknown};
-ghost use Rattle.reports.specs.Report.{report_text};
 ghost use Rattle.reports.specs.Told.{TellsText};
 ghost use Rattle.arrivals.specs.Told.{told_of};
 ghost use Rattle.job_facts.specs.declared.reply.Reply.TheVariants.{Refused};
@@ -14,7 +12,7 @@ use arrivals::{body_of, status_of};
 use http_messages::Content;
 use http_requests::Wanted;
 use job_facts::{JobStore, Refusal, Reply, StoreFault};
-use reports::{AccountFault, batch_counts, blank_counts, close_report};
+use reports::{AccountFault, batch_counts, blank_counts, report_of};
 use std::alloc::{AllocError, Global};
 use store_data::{Bytes, Name};
 
@@ -26,7 +24,8 @@ pub(crate) struct Answer {
     pub(crate) body: Bytes,
 }
 
-/// The answer to an account, or to that what it is of is not there. Errors: the store's faults, and refused memory as `Memory`.
+/// The answer to an account, or that what it is of is not there. Errors: the store's faults, and
+/// refused memory as `Memory`.
 pub(crate) fn account_answer<S: JobStore>(
     alloc: Global,
     store: &mut S,
@@ -45,6 +44,7 @@ pub(crate) fn account_answer<S: JobStore>(
         Err(fault) => match fault {
             AccountFault::Refused(refusal) => Ok(refused(alloc, refusal)?),
             AccountFault::Store(fault) => Err(fault),
+            // Of accounts that are made in memory there is none: their calls say so.
             AccountFault::Write => Err(StoreFault::Memory),
         },
     }
@@ -66,25 +66,8 @@ fn account<S: JobStore>(alloc: Global, store: &mut S, wanted: Wanted) -> Result<
 {
     match wanted {
         Wanted::Batch(batch) => batch_counts(alloc, store, &batch),
-        Wanted::Report(batch) => report(alloc, store, &batch),
+        Wanted::Report(batch) => report_of(alloc, store, &batch),
         Wanted::Blanks(product) => blank_counts(alloc, store, &product),
-    }
-}
-
-// A write into memory fails where memory is refused.
-fn report<S: JobStore>(alloc: Global, store: &mut S, batch: &Name) -> Result<Bytes, AccountFault>
-    ensures stays { Stays (S.state store.old) (S.state store.new) }
-    ensures tells { TellsText (S.state store.old) (S.state store.new) BatchUnknown
-        (λ c. report_text c.facts batch.now) result }
-{
-    let mut text = Vec::new(alloc);
-    match close_report(alloc, store, batch, &mut text) {
-        Ok(()) => Ok(Bytes::from_vec(text)),
-        Err(fault) => match fault {
-            AccountFault::Write => Err(AccountFault::Store(StoreFault::Memory)),
-            AccountFault::Refused(refusal) => Err(AccountFault::Refused(refusal)),
-            AccountFault::Store(fault) => Err(AccountFault::Store(fault)),
-        },
     }
 }
 

@@ -5,7 +5,6 @@ ghost use Rattle.server.specs.Exchanges.{Exchange, Moves, ServesAll};
 use crate::connections::{Connections, NextFault};
 use crate::one::serve_one;
 use job_facts::JobStore;
-use reply_store::left_in_turn;
 use std::alloc::Global;
 
 /// Serves so many connections, one after the other. Errors: the fault that hands out no next one, which ends it; what was served
@@ -22,7 +21,7 @@ pub fn serve_all<S: JobStore, C: Connections>(
         × OnErr result (length es < turns) }
     ensures cause { IfErr result (λ fault. C.refuses connections.new fault) }
 {
-    left_in_turn::<S>();
+    reply_store::laws::left_in_turn::<S>();
     let mut turn = 0;
     while turn < turns {
         let (mut incoming, mut writer) = connections.next()?;

@@ -14,7 +14,6 @@ use crate::sequence::{Run, serve_connections};
 use crate::stopping::{ServeStop, write_listening, write_served};
 use event_lines::EventLog;
 use job_facts::ServerStore;
-use reply_store::left_in_turn;
 use std::alloc::Global;
 use std::io::Write;
 
@@ -44,7 +43,7 @@ pub fn serve_and_tell<S: ServerStore, C: Connections, W: Write, E: Write + Drop>
     ensures cause { IfErr result (λ stop. stop ≡ ServeStop.Next
         → C.refuses connections.new NextFault.Device) }
 {
-    left_in_turn::<S>();
+    reply_store::laws::left_in_turn::<S>();
     let mut store = store;
     note_opening(alloc, &mut store, events, opened);
     let run = serve_listening(alloc, &mut store, connections, writer, events, port, turns);

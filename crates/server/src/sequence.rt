@@ -12,7 +12,6 @@ use crate::observing::serve_observed;
 use crate::stopping::ServeStop;
 use event_lines::EventLog;
 use job_facts::ServerStore;
-use reply_store::left_in_turn;
 use std::alloc::Global;
 use std::io::Write;
 
@@ -41,7 +40,7 @@ pub(crate) fn serve_connections<S: ServerStore, C: Connections, E: Write + Drop>
         × (stop ≡ of_next fault) × C.refuses connections.new fault) }
     ensures level { events.new.level ≡ events.old.level }
 {
-    left_in_turn::<S>();
+    reply_store::laws::left_in_turn::<S>();
     let mut is_failing = false;
     let mut count = 0;
     while count < turns {

@@ -1,6 +1,7 @@
 //! What a statement on one table does to a database, at any schema, and what a transaction leaves.
 #![tactic(auto)]
 
+pub mod laws;
 mod making;
 mod reading;
 

@@ -7,6 +7,7 @@ ghost use Rattle.sqlite.specs.Values.{bound};
 ghost use Rattle.sqlite.specs.declared.types.Value.TheVariants.{Int};
 ghost use Rattle.sql_base.specs.Ends.{IsKept};
 
+use crate::laws;
 use sqlite::types::ValueRef;
 use sqlite::{Alter, Connection, Error, Row};
 
@@ -35,7 +36,7 @@ pub fn rows_of<S: Alter>(
     ensures idle { conn.new.in_transaction ≡ false }
     ensures survives { Survives (state S.Store conn.old) (state S.Store conn.new) (λ _. ⊥) }
 {
-    let _settled = conn.is_autocommit();
+    laws::is_committed(conn);
     let mut tx = conn.transaction();
     tx.query_all(sql, params)
 }

@@ -9,7 +9,6 @@ ghost use Rattle.store_reads.specs.Heads.{is_over_in, row_of, totals_in};
 ghost use Rattle.store_reads.specs.Tells.{Tells};
 
 use job_facts::{BatchRow, BatchSize, BatchTotals};
-use row_laws::{batches_by_name, batches_by_rows, totals_by_rows};
 use row_reads::{BatchHead, BatchTold, batch_head, batch_told, grouping_count};
 use sqlite::{Alter, Connection, Error};
 use store_data::Name;
@@ -67,8 +66,8 @@ pub fn batch<S: Alter>(conn: &mut Connection<S>, name: &Name) -> Result<Option<B
     ensures looks { Looks (state S.Store conn.old) (state S.Store conn.new) }
     ensures idle { conn.new.in_transaction ≡ false }
 {
-    batches_by_name();
-    batches_by_rows();
+    row_laws::batches_by_name();
+    row_laws::batches_by_rows();
     let found = batch_told(conn, name)?;
     Ok(row_of(found))
 }
@@ -87,8 +86,8 @@ pub fn batch_size<S: Alter>(
     ensures looks { Looks (state S.Store conn.old) (state S.Store conn.new) }
     ensures idle { conn.new.in_transaction ≡ false }
 {
-    batches_by_name();
-    batches_by_rows();
+    row_laws::batches_by_name();
+    row_laws::batches_by_rows();
     let Some(head) = batch_head(conn, name)? else {
         return Ok(None);
     };
@@ -110,7 +109,7 @@ pub fn batch_has<S: Alter>(conn: &mut Connection<S>, name: &Name, raw: &[u8]) ->
     ensures looks { Looks (state S.Store conn.old) (state S.Store conn.new) }
     ensures idle { conn.new.in_transaction ≡ false }
 {
-    batches_by_rows();
+    row_laws::batches_by_rows();
     row_reads::batch_has(conn, name, raw)
 }
 
@@ -122,8 +121,8 @@ pub fn is_finished<S: Alter>(conn: &mut Connection<S>, batch: &Name) -> Result<b
     ensures looks { Looks (state S.Store conn.old) (state S.Store conn.new) }
     ensures idle { conn.new.in_transaction ≡ false }
 {
-    batches_by_name();
-    totals_by_rows();
+    row_laws::batches_by_name();
+    row_laws::totals_by_rows();
     let found = batch_head(conn, batch)?;
     Ok(is_over(found))
 }
@@ -136,8 +135,8 @@ pub fn batch_totals<S: Alter>(conn: &mut Connection<S>, batch: &Name) -> Result<
     ensures looks { Looks (state S.Store conn.old) (state S.Store conn.new) }
     ensures idle { conn.new.in_transaction ≡ false }
 {
-    batches_by_name();
-    totals_by_rows();
+    row_laws::batches_by_name();
+    row_laws::totals_by_rows();
     let found = batch_head(conn, batch)?;
     Ok(totals_of(found))
 }

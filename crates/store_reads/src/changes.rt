@@ -18,7 +18,6 @@ use crate::names;
 use crate::numbers::END;
 use crate::sessions::session;
 use job_facts::{Change, SessionState};
-use row_laws::{batches_by_name, lots_by_name, records_by_name};
 use row_reads::{batch_head, record_named};
 use sqlite::{Alter, Connection, Error};
 use store_data::{Name, Product};
@@ -38,8 +37,8 @@ fn place_of<S: Alter>(
     ensures looks { Looks (state S.Store conn.old) (state S.Store conn.new) }
     ensures idle { conn.new.in_transaction ≡ false }
 {
-    batches_by_name();
-    records_by_name();
+    row_laws::batches_by_name();
+    row_laws::records_by_name();
     let Some(head) = batch_head(conn, batch)? else {
         return Err(Error::InvalidQuery);
     };
@@ -117,7 +116,7 @@ fn discarded<S: Alter>(conn: &mut Connection<S>, lot: &Name) -> Result<u64, Erro
     ensures looks { Looks (state S.Store conn.old) (state S.Store conn.new) }
     ensures idle { conn.new.in_transaction ≡ false }
 {
-    lots_by_name();
+    row_laws::lots_by_name();
     let Some(row) = row_reads::lot(conn, lot)? else {
         return Err(Error::InvalidQuery);
     };

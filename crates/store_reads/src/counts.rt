@@ -4,7 +4,6 @@ ghost use Rattle.sqlite.specs.Held.{state};
 ghost use Rattle.row_reads.specs.Reads.{Looks};
 ghost use Rattle.store_reads.specs.Tells.{Tells};
 
-use row_laws::numbers_of_rows;
 use row_reads::{last_batch, last_session};
 use sqlite::{Alter, Connection, Error};
 
@@ -27,7 +26,7 @@ pub fn lot_count<S: Alter>(conn: &mut Connection<S>) -> Result<u64, Error>
     ensures looks { Looks (state S.Store conn.old) (state S.Store conn.new) }
     ensures idle { conn.new.in_transaction ≡ false }
 {
-    numbers_of_rows();
+    row_laws::numbers_of_rows();
     row_reads::lot_count(conn)
 }
 
@@ -39,7 +38,7 @@ pub fn batch_count<S: Alter>(conn: &mut Connection<S>) -> Result<u64, Error>
     ensures looks { Looks (state S.Store conn.old) (state S.Store conn.new) }
     ensures idle { conn.new.in_transaction ≡ false }
 {
-    numbers_of_rows();
+    row_laws::numbers_of_rows();
     last_batch(conn)
 }
 
@@ -52,6 +51,6 @@ pub fn session_count<S: Alter>(conn: &mut Connection<S>) -> Result<u64, Error>
     ensures looks { Looks (state S.Store conn.old) (state S.Store conn.new) }
     ensures idle { conn.new.in_transaction ≡ false }
 {
-    numbers_of_rows();
+    row_laws::numbers_of_rows();
     last_session(conn)
 }

@@ -8,7 +8,6 @@ ghost use Rattle.store_reads.specs.Tells.{Tells};
 
 use crate::numbers::END;
 use job_facts::Lot;
-use row_laws::{blanks_by_serial, lots_by_name, lots_by_range};
 use row_reads::LotRow;
 use sqlite::{Alter, Connection, Error};
 use store_data::Name;
@@ -30,7 +29,7 @@ pub fn lot<S: Alter>(conn: &mut Connection<S>, name: &Name) -> Result<Option<Lot
     ensures looks { Looks (state S.Store conn.old) (state S.Store conn.new) }
     ensures idle { conn.new.in_transaction ≡ false }
 {
-    lots_by_name();
+    row_laws::lots_by_name();
     let found = row_reads::lot(conn, name)?;
     Ok(lot_in(found))
 }
@@ -43,8 +42,8 @@ pub fn lot_of<S: Alter>(conn: &mut Connection<S>, blank: u64) -> Result<Option<L
     ensures looks { Looks (state S.Store conn.old) (state S.Store conn.new) }
     ensures idle { conn.new.in_transaction ≡ false }
 {
-    lots_by_name();
-    lots_by_range();
+    row_laws::lots_by_name();
+    row_laws::lots_by_range();
     row_reads::lot_of(conn, blank)
 }
 
@@ -56,7 +55,7 @@ pub fn overlaps<S: Alter>(conn: &mut Connection<S>, first: u64, count: u32) -> R
     ensures looks { Looks (state S.Store conn.old) (state S.Store conn.new) }
     ensures idle { conn.new.in_transaction ≡ false }
 {
-    lots_by_name();
+    row_laws::lots_by_name();
     row_reads::overlaps(conn, first, count)
 }
 
@@ -71,6 +70,6 @@ pub fn is_charged<S: Alter>(conn: &mut Connection<S>, blank: u64) -> Result<bool
     if blank >= END {
         return Err(Error::InvalidQuery);
     }
-    blanks_by_serial();
+    row_laws::blanks_by_serial();
     row_reads::is_charged(conn, blank)
 }

@@ -7,7 +7,6 @@ ghost use Rattle.row_reads.specs.Reads.{Looks};
 ghost use Rattle.store_reads.specs.Tells.{Tells};
 
 use job_facts::RecordState;
-use row_laws::{batches_by_name, records_by_name, records_of_batches};
 use row_reads::{RecordAt, batch_id, record_named};
 use sqlite::{Alter, Connection, Error};
 use store_data::Name;
@@ -42,8 +41,8 @@ pub fn record_state<S: Alter>(
     ensures looks { Looks (state S.Store conn.old) (state S.Store conn.new) }
     ensures idle { conn.new.in_transaction ≡ false }
 {
-    batches_by_name();
-    records_by_name();
+    row_laws::batches_by_name();
+    row_laws::records_by_name();
     let Some(id) = batch_id(conn, batch)? else {
         return Ok(None);
     };
@@ -62,8 +61,8 @@ pub fn first_waiting<S: Alter>(
     ensures looks { Looks (state S.Store conn.old) (state S.Store conn.new) }
     ensures idle { conn.new.in_transaction ≡ false }
 {
-    batches_by_name();
-    records_of_batches();
+    row_laws::batches_by_name();
+    row_laws::records_of_batches();
     let Some(id) = batch_id(conn, batch)? else {
         return Ok(None);
     };

@@ -7,7 +7,6 @@ ghost use Rattle.store_reads.specs.Tells.{Tells};
 
 use crate::numbers::END;
 use job_facts::KeptReply;
-use row_laws::replies_by_number;
 use sqlite::{Alter, Connection, Error};
 use store_data::Name;
 
@@ -26,7 +25,7 @@ pub fn kept<S: Alter>(
     if number >= END {
         return Err(Error::InvalidQuery);
     }
-    replies_by_number();
+    row_laws::replies_by_number();
     row_reads::kept(conn, client, number)
 }
 
@@ -38,7 +37,7 @@ pub fn mark<S: Alter>(conn: &mut Connection<S>, client: &Name) -> Result<u64, Er
     ensures looks { Looks (state S.Store conn.old) (state S.Store conn.new) }
     ensures idle { conn.new.in_transaction ≡ false }
 {
-    replies_by_number();
+    row_laws::replies_by_number();
     row_reads::mark(conn, client)
 }
 

@@ -9,7 +9,6 @@ ghost use Rattle.store_reads.specs.Tells.{Tells};
 use crate::lines::lines_told;
 use crate::sums::totals_told;
 use job_facts::{BlankTotals, RecordLine};
-use row_laws::{batches_by_name, blanks_by_rows, lines_by_rows, records_of_batches};
 use row_reads::{batch_id, batches_of, good_sessions, lots_of, records_of};
 use sqlite::{Alter, Connection, Error};
 use store_data::Name;
@@ -23,7 +22,7 @@ fn lines_with<S: Alter>(conn: &mut Connection<S>, id: u64) -> Result<Vec<RecordL
     ensures looks { Looks (state S.Store conn.old) (state S.Store conn.new) }
     ensures idle { conn.new.in_transaction ≡ false }
 {
-    records_of_batches();
+    row_laws::records_of_batches();
     let records = records_of(conn, id)?;
     let good = good_sessions(conn, id)?;
     let alloc = *records.allocator();
@@ -41,8 +40,8 @@ pub fn record_lines<S: Alter>(
     ensures looks { Looks (state S.Store conn.old) (state S.Store conn.new) }
     ensures idle { conn.new.in_transaction ≡ false }
 {
-    batches_by_name();
-    lines_by_rows();
+    row_laws::batches_by_name();
+    row_laws::lines_by_rows();
     // No batch has the id 0: a batch that is not there has no records.
     let id = batch_id(conn, batch)?.unwrap_or(0);
     lines_with(conn, id)
@@ -59,7 +58,7 @@ pub fn blank_totals<S: Alter>(
     ensures looks { Looks (state S.Store conn.old) (state S.Store conn.new) }
     ensures idle { conn.new.in_transaction ≡ false }
 {
-    blanks_by_rows();
+    row_laws::blanks_by_rows();
     let lots = lots_of(conn, product)?;
     let heads = batches_of(conn, product)?;
     totals_told(lots.as_slice(), heads.as_slice())

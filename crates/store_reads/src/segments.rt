@@ -11,7 +11,6 @@ ghost use Rattle.store_reads.specs.Tells.{Tells};
 
 use crate::plans::{rows_told, segment_in};
 use job_facts::SegmentRow;
-use row_laws::{batches_by_name, groupings_by_place, plans_by_rows, records_by_name};
 use row_reads::{batch_told, groupings_of, record_named};
 use sqlite::{Alter, Connection, Error};
 use store_data::{Name, Product, Row};
@@ -45,7 +44,7 @@ fn product_in<S: Alter>(
     ensures looks { Looks (state S.Store conn.old) (state S.Store conn.new) }
     ensures idle { conn.new.in_transaction ≡ false }
 {
-    batches_by_name();
+    row_laws::batches_by_name();
     let Some(told) = batch_told(conn, batch)? else {
         return Ok(None);
     };
@@ -67,8 +66,8 @@ fn rows_in<S: Alter>(
     ensures looks { Looks (state S.Store conn.old) (state S.Store conn.new) }
     ensures idle { conn.new.in_transaction ≡ false }
 {
-    records_by_name();
-    groupings_by_place();
+    row_laws::records_by_name();
+    row_laws::groupings_by_place();
     let Some(found) = record_named(conn, id, rec)? else {
         return Ok(None);
     };
@@ -93,7 +92,7 @@ pub fn segment<S: Alter>(
     ensures looks { Looks (state S.Store conn.old) (state S.Store conn.new) }
     ensures idle { conn.new.in_transaction ≡ false }
 {
-    plans_by_rows();
+    row_laws::plans_by_rows();
     let Some(found) = product_in(conn, batch)? else {
         return Ok(None);
     };

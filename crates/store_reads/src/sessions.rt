@@ -10,7 +10,6 @@ ghost use Rattle.store_reads.specs.Tells.{Tells};
 
 use crate::numbers::END;
 use job_facts::SessionRow;
-use row_laws::{batches_by_id, records_by_place, running_sessions_by_machine, sessions_by_number};
 use row_reads::{batch_name, record_at};
 use sqlite::{Alter, Connection, Error};
 use store_data::Name;
@@ -31,9 +30,9 @@ pub fn session<S: Alter>(
     if session >= END {
         return Err(Error::InvalidQuery);
     }
-    sessions_by_number();
-    batches_by_id();
-    records_by_place();
+    row_laws::sessions_by_number();
+    row_laws::batches_by_id();
+    row_laws::records_by_place();
     let Some(found) = row_reads::session(conn, session)? else {
         return Ok(None);
     };
@@ -64,6 +63,6 @@ pub fn running_session<S: Alter>(
     ensures looks { Looks (state S.Store conn.old) (state S.Store conn.new) }
     ensures idle { conn.new.in_transaction ≡ false }
 {
-    running_sessions_by_machine();
+    row_laws::running_sessions_by_machine();
     row_reads::running_session(conn, machine)
 }

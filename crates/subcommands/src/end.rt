@@ -8,8 +8,8 @@ use arguments::WordsFault;
 use batch_import::RowFault;
 use drill::DrillStop;
 use feeding::FeedStop;
-use job_facts::{Refusal, StoreFault};
-use over_tables::FileFault;
+use job_facts::{NUMBER_RELEASED, Refusal, StoreFault};
+use over_tables::{DAMAGED, FileFault, NOT_OURS};
 use plan_print::PlanStop;
 use reports::AccountFault;
 use server::ServeStop;
@@ -239,14 +239,17 @@ pub fn exit_of(end: End) -> Exit
         }
         End::TooLarge => (1, Some(Told::Refused { number: 413 })),
         End::BadLine(line) => (1, Some(Told::BadLine { line })),
-        End::NotOurs => (1, Some(Told::Refused { number: 81 })),
-        End::Damaged => (1, Some(Told::Refused { number: 82 })),
+        End::NotOurs => (1, Some(Told::Refused { number: NOT_OURS })),
+        End::Damaged => (1, Some(Told::Refused { number: DAMAGED })),
         End::NotReported(why) => {
             let number = u16::from(why.code());
             (1, Some(Told::Refused { number }))
         }
         End::BadCard => (1, Some(Told::Refused { number: 400 })),
-        End::Released => (1, Some(Told::Refused { number: 73 })),
+        End::Released => {
+            let number = u16::from(NUMBER_RELEASED);
+            (1, Some(Told::Refused { number }))
+        }
         End::Storage => (3, Some(Told::Storage)),
         End::NoReply | End::PortFailed | End::ReadFailed | End::WriteFailed => {
             (3, Some(Told::Device))

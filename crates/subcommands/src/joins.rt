@@ -9,7 +9,7 @@ use crate::end::End;
 use arguments::{Words, WordsFault};
 use event_lines::{EventLine, EventLog, Level, level_of};
 use job_facts::StoreFault;
-use over_tables::{FileFault, Wanted};
+use over_tables::{DAMAGED, FileFault, NOT_OURS, Wanted};
 use std::alloc::{AllocError, Global};
 use std::env::VarError;
 use std::io::Write;
@@ -83,11 +83,11 @@ pub fn note_refusal<E: Write + Drop>(
 {
     match fault {
         FileFault::NotOurs { cause } => {
-            let line = refusal_line(alloc, 81, cause.word(), cause.name(), path);
+            let line = refusal_line(alloc, NOT_OURS, cause.word(), cause.name(), path);
             events.note(line);
         }
         FileFault::Damaged { cause } => {
-            events.note(refusal_line(alloc, 82, cause.word(), None, path));
+            events.note(refusal_line(alloc, DAMAGED, cause.word(), None, path));
         }
         FileFault::Storage | FileFault::Memory => (),
     }
@@ -95,7 +95,7 @@ pub fn note_refusal<E: Write + Drop>(
 
 fn refusal_line(
     alloc: Global,
-    code: u64,
+    code: u16,
     cause: &str,
     table: Option<&[u8]>,
     path: &[u8],
@@ -104,7 +104,7 @@ fn refusal_line(
         ≡ refusal_line code cause.now (option_map (λ name. name.now) table.entry) path.now) }
 {
     let line = EventLine::new(alloc, "refused")?
-        .number("code", code)?
+        .number("code", u64::from(code))?
         .word("cause", cause)?;
     with_table(line, table)?.quoted("db", path)
 }

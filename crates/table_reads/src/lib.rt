@@ -2,7 +2,7 @@
 #![tactic(auto)]
 
 mod cards;
-mod laws;
+pub mod laws;
 mod names;
 mod reads;
 mod rowids;
@@ -11,10 +11,6 @@ mod tables;
 mod values;
 mod version;
 
-pub use laws::{
-    held_rows_are_one, our_rows_are_an_image, our_tables_are_found, rows_are_held_in_any_order,
-    sound_rows_fit,
-};
 pub use reads::whole;
 pub use rowids::has_apart_rowids;
 pub use stored::Stored;

@@ -10,7 +10,7 @@ ghost use Rattle.sql_rows.specs.Image.{told};
 ghost use Rattle.table_reads.specs.Whole.{IsWhole, NoneStandSo, as_stored};
 
 use crate::stored::{Stored, all_in};
-use sql_base::rows_of;
+use sql_base::{laws, rows_of};
 use sqlite::{Alter, Connection, Error, Row};
 
 // The rows that a text shows. Where it asks for a table whole, they are just those of the table.
@@ -27,7 +27,7 @@ pub(crate) fn whole_rows<S: Alter>(conn: &mut Connection<S>, sql: &str) -> Resul
     ensures idle { conn.new.in_transaction ≡ false }
     ensures survives { Survives (state S.Store conn.old) (state S.Store conn.new) (λ _. ⊥) }
 {
-    let _live = conn.schema();
+    laws::is_live(conn);
     rows_of(conn, sql, &[])
 }
 

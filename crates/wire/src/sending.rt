@@ -12,7 +12,7 @@ use http_requests::{import_text, job_text};
 use job_facts::{Call, Lot, Request};
 use serde_json::{Value, json};
 use std::alloc::{AllocError, Global};
-use store_data::{Bytes, Name, Product};
+use store_data::{Bytes, Name, Product, laws};
 
 /// The message that asks for a call under a client's number, head and body. The number is 1 to 999,999,999,999,999,999. It
 /// fails only where memory is refused.
@@ -174,6 +174,6 @@ fn text(name: &Name) -> &str
     ensures text { result.now ≡ name.now }
     ensures name { IsName name.now }
 {
-    let _ = name.bytes();
+    laws::is_a_name(name);
     name_text(name)
 }

@@ -16,7 +16,7 @@ use super::{Decision, refused};
 use batch_import::{ImportFault, check_batch};
 use job_facts::{BatchRow, BatchSize, Change, JobStore, Lot, Made, Refusal, Reply, StoreFault};
 use std::alloc::Global;
-use store_data::{Name, Product};
+use store_data::{Name, Product, laws};
 
 /// The most products (this project's profile).
 const MOST_PRODUCTS: u64 = 256;
@@ -58,7 +58,7 @@ fn product_by(
         → Decides f client.now (request.Product product.now) result.0 result.1 }
 {
     let code = product.code;
-    let _is_name = code.bytes();
+    laws::is_a_name(&code);
     match kept {
         Some(kept) if same_product(&kept, product) => {
             let made = Made::Known;
@@ -146,7 +146,7 @@ fn new_lot(lot: &Lot, product: Option<Product>, overlaps: bool, lots: u64) -> De
         → Makes f (new_lot f lot.now) result.0 result.1 }
 {
     let name = lot.name;
-    let _is_name = name.bytes();
+    laws::is_a_name(&name);
     match product {
         None => refused(Refusal::ProductUnknown),
         Some(_) if overlaps => refused(Refusal::SerialsOverlap),
@@ -278,7 +278,7 @@ fn taken_in<'a>(
         answer.0 answer.1) }
     ensures cause { IfErr result (λ fault. fault ≡ Memory) }
 {
-    let _is_name = batch.bytes();
+    laws::is_a_name(batch);
     let (batch, product) = (*batch, *product);
     match check_batch(alloc, raw, under) {
         Ok(totals) => Ok((

@@ -27,7 +27,7 @@ use job_facts::{
     StoreFault,
 };
 use std::alloc::Global;
-use store_data::{Bytes, Class, Cursor, Name, class};
+use store_data::{Bytes, Class, Cursor, Name, class, laws};
 
 /// The decision on giving up a session.
 pub(crate) fn abort<S: JobStore>(
@@ -198,7 +198,7 @@ fn opened(
         → plan_for f batch.now rec ≡ Some plan → command ≡ slice_get (sequence plan) 0
         → Makes f (opened f client.now batch.now blank rec) result.0 result.1 }
 {
-    let _is_name = client.bytes();
+    laws::is_a_name(client);
     let (batch, machine) = (*batch, *client);
     let command = bytes_or_none(alloc, command);
     let reply = Reply::Opened {

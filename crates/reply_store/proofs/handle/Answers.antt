@@ -38,7 +38,7 @@ returns-clause-handled g c =
     let stays = Stays-then (state c.args.store.now) (state c.kept.new.self) (state c.decide_call.new.store) read c.decide_call.ensures.stays in
     let none : c.in_ok-kept.field-0 ≡ None = search rules in
     handles_decided (state c.args.store.now) (state c.decide_call.new.store) (state c.settle.new.store) a c.in_ok-reply.reply c.in_ok-reply.effect
-    (record { client = c.bytes.ensures.name; least = c.requires.least; most = c.requires.most })
+    (record { client = c.is_a_name.ensures; least = c.requires.least; most = c.requires.most })
     stays
     (λ h k held.
     let then : IsHonest (state c.kept.new.self) = omega (arith, c.decide_call.ensures.stays.doubts, h) in

@@ -2,7 +2,7 @@ use Rattle.std.proofs.Common.{◌≡◌, OnOk, OnErr, subst, rules, arith}
 use Rattle.sqlite.specs.State.{HasCleanDisk, Survives}
 use Rattle.sqlite.specs.Held.{state}
 use Rattle.sql_base.specs.Ends.{Ends, IsKept, IsLeft}
-use Rattle.sql_base.proofs.Ending.{crash_of, ok_of, err_of, dropped, crash_undone, settled_if}
+use Rattle.sql_base.proofs.Ending.{crash_of, ok_of, err_of, dropped, crash_undone}
 use Rattle.remaking.specs.Remakes.{Remakes}
 use Rattle.remaking.proofs.remaking.remake.Goals as goal
 
@@ -27,7 +27,7 @@ returns-clause-err g c clean =
     let same : end ≡ c.conn-2-1.given.0 = search rules in
     let late : HasCleanDisk (state g.S.Store end) = search rules in
     let wrote = rw c.transaction-tx.ensures.begun at (c.in_ok-write_anew.ensures.wrote (omega (arith, c.commit.ensures.survives.clean))) in
-    let settled = settled_if c.is_autocommit-settled.result old.in_transaction _ c.is_autocommit-settled.ensures.value c.requires.idle c.is_autocommit-settled.ensures.settled in
+    let settled = c.is_committed.ensures in
     subst (λ h. OnErr c.commit.result (IsKept (state g.S.Store old) (state g.S.Store h))) same
     (err_of g.S.Store g.met.S.Store.settled taken old mid end c.commit.result settled wrote.well wrote.kept (c.commit.ensures.err late))
 
@@ -50,7 +50,7 @@ returns-in_err-write_anew-clause-err g c clean =
     let same : end ≡ c.conn-1.given.0 = search rules in
     let late : HasCleanDisk (state g.S.Store end) = search rules in
     let wrote = rw c.transaction-tx.ensures.begun at (c.in_err-write_anew.ensures.wrote (omega (arith, c.drop-tx.ensures.survives.clean))) in
-    let settled = settled_if c.is_autocommit-settled.result old.in_transaction _ c.is_autocommit-settled.ensures.value c.requires.idle c.is_autocommit-settled.ensures.settled in
+    let settled = c.is_committed.ensures in
     subst (λ h. OnErr c.from_residual.result (IsKept (state g.S.Store old) (state g.S.Store h))) same
     (dropped g.S.Store g.met.S.Store.settled taken old mid end c.from_residual.result settled wrote.kept (c.drop-tx.ensures.undone late))
 

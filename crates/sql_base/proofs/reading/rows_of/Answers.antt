@@ -5,7 +5,7 @@ use Rattle.sqlite.specs.declared.error.Error.TheVariants.{InvalidQuery}
 use Rattle.sqlite.specs.Held.{state}
 use Rattle.sqlite.specs.Values.{bound}
 use Rattle.sql_base.specs.Ends.{IsKept}
-use Rattle.sql_base.proofs.Ending.{dropped, settled_if}
+use Rattle.sql_base.proofs.Ending.{dropped}
 use Rattle.sql_base.proofs.Selecting.{if_ok}
 use Rattle.sql_base.proofs.Querying.{queried_keeps}
 use Rattle.sql_base.proofs.reading.rows_of.Goals as goal
@@ -30,7 +30,7 @@ returns-clause-kept g c clean =
     let ok = rw c.transaction-tx.ensures.begun at (c.query_all.ensures.ok early) in
     let err = rw c.transaction-tx.ensures.begun at (c.query_all.ensures.err early) in
     let keeps = queried_keeps (state g.S.Store (record old { in_transaction = true })) (state g.S.Store mid) refl c.args.sql.now (bound c.args.params.now) c.query_all.result ok err in
-    let settled = settled_if c.is_autocommit-settled.result old.in_transaction _ c.is_autocommit-settled.ensures.value c.requires c.is_autocommit-settled.ensures.settled in
+    let settled = c.is_committed.ensures in
     let none : Rattle.std.proofs.Common.Result (Unit {0}) Error = Err InvalidQuery in
     subst (λ h. IsKept (state g.S.Store old) (state g.S.Store h)) same
     (dropped g.S.Store g.met.S.Store.settled (λ a b. a ≡ b) old mid end none settled keeps (c.drop-tx.ensures.undone late))

@@ -11,5 +11,5 @@ returns-clause-told g c clean =
     if_ok c.rows_of.result _ _ (λ rows h.
     let end = state g.S.Store h.0 in
     let live = shown_open begun end _ _ rows.items h.1 in
-    (live, λ table by_rowid whole tree finds. exact c.args.sql.now table by_rowid whole begun end rows.items h.1 (c.schema-live.ensures.live live).0 tree finds))
+    (live, λ table by_rowid whole tree finds. exact c.args.sql.now table by_rowid whole begun end rows.items h.1 (c.is_live.ensures live).0 tree finds))
     (c.rows_of.ensures.shown clean)

@@ -12,7 +12,7 @@ returns-in-Some-3 c = λ f sound new product overlaps lots.
       step_is = rw (there, apart, lt-leb 4096 (length f.lots) few) refl;
       keeps = record {
         before = tt;
-        sound = sound_lot f c.args.lot.now _ sound new there apart few c.bytes-is_name.ensures.name c.requires.least c.requires.most c.requires.range;
+        sound = sound_lot f c.args.lot.now _ sound new there apart few c.is_a_name.ensures c.requires.least c.requires.most c.requires.range;
         after = tt;
       };
     }

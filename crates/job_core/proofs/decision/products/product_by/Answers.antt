@@ -11,5 +11,5 @@ returns-in-None-2 c = λ f sound kept products.
     let few : length f.products < 256 = omega (arith, products, c.if-products-ge-MOST_PRODUCTS.false) in
     record {
       step_is = rw (new, lt-leb 256 (length f.products) few) refl;
-      keeps = record { before = tt; sound = sound_product f c.args.product.now sound new few c.requires c.bytes-is_name.ensures.name; after = tt };
+      keeps = record { before = tt; sound = sound_product f c.args.product.now sound new few c.requires c.is_a_name.ensures; after = tt };
     }

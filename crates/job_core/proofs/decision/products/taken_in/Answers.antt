@@ -9,7 +9,7 @@ returns-in-Ok-clause-value c = λ f sound new there few.
       step_is = rw (totals.1, totals.3, totals.4) refl;
       keeps = record {
         before = tt;
-        sound = sound_batch f _ c.args.under.now totals.0 sound new there totals.1 totals.2 few c.bytes-is_name.ensures.name;
+        sound = sound_batch f _ c.args.under.now totals.0 sound new there totals.1 totals.2 few c.is_a_name.ensures;
         after = tt;
       };
     }

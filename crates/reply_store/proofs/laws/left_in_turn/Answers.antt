@@ -1,5 +1,5 @@
 use Rattle.reply_store.proofs.Running.{leaves_more, leaves_none, leaves_stays}
-use Rattle.reply_store.proofs.left_in_turn.Goals as goal
+use Rattle.reply_store.proofs.laws.left_in_turn.Goals as goal
 
 pub returns : goal.returns
 returns g c =
