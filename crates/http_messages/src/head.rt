@@ -11,7 +11,7 @@ ghost use Rattle.http_messages.specs.HeadTests.{IsRead, parts, found_of, one_mor
 use crate::fixed::FixedReply;
 use httparse::Status;
 use httparse::spans::{EMPTY_HEADER_SPAN, HeaderSpan, RequestSpans, parse_request};
-use text_io::MOST_INPUT;
+use text_io::{MOST_INPUT, are_digits};
 
 /// The most bytes of a body.
 const MOST_BODY: usize = MOST_INPUT as usize;
