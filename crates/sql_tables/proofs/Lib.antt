@@ -3,4 +3,4 @@ pub mod Lookups
 pub mod Standing
 pub mod Defined
 pub mod Growing
-pub mod Version
+pub mod VersionRow

@@ -1,7 +1,7 @@
 use Rattle.sql_base.proofs.Ending.{wrote}
 use Rattle.sql_tables.specs.Opening.{AddsVersion}
 use Rattle.sql_tables.specs.Texts.{add_version_text}
-use Rattle.sql_tables.proofs.Version.{adds_version}
+use Rattle.sql_tables.proofs.VersionRow.{adds_version}
 use Rattle.sql_tables.proofs.opening.add_version.Goals as goal
 
 pub returns-clause-made : goal.returns-clause-made
