@@ -1,81 +1,110 @@
--- Each text defines its table or its index, where those before it are made.
-use Rattle.std.proofs.Common.{◌≡◌, refl}
-use Rattle.sqlite.specs.Change.{indexed}
+-- The texts of each version define its tables and its indices.
+use Rattle.std.proofs.Common.{◌≡◌, ◌≢◌, List, [], ◌∷◌, refl, subst}
+use Rattle.std.specs.Prelude.{fold}
+use Rattle.sqlite.specs.Change.{created}
+use Rattle.sqlite.specs.Effect.{Database}
 use Rattle.sqlite.specs.Listing.{understood}
+use Rattle.sqlite.specs.Schema.{Schema}
 use Rattle.sqlite_tied.specs.Compute.{everything}
 use Rattle.sql_base.specs.Columns.{no_schema}
-use Rattle.sql_base.specs.Making.{Defines, DefinesIndex}
-use Rattle.sql_tables.specs.Opening.{with_running, with_version, with_product, with_lot, with_batch, with_record, with_grouping, with_session, with_word, with_blank, with_remake, with_reply, with_mark, with_place, with_stands, with_told}
-use Rattle.sql_tables.specs.Tables.{batch_named_at, batch_table, batch_told_at, grouping_place_at, grouping_table, our_schema, session_running_at, session_stands_at, session_table, version_at, product_at, lot_at, batch_at, record_at, grouping_at, session_at, word_at, blank_at, remake_at, reply_at, mark_at}
-use Rattle.sql_tables.specs.Texts.{version_text, product_text, lot_text, batch_text, record_text, grouping_text, session_text, word_text, blank_text, remake_text, reply_text, mark_text, session_running_text, grouping_place_text, session_stands_text, batch_told_text, batch_named_text}
+use Rattle.sql_tables.specs.Each.{Each}
+use Rattle.sql_tables.specs.Opening.{IsEmptyAt, Makes, MakesVersion}
+use Rattle.sql_tables.specs.Tables.{batch_named_at, batch_table, batch_told_at, grouping_place_at, grouping_table, mark_at, our_schema, session_running_at, session_stands_at, session_table}
+use Rattle.sql_tables.specs.Texts.{earlier_texts, mark_text, our_index_texts, our_table_texts, texts_of, version_one_text, version_two_text}
+use Rattle.sql_tables.specs.Versions.{earlier_tables, numbered_version_at, tables_in}
+use Rattle.sql_tables.specs.declared.versions.Version.{Version}
+use Rattle.sql_tables.specs.declared.versions.Version.TheVariants.{One, Three, Two}
+use Rattle.sql_tables.proofs.Each.{parts}
+use Rattle.sql_tables.proofs.Growing.{AreDefined, AreIndexed, Keyed, all_grow, all_indexed, more_defined, with_index}
 
-pub version_defined : Defines version_text no_schema (version_at 0)
+-- ---- versions 1 and 2
+
+earlier_defined : AreDefined no_schema earlier_texts earlier_tables
 unfolding understood everything
-version_defined = record { command = refl; text = refl; plain = (refl, refl); table_is = refl; uncounted = refl }
+earlier_defined = (
+  ((refl, refl), refl),
+  (
+    ((refl, refl), refl),
+    (
+      ((refl, refl), refl),
+      (
+        ((refl, refl), refl),
+        (
+          ((refl, refl), refl),
+          (((refl, refl), refl), (((refl, refl), refl), (((refl, refl), refl), (((refl, refl), refl), (((refl, refl), refl), tt))))),
+        ),
+      ),
+    ),
+  ),
+)
 
-pub product_defined : Defines product_text with_version (product_at 0)
+one_defined : AreDefined no_schema (texts_of One) (tables_in One)
 unfolding understood everything
-product_defined = record { command = refl; text = refl; plain = (refl, refl); table_is = refl; uncounted = refl }
+one_defined = more_defined earlier_texts (version_one_text ∷ []) earlier_tables (numbered_version_at 1 0 ∷ []) no_schema earlier_defined (((refl, refl), refl), tt)
 
-pub lot_defined : Defines lot_text with_product (lot_at 0)
+two_defined : AreDefined no_schema (texts_of Two) (tables_in Two)
 unfolding understood everything
-lot_defined = record { command = refl; text = refl; plain = (refl, refl); table_is = refl; uncounted = refl }
+two_defined =
+    more_defined earlier_texts (mark_text ∷ version_two_text ∷ []) earlier_tables (mark_at 0 ∷ numbered_version_at 2 0 ∷ []) no_schema earlier_defined
+    (((refl, refl), refl), (((refl, refl), refl), tt))
 
-pub batch_defined : Defines batch_text with_lot (batch_at 0)
+-- ---- our own
+
+abbrev our_indices : List Keyed
+our_indices =
+    record { at = 6; table = session_table; index = session_running_at 0 }
+    ∷ record { at = 5; table = grouping_table; index = grouping_place_at 0 }
+    ∷ record { at = 6; table = session_table; index = session_stands_at 0 }
+    ∷ record { at = 3; table = batch_table; index = batch_told_at 0 }
+    ∷ record { at = 3; table = batch_table; index = batch_named_at 0 }
+    ∷ []
+
+abbrev with_tables : Schema
+with_tables = fold created no_schema (tables_in Three)
+
+tables_defined : AreDefined no_schema our_table_texts (tables_in Three)
 unfolding understood everything
-batch_defined = record { command = refl; text = refl; plain = (refl, refl); table_is = refl; uncounted = refl }
+tables_defined = (
+  ((refl, refl), refl),
+  (
+    ((refl, refl), refl),
+    (
+      ((refl, refl), refl),
+      (
+        ((refl, refl), refl),
+        (
+          ((refl, refl), refl),
+          (
+            ((refl, refl), refl),
+            (((refl, refl), refl), (((refl, refl), refl), (((refl, refl), refl), (((refl, refl), refl), (((refl, refl), refl), (((refl, refl), refl), tt)))))),
+          ),
+        ),
+      ),
+    ),
+  ),
+)
 
-pub record_defined : Defines record_text with_batch (record_at 0)
+indices_defined : AreIndexed with_tables our_index_texts our_indices
 unfolding understood everything
-record_defined = record { command = refl; text = refl; plain = (refl, refl); table_is = refl; uncounted = refl }
+indices_defined = (((refl, refl), refl), (((refl, refl), refl), (((refl, refl), refl), (((refl, refl), refl), (((refl, refl), refl), tt)))))
 
-pub grouping_defined : Defines grouping_text with_record (grouping_at 0)
-unfolding understood everything
-grouping_defined = record { command = refl; text = refl; plain = (refl, refl); table_is = refl; uncounted = refl }
-
-pub session_defined : Defines session_text with_grouping (session_at 0)
-unfolding understood everything
-session_defined = record { command = refl; text = refl; plain = (refl, refl); table_is = refl; uncounted = refl }
-
-pub word_defined : Defines word_text with_session (word_at 0)
-unfolding understood everything
-word_defined = record { command = refl; text = refl; plain = (refl, refl); table_is = refl; uncounted = refl }
-
-pub blank_defined : Defines blank_text with_word (blank_at 0)
-unfolding understood everything
-blank_defined = record { command = refl; text = refl; plain = (refl, refl); table_is = refl; uncounted = refl }
-
-pub remake_defined : Defines remake_text with_blank (remake_at 0)
-unfolding understood everything
-remake_defined = record { command = refl; text = refl; plain = (refl, refl); table_is = refl; uncounted = refl }
-
-pub reply_defined : Defines reply_text with_remake (reply_at 0)
-unfolding understood everything
-reply_defined = record { command = refl; text = refl; plain = (refl, refl); table_is = refl; uncounted = refl }
-
-pub mark_defined : Defines mark_text with_reply (mark_at 0)
-unfolding understood everything
-mark_defined = record { command = refl; text = refl; plain = (refl, refl); table_is = refl; uncounted = refl }
-
-pub running_defined : DefinesIndex session_running_text with_mark 6 session_table (session_running_at 0)
-unfolding understood everything
-running_defined = record { command = refl; text = refl; plain = (refl, refl); listed = refl; index_is = refl }
-
-pub place_defined : DefinesIndex grouping_place_text with_running 5 grouping_table (grouping_place_at 0)
-unfolding understood everything
-place_defined = record { command = refl; text = refl; plain = (refl, refl); listed = refl; index_is = refl }
-
-pub stands_defined : DefinesIndex session_stands_text with_place 6 session_table (session_stands_at 0)
-unfolding understood everything
-stands_defined = record { command = refl; text = refl; plain = (refl, refl); listed = refl; index_is = refl }
-
-pub told_defined : DefinesIndex batch_told_text with_stands 3 batch_table (batch_told_at 0)
-unfolding understood everything
-told_defined = record { command = refl; text = refl; plain = (refl, refl); listed = refl; index_is = refl }
-
-pub named_defined : DefinesIndex batch_named_text with_told 3 batch_table (batch_named_at 0)
-unfolding understood everything
-named_defined = record { command = refl; text = refl; plain = (refl, refl); listed = refl; index_is = refl }
-
-pub all_made : indexed with_told batch_table (batch_named_at 0) ≡ our_schema
+all_made : fold with_index with_tables our_indices ≡ our_schema
 all_made = refl
+
+-- ---- what they make
+
+nothing : (db : Database) → db.schema ≡ no_schema → IsEmptyAt no_schema db
+nothing db none = record { schema_is = none; empty = tt }
+
+pub version_made : (v : Version) (old new : Database) → Each Makes (texts_of v) old new → MakesVersion v old new
+version_made One old new made none = all_grow (texts_of One) (tables_in One) no_schema old new one_defined made (nothing old none)
+version_made Two old new made none = all_grow (texts_of Two) (tables_in Two) no_schema old new two_defined made (nothing old none)
+version_made Three old new made none =
+    let two = parts Makes our_table_texts our_index_texts old new made in
+    let tables = all_grow our_table_texts (tables_in Three) no_schema old two.mid tables_defined two.first (nothing old none) in
+    subst (λ s. IsEmptyAt s new) all_made (all_indexed our_index_texts our_indices with_tables two.mid new indices_defined two.rest tables)
+
+pub some_texts : (v : Version) → texts_of v ≢ []
+some_texts One = λ none. cc
+some_texts Two = λ none. cc
+some_texts Three = λ none. cc

@@ -1,6 +1,6 @@
-pub mod EarlierDefined
 pub mod Lookups
 pub mod Standing
-pub mod Defined
+pub mod Each
 pub mod Growing
+pub mod Defined
 pub mod VersionRow

@@ -1,9 +1,9 @@
 pub mod Bare
 pub mod Alike
-pub mod EarlierTexts
+pub mod Texts
+pub mod Tables
 pub mod Versions
 pub mod Finds
 pub mod Ours
-pub mod Texts
-pub mod Tables
+pub mod Each
 pub mod Opening

@@ -1,8 +1,16 @@
--- The texts that make the tables and the indices (SQLite's CREATE TABLE with STRICT, and CREATE INDEX).
-use Rattle.std.specs.Prelude.{List, ℕ, codes}
+-- The texts that make the tables of each version (SQLite's CREATE TABLE with STRICT), those that make our indices, and the INSERT of the version.
+use Rattle.std.specs.Prelude.{List, [], ◌∷◌, ◌++◌, ℕ, codes}
+use Rattle.sql_tables.specs.declared.versions.Version.{Version}
+use Rattle.sql_tables.specs.declared.versions.Version.TheVariants.{One, Two, Three}
 
 abbrev pub version_text : List ℕ
 version_text = codes "CREATE TABLE version (id INTEGER NOT NULL PRIMARY KEY CHECK (id = 1), number INTEGER NOT NULL CHECK (number = 3)) STRICT"
+
+abbrev pub version_two_text : List ℕ
+version_two_text = codes "CREATE TABLE version (id INTEGER NOT NULL PRIMARY KEY CHECK (id = 1), number INTEGER NOT NULL CHECK (number = 2)) STRICT"
+
+abbrev pub version_one_text : List ℕ
+version_one_text = codes "CREATE TABLE version (id INTEGER NOT NULL PRIMARY KEY CHECK (id = 1), number INTEGER NOT NULL CHECK (number = 1)) STRICT"
 
 abbrev pub product_text : List ℕ
 product_text = codes "CREATE TABLE product (name TEXT NOT NULL PRIMARY KEY, max INTEGER NOT NULL CHECK (max BETWEEN 16 AND 255), low INTEGER NOT NULL CHECK (low BETWEEN 0 AND 31), checked INTEGER NOT NULL CHECK (checked BETWEEN 0 AND 1)) STRICT"
@@ -18,6 +26,9 @@ record_text = codes "CREATE TABLE record (batch INTEGER NOT NULL REFERENCES batc
 
 abbrev pub grouping_text : List ℕ
 grouping_text = codes "CREATE TABLE grouping2 (batch INTEGER NOT NULL, line INTEGER NOT NULL, place INTEGER NOT NULL, aid BLOB NOT NULL, rank INTEGER NOT NULL CHECK (rank BETWEEN 1 AND 999), enc INTEGER NOT NULL CHECK (enc BETWEEN 0 AND 2), tol INTEGER NOT NULL CHECK (tol BETWEEN 0 AND 1), coded BLOB NOT NULL, PRIMARY KEY (batch, line), FOREIGN KEY (batch, place) REFERENCES record (batch, place)) STRICT"
+
+abbrev pub unmixed_grouping_text : List ℕ
+unmixed_grouping_text = codes "CREATE TABLE grouping (batch INTEGER NOT NULL, line INTEGER NOT NULL, place INTEGER NOT NULL, aid BLOB NOT NULL, rank INTEGER NOT NULL CHECK (rank BETWEEN 1 AND 999), enc INTEGER NOT NULL CHECK (enc BETWEEN 0 AND 1), tol INTEGER NOT NULL CHECK (tol BETWEEN 0 AND 1), coded BLOB NOT NULL, PRIMARY KEY (batch, line), FOREIGN KEY (batch, place) REFERENCES record (batch, place)) STRICT"
 
 abbrev pub session_text : List ℕ
 session_text = codes "CREATE TABLE session (id INTEGER NOT NULL PRIMARY KEY, machine TEXT NOT NULL, batch INTEGER NOT NULL, place INTEGER NOT NULL, serial INTEGER NOT NULL UNIQUE, state INTEGER NOT NULL CHECK (state BETWEEN 0 AND 2), ended INTEGER NOT NULL CHECK (ended BETWEEN 0 AND 1), words INTEGER NOT NULL, app INTEGER NOT NULL, segment INTEGER NOT NULL, at_offset INTEGER NOT NULL, block INTEGER NOT NULL, FOREIGN KEY (batch, place) REFERENCES record (batch, place)) STRICT"
@@ -54,3 +65,19 @@ batch_named_text = codes "CREATE INDEX batch_named ON batch (id, name)"
 
 abbrev pub add_version_text : List ℕ
 add_version_text = codes "INSERT INTO version (id, number) VALUES (1, 3)"
+
+-- the tables that versions 1 and 2 share
+abbrev pub earlier_texts : List (List ℕ)
+earlier_texts = product_text ∷ lot_text ∷ batch_text ∷ record_text ∷ session_text ∷ word_text ∷ blank_text ∷ remake_text ∷ reply_text ∷ unmixed_grouping_text ∷ []
+
+abbrev pub our_table_texts : List (List ℕ)
+our_table_texts = version_text ∷ product_text ∷ lot_text ∷ batch_text ∷ record_text ∷ grouping_text ∷ session_text ∷ word_text ∷ blank_text ∷ remake_text ∷ reply_text ∷ mark_text ∷ []
+
+abbrev pub our_index_texts : List (List ℕ)
+our_index_texts = session_running_text ∷ grouping_place_text ∷ session_stands_text ∷ batch_told_text ∷ batch_named_text ∷ []
+
+-- all that makes a version, each table after those that it refers to
+abbrev pub texts_of : Version → List (List ℕ)
+texts_of One = earlier_texts ++ version_one_text ∷ []
+texts_of Two = earlier_texts ++ mark_text ∷ version_two_text ∷ []
+texts_of Three = our_table_texts ++ our_index_texts

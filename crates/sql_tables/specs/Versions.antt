@@ -1,5 +1,5 @@
 -- The tables of each version: those of versions 1 and 2 know two marks of encipherment, and version 1 has no released numbers.
-use Rattle.std.specs.Prelude.{ℕ, [], ◌∷◌, ◌≡◌, codes, pos}
+use Rattle.std.specs.Prelude.{ℕ, List, [], ◌∷◌, ◌++◌, codes, fold, pos}
 use Rattle.sqlite.specs.Change.{created}
 use Rattle.sqlite.specs.Schema.{Schema}
 use Rattle.sqlite.specs.Table.{Table}
@@ -17,49 +17,19 @@ numbered_version_at number tree = record (version_at tree) { checks = is_equal (
 abbrev pub unmixed_grouping_at : ℕ → Table
 unmixed_grouping_at tree = record (grouping_at tree) { name = codes "grouping"; checks = between 5 1 999 ∷ between 6 0 1 ∷ between 7 0 1 ∷ [] }
 
--- ---- what all versions have
+-- what versions 1 and 2 share
+abbrev pub earlier_tables : List Table
+earlier_tables = product_at 0 ∷ lot_at 0 ∷ batch_at 0 ∷ record_at 0 ∷ session_at 0 ∷ word_at 0 ∷ blank_at 0 ∷ remake_at 0 ∷ reply_at 0 ∷ unmixed_grouping_at 0 ∷ []
 
-abbrev pub with_product : Schema
-with_product = created no_schema (product_at 0)
+-- the tables of a version in the order in which they are made. Each gets its number then
+abbrev pub tables_in : Version → List Table
+tables_in One = earlier_tables ++ numbered_version_at 1 0 ∷ []
+tables_in Two = earlier_tables ++ mark_at 0 ∷ numbered_version_at 2 0 ∷ []
+tables_in Three = version_at 0 ∷ product_at 0 ∷ lot_at 0 ∷ batch_at 0 ∷ record_at 0 ∷ grouping_at 0 ∷ session_at 0 ∷ word_at 0 ∷ blank_at 0 ∷ remake_at 0 ∷ reply_at 0 ∷ mark_at 0 ∷ []
 
-abbrev pub with_lot : Schema
-with_lot = created with_product (lot_at 0)
-
-abbrev pub with_batch : Schema
-with_batch = created with_lot (batch_at 0)
-
-abbrev pub with_record : Schema
-with_record = created with_batch (record_at 0)
-
-abbrev pub with_session : Schema
-with_session = created with_record (session_at 0)
-
-abbrev pub with_word : Schema
-with_word = created with_session (word_at 0)
-
-abbrev pub with_blank : Schema
-with_blank = created with_word (blank_at 0)
-
-abbrev pub with_remake : Schema
-with_remake = created with_blank (remake_at 0)
-
-abbrev pub with_reply : Schema
-with_reply = created with_remake (reply_at 0)
-
--- ---- what versions 1 and 2 have
-
-abbrev pub with_grouping : Schema
-with_grouping = created with_reply (unmixed_grouping_at 0)
-
-abbrev pub with_mark : Schema
-with_mark = created with_grouping (mark_at 0)
-
--- the order of the tables, and their numbers, are of no matter
+-- what they make in an empty database, which for our own, with their indices, is written out. The order of the tables, and their
+-- numbers, are of no matter
 abbrev pub schema_of : Version → Schema
-schema_of One = created with_grouping (numbered_version_at 1 0)
-schema_of Two = created with_mark (numbered_version_at 2 0)
+schema_of One = fold created no_schema (tables_in One)
+schema_of Two = fold created no_schema (tables_in Two)
 schema_of Three = our_schema
-
--- where the one stood, the other stands
-abbrev pub Becomes : Schema → Schema → Schema → Schema → Type 0
-Becomes first last old new = old ≡ first → new ≡ last

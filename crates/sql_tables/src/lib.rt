@@ -7,9 +7,10 @@ mod opening;
 mod parts;
 mod same;
 mod terms;
+mod texts;
 mod versions;
 
 pub use alike::has_just;
-pub use opening::{CreateFault, create, has_our_tables, make_all, our_tables};
+pub use opening::{has_our_tables, make_all, make_tables};
 pub use parts::are_same_but_tree;
 pub use versions::{Version, tables_of, version_in};
