@@ -61,31 +61,23 @@ fn same_op(a: &[Op], depth: usize, op: &Op, b: &[Op], other_depth: usize, by: &O
     ensures { IsTrue result
         ↔ (op_term (term_to a.now depth) op.now ≡ op_term (term_to b.now other_depth) by.now) }
 {
-    match op {
-        Op::Literal(v) => match by {
-            Op::Literal(w) => is_same(lend_value(v), lend_value(w)),
-            _ => false,
-        },
-        Op::Column(s, p) => match by {
-            Op::Column(t, q) => *s == *t && *p == *q,
-            _ => false,
-        },
-        Op::Unary(op, x) => match by {
-            Op::Unary(by, u) => same_unary(*op, *by) && same_at(a, depth, *x, b, other_depth, *u),
-            _ => false,
-        },
-        Op::Binary(op, x, y) => match by {
-            Op::Binary(by, u, v) => same_binary(*op, *by)
+    match (op, by) {
+        (Op::Literal(v), Op::Literal(w)) => is_same(lend_value(v), lend_value(w)),
+        (Op::Column(s, p), Op::Column(t, q)) => *s == *t && *p == *q,
+        (Op::Unary(op, x), Op::Unary(by, u)) => {
+            same_unary(*op, *by) && same_at(a, depth, *x, b, other_depth, *u)
+        }
+        (Op::Binary(op, x, y), Op::Binary(by, u, v)) => {
+            same_binary(*op, *by)
                 && same_at(a, depth, *x, b, other_depth, *u)
-                && same_at(a, depth, *y, b, other_depth, *v),
-            _ => false,
-        },
-        Op::Case(t, x, y) => match by {
-            Op::Case(s, u, v) => same_at(a, depth, *t, b, other_depth, *s)
+                && same_at(a, depth, *y, b, other_depth, *v)
+        }
+        (Op::Case(t, x, y), Op::Case(s, u, v)) => {
+            same_at(a, depth, *t, b, other_depth, *s)
                 && same_at(a, depth, *x, b, other_depth, *u)
-                && same_at(a, depth, *y, b, other_depth, *v),
-            _ => false,
-        },
+                && same_at(a, depth, *y, b, other_depth, *v)
+        }
+        _ => false,
     }
 }
 

@@ -1,4 +1,4 @@
-use Rattle.std.proofs.Common.{◌≡◌, Result, Ok, Err, OnOk, subst, rules}
+use Rattle.std.proofs.Common.{Result, Ok, Err, OnOk, rules}
 use Rattle.sqlite.specs.Effect.{Database}
 use Rattle.sqlite.specs.Held.{state}
 use Rattle.sqlite.specs.State.{State}
@@ -18,8 +18,7 @@ returns c =
     let old = c.args.conn.now in
     let mid = c.make_version.new.tx.conn.now in
     let end = c.commit.new.self.0 in
-    let same : end ≡ c.conn-2-1.given.0 = search rules in
     let wrote = rw c.transaction-tx.ensures.begun at (c.in_ok-make_version.ensures.made (memory_is_clean mid)) in
     let ends = ok_of over_memory (λ s db live may. may) (MakesVersion c.args.version) old mid end c.commit.result wrote.well (c.commit.ensures.ok (memory_is_clean end)) in
-    subst (λ h. OnOk c.commit.result (MakesVersion c.args.version (state over_memory old).now (state over_memory h).now)) same
-    (made_of c.commit.result (MakesVersion c.args.version) (state over_memory old) (state over_memory end) ends)
+    let made = made_of c.commit.result (MakesVersion c.args.version) (state over_memory old) (state over_memory end) ends in
+    search (rules, made)

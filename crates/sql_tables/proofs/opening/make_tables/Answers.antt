@@ -1,60 +1,53 @@
-use Rattle.std.proofs.Common.{◌≡◌, OnOk, OnErr, subst, rules, arith}
-use Rattle.sqlite.specs.State.{HasCleanDisk, Survives}
+use Rattle.std.proofs.Common.{rules, arith}
+use Rattle.sqlite.specs.State.{HasCleanDisk}
 use Rattle.sqlite.specs.Held.{state}
-use Rattle.sql_base.specs.Ends.{Ends, IsKept, IsLeft}
 use Rattle.sql_tables.specs.Opening.{MakesAll}
 use Rattle.sql_base.proofs.Ending.{crash_of, ok_of, err_of, dropped, crash_undone, settled_if}
 use Rattle.sql_tables.proofs.opening.make_tables.Goals as goal
 
 pub returns-clause-ok : goal.returns-clause-ok
 returns-clause-ok g c clean =
-    let old = c.args.conn.now in
     let mid = c.make_all.new.tx.conn.now in
     let end = c.commit.new.self.0 in
-    let same : end ≡ c.conn-2-1.given.0 = search rules in
     let late : HasCleanDisk (state g.S.Store end) = search rules in
     let wrote = rw c.transaction-tx.ensures.begun at (c.in_ok-make_all.ensures.made (omega (arith, c.commit.ensures.survives.clean))) in
-    subst (λ h. OnOk c.commit.result (Ends MakesAll (state g.S.Store old) (state g.S.Store h))) same
-    (ok_of g.S.Store g.met.S.Store.settled MakesAll old mid end c.commit.result wrote.well (c.commit.ensures.ok late))
+    let it = ok_of g.S.Store g.met.S.Store.settled MakesAll c.args.conn.now mid end c.commit.result wrote.well (c.commit.ensures.ok late) in
+    search (rules, it)
 
 pub returns-clause-err : goal.returns-clause-err
 returns-clause-err g c clean =
     let old = c.args.conn.now in
     let mid = c.make_all.new.tx.conn.now in
     let end = c.commit.new.self.0 in
-    let same : end ≡ c.conn-2-1.given.0 = search rules in
     let late : HasCleanDisk (state g.S.Store end) = search rules in
     let wrote = rw c.transaction-tx.ensures.begun at (c.in_ok-make_all.ensures.made (omega (arith, c.commit.ensures.survives.clean))) in
     let settled = settled_if c.is_autocommit-settled.result old.in_transaction _ c.is_autocommit-settled.ensures.value c.requires c.is_autocommit-settled.ensures.settled in
-    subst (λ h. OnErr c.commit.result (IsKept (state g.S.Store old) (state g.S.Store h))) same
-    (err_of g.S.Store g.met.S.Store.settled MakesAll old mid end c.commit.result settled wrote.well wrote.kept (c.commit.ensures.err late))
+    let it = err_of g.S.Store g.met.S.Store.settled MakesAll old mid end c.commit.result settled wrote.well wrote.kept (c.commit.ensures.err late) in
+    search (rules, it)
 
 pub returns-clause-crash : goal.returns-clause-crash
 returns-clause-crash g c =
-    let old = c.args.conn.now in
     let mid = c.make_all.new.tx.conn.now in
-    let end = c.commit.new.self.0 in
-    let same : end ≡ c.conn-2-1.given.0 = search rules in
-    subst (λ h. Survives (state g.S.Store old) (state g.S.Store h) (IsLeft MakesAll (state g.S.Store old))) same
-    (crash_of g.S.Store g.met.S.Store.settled MakesAll old mid end (λ clean. (rw c.transaction-tx.ensures.begun at (c.in_ok-make_all.ensures.made clean)).well) (rw c.transaction-tx.ensures.begun at c.make_all.ensures.survives) c.commit.ensures.survives)
+    let made = λ (clean : HasCleanDisk (state g.S.Store mid)). (rw c.transaction-tx.ensures.begun at (c.in_ok-make_all.ensures.made clean)).well in
+    let it =
+    crash_of g.S.Store g.met.S.Store.settled MakesAll c.args.conn.now mid c.commit.new.self.0 made (rw c.transaction-tx.ensures.begun at c.make_all.ensures.survives) c.commit.ensures.survives
+    in
+    search (rules, it)
 
 pub returns-in_err-make_all-clause-err : goal.returns-in_err-make_all-clause-err
 returns-in_err-make_all-clause-err g c clean =
     let old = c.args.conn.now in
     let mid = c.make_all.new.tx.conn.now in
     let end = c.drop-tx.new.self.0 in
-    let same : end ≡ c.conn-1.given.0 = search rules in
     let late : HasCleanDisk (state g.S.Store end) = search rules in
     let wrote = rw c.transaction-tx.ensures.begun at (c.in_err-make_all.ensures.made (omega (arith, c.drop-tx.ensures.survives.clean))) in
     let settled = settled_if c.is_autocommit-settled.result old.in_transaction _ c.is_autocommit-settled.ensures.value c.requires c.is_autocommit-settled.ensures.settled in
-    subst (λ h. OnErr c.from_residual.result (IsKept (state g.S.Store old) (state g.S.Store h))) same
-    (dropped g.S.Store g.met.S.Store.settled MakesAll old mid end c.from_residual.result settled wrote.kept (c.drop-tx.ensures.undone late))
+    let it = dropped g.S.Store g.met.S.Store.settled MakesAll old mid end c.from_residual.result settled wrote.kept (c.drop-tx.ensures.undone late) in
+    search (rules, it)
 
 pub returns-in_err-make_all-clause-crash : goal.returns-in_err-make_all-clause-crash
 returns-in_err-make_all-clause-crash g c =
-    let old = c.args.conn.now in
     let mid = c.make_all.new.tx.conn.now in
-    let end = c.drop-tx.new.self.0 in
-    let same : end ≡ c.conn-1.given.0 = search rules in
-    subst (λ h. Survives (state g.S.Store old) (state g.S.Store h) (IsLeft MakesAll (state g.S.Store old))) same
-    (crash_undone g.S.Store g.met.S.Store.settled MakesAll old mid end (rw c.transaction-tx.ensures.begun at c.make_all.ensures.survives) c.drop-tx.ensures.survives)
+    let before = rw c.transaction-tx.ensures.begun at c.make_all.ensures.survives in
+    let it = crash_undone g.S.Store g.met.S.Store.settled MakesAll c.args.conn.now mid c.drop-tx.new.self.0 before c.drop-tx.ensures.survives in
+    search (rules, it)
