@@ -7,7 +7,7 @@ ghost use Rattle.sql_tables.specs.declared.versions.Version.TheVariants.{Three};
 ghost use Rattle.sql_tables.specs.Tables.{our_schema};
 ghost use Rattle.table_reads.specs.Rowids.{HasApart};
 
-use sql_tables::{Version, has_our_tables, our_tables};
+use sql_tables::{Version, has_our_tables, tables_of};
 use sqlite::{Alter, Connection, Error};
 use std::alloc::Global;
 use table_reads::has_apart_rowids;
@@ -24,7 +24,7 @@ fn stands_as_made<S: Alter>(alloc: Global, conn: &mut Connection<S>) -> Result<b
     ensures idle { conn.new.in_transaction ≡ false }
     ensures survives { Survives (state S.Store conn.old) (state S.Store conn.new) (λ _. ⊥) }
 {
-    let ours = our_tables(alloc)?;
+    let ours = tables_of(alloc, Version::Three)?;
     if !has_our_tables(conn, &ours) {
         return Ok(false);
     }

@@ -10,52 +10,58 @@ ghost use Rattle.remaking.specs.Texts.{drops_of};
 use sql_tables::{Version, make_all};
 use sqlite::{Alter, Error, Transaction};
 
+const ONE: &[&str] = &[
+    "DROP TABLE version",
+    "DROP TABLE grouping",
+    "DROP TABLE reply",
+    "DROP TABLE remake",
+    "DROP TABLE blank",
+    "DROP TABLE word",
+    "DROP TABLE session",
+    "DROP TABLE record",
+    "DROP TABLE batch",
+    "DROP TABLE lot",
+    "DROP TABLE product",
+];
+
+const TWO: &[&str] = &[
+    "DROP TABLE version",
+    "DROP TABLE mark",
+    "DROP TABLE grouping",
+    "DROP TABLE reply",
+    "DROP TABLE remake",
+    "DROP TABLE blank",
+    "DROP TABLE word",
+    "DROP TABLE session",
+    "DROP TABLE record",
+    "DROP TABLE batch",
+    "DROP TABLE lot",
+    "DROP TABLE product",
+];
+
+const THREE: &[&str] = &[
+    "DROP TABLE mark",
+    "DROP TABLE reply",
+    "DROP TABLE remake",
+    "DROP TABLE blank",
+    "DROP TABLE word",
+    "DROP TABLE session",
+    "DROP TABLE grouping2",
+    "DROP TABLE record",
+    "DROP TABLE batch",
+    "DROP TABLE lot",
+    "DROP TABLE product",
+    "DROP TABLE version",
+];
+
 // The texts that drop all tables of a version, the last made first.
 fn drops_of(version: Version) -> &'static [&'static str]
     ensures { map (λ text. text.now) result.now ≡ drops_of version }
 {
     match version {
-        Version::One => &[
-            "DROP TABLE version",
-            "DROP TABLE grouping",
-            "DROP TABLE reply",
-            "DROP TABLE remake",
-            "DROP TABLE blank",
-            "DROP TABLE word",
-            "DROP TABLE session",
-            "DROP TABLE record",
-            "DROP TABLE batch",
-            "DROP TABLE lot",
-            "DROP TABLE product",
-        ],
-        Version::Two => &[
-            "DROP TABLE version",
-            "DROP TABLE mark",
-            "DROP TABLE grouping",
-            "DROP TABLE reply",
-            "DROP TABLE remake",
-            "DROP TABLE blank",
-            "DROP TABLE word",
-            "DROP TABLE session",
-            "DROP TABLE record",
-            "DROP TABLE batch",
-            "DROP TABLE lot",
-            "DROP TABLE product",
-        ],
-        Version::Three => &[
-            "DROP TABLE mark",
-            "DROP TABLE reply",
-            "DROP TABLE remake",
-            "DROP TABLE blank",
-            "DROP TABLE word",
-            "DROP TABLE session",
-            "DROP TABLE grouping2",
-            "DROP TABLE record",
-            "DROP TABLE batch",
-            "DROP TABLE lot",
-            "DROP TABLE product",
-            "DROP TABLE version",
-        ],
+        Version::One => ONE,
+        Version::Two => TWO,
+        Version::Three => THREE,
     }
 }
 
