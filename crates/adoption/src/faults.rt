@@ -19,10 +19,10 @@ pub enum OpenFault {
 
 impl From<Error> for OpenFault {
     ghost use Rattle.std.specs.Prelude.{◌≡◌};
-    ghost use Rattle.adoption.specs.declared.faults.OpenFault.TheVariants as open;
+    ghost use Rattle.adoption.specs.declared.faults.OpenFault.TheVariants as fault;
     ghost use Rattle.adoption.specs.Faults.{fault_for};
 
-    ghost from_gives = { λ error e. e ≡ open.Store (fault_for error) };
+    ghost from_gives = { λ error e. e ≡ fault.Store (fault_for error) };
 
     fn from(error: Error) -> OpenFault {
         OpenFault::Store {
