@@ -10,7 +10,8 @@ use Rattle.sql_tables.specs.Versions.{schema_of}
 use Rattle.sql_tables.specs.declared.versions.Version.{Version}
 use Rattle.sql_tables.specs.declared.versions.Version.TheVariants.{One, Three, Two}
 use Rattle.remaking.specs.Anew.{DropsAll}
-use Rattle.remaking.specs.Drop.{DropsEach, IsDrop, WroteEach}
+use Rattle.sql_tables.specs.Each.{Each}
+use Rattle.remaking.specs.Drop.{DropsTable, IsDrop}
 use Rattle.remaking.specs.Texts.{drops_of, drop_batch, drop_blank, drop_grouping, drop_lot, drop_mark, drop_product, drop_record, drop_remake, drop_reply, drop_session, drop_unmixed_grouping, drop_version, drop_word}
 use Rattle.remaking.proofs.Emptied.{acts, each_dropped}
 use Rattle.remaking.proofs.Gathered.{all_of, all_stand}
@@ -67,7 +68,7 @@ mark_is : IsDrop drop_mark (codes "mark")
 unfolding everything
 mark_is = record { parsed = _; is = refl; statement = refl; timeless = refl; free = refl }
 
-pub all_dropped : (v : Version) (old new : Database) → DropsEach (drops_of v) old new → DropsAll v old new
+pub all_dropped : (v : Version) (old new : Database) → Each DropsTable (drops_of v) old new → DropsAll v old new
 all_dropped One old new drops sound just =
     let idle : AllByRecursion (λ t. acts t ≡ false) (schema_of One).tables = (refl, (refl, (refl, (refl, (refl, (refl, (refl, (refl, (refl, (refl, (refl, tt))))))))))) in
     each_dropped (drops_of One) (all_of old (schema_of One) sound just idle)
@@ -84,16 +85,7 @@ all_dropped Three old new drops sound just =
     ((mark_is, refl), ((reply_is, refl), ((remake_is, refl), ((blank_is, refl), ((word_is, refl), ((session_is, refl), ((grouping_is, refl), ((record_is, refl), ((batch_is, refl), ((lot_is, refl), ((product_is, refl), ((version_is, refl), tt))))))))))))
     old new drops (all_stand old (schema_of Three) sound just idle refl)
 
-some_dropped : (v : Version) → drops_of v ≢ []
+pub some_dropped : (v : Version) → drops_of v ≢ []
 some_dropped One = λ none. cc
 some_dropped Two = λ none. cc
 some_dropped Three = λ none. cc
-
-pub all_wrote : {X : Type 0} (v : Version) (a b : State) (r : Result X Error) → WroteEach (drops_of v) a b r → Wrote (DropsAll v) a b r
-all_wrote v a b (Ok x) it =
-    let inside = it.well.inside (some_dropped v) in
-    record {
-      well = record { made = all_dropped v a.now b.now it.well.made; committed = it.well.committed; inside = inside.0; was_open = inside.1 };
-      kept = it.kept;
-    }
-all_wrote v a b (Err e) it = record { well = tt; kept = it.kept }

@@ -18,7 +18,8 @@ use Rattle.std.proofs.lemmas.Slice.Eq.{bytes_eq-Decides}
 use Rattle.sql_base.specs.Columns.{no_schema}
 use Rattle.sql_tables.specs.Finds.{Finds}
 use Rattle.sql_tables.proofs.Lookups.{find_filter}
-use Rattle.remaking.specs.Drop.{DropsEach, IsDrop}
+use Rattle.sql_tables.specs.Each.{Each}
+use Rattle.remaking.specs.Drop.{DropsTable, IsDrop}
 
 -- no foreign key of the table does anything where the row is deleted that it points to
 abbrev pub acts : Table → Bool
@@ -115,7 +116,7 @@ step t ts s h = record {
 abbrev pub AreDrops : List (List ℕ) → List Table → Type 0
 AreDrops texts ts = AllZip (λ sql t. IsDrop sql t.name × (t.is_counted ≡ false)) texts ts
 
-pub each_dropped : (texts : List (List ℕ)) (ts : List Table) → AreDrops texts ts → (old new : Database) → DropsEach texts old new → Stand ts old.schema → new.schema ≡ no_schema
+pub each_dropped : (texts : List (List ℕ)) (ts : List Table) → AreDrops texts ts → (old new : Database) → Each DropsTable texts old new → Stand ts old.schema → new.schema ≡ no_schema
 each_dropped [] [] are old new same h = ap (λ (d : Database). d.schema) same ∙ none_left old.schema h.only
 each_dropped [] (t ∷ ts) are old new drops h = absurd are
 each_dropped (sql ∷ texts) [] are old new drops h = absurd are

@@ -1,11 +1,9 @@
 -- What DROP TABLE does to a database.
-use Rattle.std.specs.Prelude.{◌≡◌, ◌≢◌, ℕ, List, [], ◌∷◌, false, IsTrue, Ok, OnOk, Result}
+use Rattle.std.specs.Prelude.{◌≡◌, ℕ, List, [], false, Ok}
 use Rattle.sqlite.specs.Change.{KeepsRows, without_table}
 use Rattle.sqlite.specs.Does.{is_acted_on}
 use Rattle.sqlite.specs.Effect.{Database}
-use Rattle.sqlite.specs.State.{KeepsCommit, State}
 use Rattle.sqlite.specs.Table.{Table}
-use Rattle.sqlite.specs.declared.error.Error.{Error}
 use Rattle.sqlite_ast.specs.declared.Statement.TheVariants.{DropTable}
 use Rattle.sqlite_resolve.specs.Compile.{first, is_reserved}
 use Rattle.sqlite_schema.specs.declared.schema.Keys.TheVariants.{Enforced}
@@ -28,20 +26,3 @@ pub record Dropped (table : Table) (old new : Database) : Type 0 where
 -- whatever table the text names is dropped, where no foreign key acts on it
 abbrev pub DropsTable : List ℕ → Database → Database → Type 0
 DropsTable sql old new = (table : Table) → Finds old.schema table → IsDrop sql table.name → is_acted_on old.schema Enforced table ≡ false → table.is_counted ≡ false → Dropped table old new
-
--- one after the other
-abbrev pub DropsEach : List (List ℕ) → Database → Database → Type 0
-DropsEach [] old new = new ≡ old
-DropsEach (sql ∷ more) old new = (mid : Database) × DropsTable sql old mid × DropsEach more mid new
-
--- these were dropped, in an open transaction, and nothing is committed
-pub record WentOn (texts : List (List ℕ)) (old new : State) : Type 0 where
-  pub made : DropsEach texts old.now new.now
-  pub committed : new.committed ≡ old.committed
-  pub was_open : IsTrue new.is_open → IsTrue old.is_open
-  pub inside : texts ≢ [] → IsTrue new.in_transaction × IsTrue old.is_open
-
--- the same where each call went well, and in each case nothing is committed
-pub record WroteEach {X : Type 0} (texts : List (List ℕ)) (old new : State) (result : Result X Error) : Type 0 where
-  pub well : OnOk result (WentOn texts old new)
-  pub kept : KeepsCommit old new

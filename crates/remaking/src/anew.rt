@@ -1,10 +1,11 @@
 //! Our tables of any version are dropped and made anew, in an open transaction.
-ghost use Rattle.std.specs.Prelude.{◌≡◌, [], ◌∷◌, map};
+ghost use Rattle.std.specs.Prelude.{◌≡◌, map};
 ghost use Rattle.sqlite.specs.Held.{state};
 ghost use Rattle.sqlite.specs.State.{HasCleanDisk, Survives};
 ghost use Rattle.sql_base.specs.Ends.{Wrote};
+ghost use Rattle.sql_tables.specs.Each.{WroteEach};
 ghost use Rattle.remaking.specs.Anew.{DropsAll, MakesAnew};
-ghost use Rattle.remaking.specs.Drop.{DropsEach, WroteEach};
+ghost use Rattle.remaking.specs.Drop.{DropsTable};
 ghost use Rattle.remaking.specs.Texts.{drops_of};
 
 use sql_tables::{Version, make_all};
@@ -69,7 +70,7 @@ fn drops_of(version: Version) -> &'static [&'static str]
 fn drop_table<S: Alter>(tx: &mut Transaction<'_, S>, sql: &str) -> Result<usize, Error>
     ensures same_reference { tx.new.conn.ghost_name ≡ tx.old.conn.ghost_name }
     ensures made { HasCleanDisk (state S.Store tx.new.conn.now)
-        → Wrote (DropsEach (sql.now ∷ [])) (state S.Store tx.old.conn.now)
+        → Wrote (DropsTable sql.now) (state S.Store tx.old.conn.now)
         (state S.Store tx.new.conn.now) result }
     ensures survives { Survives (state S.Store tx.old.conn.now) (state S.Store tx.new.conn.now)
         (λ _. ⊥) }
@@ -81,7 +82,7 @@ fn drop_table<S: Alter>(tx: &mut Transaction<'_, S>, sql: &str) -> Result<usize,
 fn drop_each<S: Alter>(tx: &mut Transaction<'_, S>, texts: &[&str]) -> Result<(), Error>
     ensures same_reference { tx.new.conn.ghost_name ≡ tx.old.conn.ghost_name }
     ensures made { HasCleanDisk (state S.Store tx.new.conn.now)
-        → WroteEach (map (λ text. text.now) texts.now) (state S.Store tx.old.conn.now)
+        → WroteEach DropsTable (map (λ text. text.now) texts.now) (state S.Store tx.old.conn.now)
         (state S.Store tx.new.conn.now) result }
     ensures survives { Survives (state S.Store tx.old.conn.now) (state S.Store tx.new.conn.now)
         (λ _. ⊥) }

@@ -3,7 +3,8 @@ use Rattle.std.proofs.lemmas.List.{map-append, take_more}
 use Rattle.sqlite.specs.State.{HasCleanDisk}
 use Rattle.sqlite.specs.Held.{state}
 use Rattle.sqlite.proofs.InsideLemmas.{keeps_then}
-use Rattle.remaking.proofs.Joining.{one_further}
+use Rattle.sql_tables.proofs.Each.{one_further}
+use Rattle.remaking.specs.Drop.{DropsTable}
 use Rattle.remaking.proofs.anew.drop_each.Goals as goal
 
 pub loop-text-preserved : goal.loop-text-preserved
@@ -18,7 +19,7 @@ loop-text-preserved g c =
     let more = ap (map (λ t. t.now)) (take_more xs k _ c.loop-text-test.true) ∙ map-append (λ t. t.now) (take k xs) (x ∷ []) in
     record {
       same_reference = c.drop_table.ensures.same_reference ∙ c.loop-text.invariant.same_reference;
-      well = λ clean. one_further (map (λ t. t.now) (take k xs)) _ x.now a b d more (c.loop-text.invariant.well (early clean)) (c.in_ok-drop_table.ensures.made clean).well;
+      well = λ clean. one_further DropsTable (map (λ t. t.now) (take k xs)) _ x.now a b d more (c.loop-text.invariant.well (early clean)) (c.in_ok-drop_table.ensures.made clean).well;
       kept = λ clean. keeps_then a b d (c.loop-text.invariant.kept (early clean)) (c.in_ok-drop_table.ensures.made clean).kept;
       survives = search rules;
     }
