@@ -1,5 +1,5 @@
 //! Messages to a port of this machine.
-ghost use Rattle.std.specs.Prelude.{◌≡◌, ◌≢◌, ◌+◌, ◌≤◌, [], OnOk, min};
+ghost use Rattle.std.specs.Prelude.{◌≡◌, ◌≢◌, ◌+◌, ◌≤◌, [], IfOk, OnOk, min};
 ghost use Rattle.loopback.specs.Waits.{paused};
 
 use crate::asking::send_and_read;
@@ -7,6 +7,7 @@ use crate::clock::{Side, pause_after};
 use crate::timed::TimedStream;
 use feeding::Exchange;
 use std::alloc::{AllocError, Global};
+use std::io;
 use std::net::{Ipv4Addr, Net, SocketAddr, SocketAddrV4};
 use std::time::{Clock, Instant};
 use text_io::ReadFault;
@@ -57,12 +58,19 @@ impl<'a, R: Net + Clock> Port<'a, R> {
         Ok(())
     }
 
-    // Sends a message whole, and reads what comes back to its end.
-    fn ask(&self, message: &[u8]) -> Result<Option<Vec<u8>>, ReadFault> {
+    // A connection to the port, with a machine's limits on its time.
+    fn connect(&self) -> io::Result<TimedStream<'a, R>>
+        ensures { IfOk result (λ peer. peer.side ≡ Side.Machine) }
+    {
         let begun = Instant::now(self.rt)?;
         let place = SocketAddr::V4(SocketAddrV4::new(Ipv4Addr::LOCALHOST, self.port));
         let stream = self.rt.connect_timeout(place, Side::Machine.most_time())?;
-        let mut peer = TimedStream::new(self.rt, stream, Side::Machine, Some(begun));
+        Ok(TimedStream::new(self.rt, stream, Side::Machine, Some(begun)))
+    }
+
+    // Sends a message whole, and reads what comes back to its end.
+    fn ask(&self, message: &[u8]) -> Result<Option<Vec<u8>>, ReadFault> {
+        let mut peer = self.connect()?;
         send_and_read(self.alloc, &mut peer, message)
     }
 }
