@@ -16,58 +16,52 @@ abbrev refers_to : List ℕ → List ℕ → List (List ℕ) → Reference
 refers_to columns parent parent_columns =
     record { columns = columns; parent = parent; parent_columns = parent_columns; on_delete = NoAction; on_update = NoAction; is_deferred = false }
 
-abbrev pub version_at : ℕ → Table
-version_at tree = record {
-  name = codes "version";
+-- a table of this name and number, of which nothing else is said
+abbrev plain_table : List ℕ → ℕ → Table
+plain_table name tree = record {
+  name = name;
   tree = tree;
-  columns = int_column (codes "id") ∷ int_column (codes "number") ∷ [];
-  key = Some 0;
-  primary = 0 ∷ [];
+  columns = [];
+  key = None;
+  primary = [];
   uniques = [];
   orders = [];
-  checks = is_equal (col 1 0) (lit (Int (pos 1))) ∷ is_equal (col 1 2) (lit (Int (pos 3))) ∷ [];
+  checks = [];
   references = [];
   computed = [];
   stamps = no_stamps;
   is_counted = false;
 }
 
+abbrev pub version_at : ℕ → Table
+version_at tree = record (plain_table (codes "version") tree) {
+  columns = int_column (codes "id") ∷ int_column (codes "number") ∷ [];
+  key = Some 0;
+  primary = 0 ∷ [];
+  checks = is_equal (col 1 0) (lit (Int (pos 1))) ∷ is_equal (col 1 2) (lit (Int (pos 3))) ∷ [];
+}
+
 abbrev pub product_at : ℕ → Table
-product_at tree = record {
-  name = codes "product";
-  tree = tree;
+product_at tree = record (plain_table (codes "product") tree) {
   columns = text_column (codes "name") ∷ int_column (codes "max") ∷ int_column (codes "low") ∷ int_column (codes "checked") ∷ [];
-  key = None;
   primary = 1 ∷ [];
   uniques = (1 ∷ []) ∷ [];
   orders = plain ∷ [];
   checks = between 2 16 255 ∷ between 3 0 31 ∷ between 4 0 1 ∷ [];
-  references = [];
-  computed = [];
-  stamps = no_stamps;
-  is_counted = false;
 }
 
 abbrev pub lot_at : ℕ → Table
-lot_at tree = record {
-  name = codes "lot";
-  tree = tree;
+lot_at tree = record (plain_table (codes "lot") tree) {
   columns = text_column (codes "name") ∷ text_column (codes "product") ∷ int_column (codes "low_serial") ∷ int_column (codes "amount") ∷ int_column (codes "discarded") ∷ [];
-  key = None;
   primary = 1 ∷ [];
   uniques = (1 ∷ []) ∷ [];
   orders = plain ∷ [];
   checks = between 4 1 1000000 ∷ [];
   references = refers_to (2 ∷ []) (codes "product") (codes "name" ∷ []) ∷ [];
-  computed = [];
-  stamps = no_stamps;
-  is_counted = false;
 }
 
 abbrev pub batch_at : ℕ → Table
-batch_at tree = record {
-  name = codes "batch";
-  tree = tree;
+batch_at tree = record (plain_table (codes "batch") tree) {
   columns = int_column (codes "id") ∷ text_column (codes "name") ∷ text_column (codes "product") ∷ blob_column (codes "raw") ∷ int_column (codes "closed") ∷ int_column (codes "waiting") ∷ int_column (codes "running") ∷ int_column (codes "failed") ∷ int_column (codes "withdrawn") ∷ int_column (codes "good") ∷ int_column (codes "sessions") ∷ int_column (codes "spoiled") ∷ [];
   key = Some 0;
   primary = 0 ∷ [];
@@ -75,47 +69,30 @@ batch_at tree = record {
   orders = plain ∷ [];
   checks = between 5 0 1 ∷ [];
   references = refers_to (3 ∷ []) (codes "product") (codes "name" ∷ []) ∷ [];
-  computed = [];
-  stamps = no_stamps;
-  is_counted = false;
 }
 
 abbrev pub record_at : ℕ → Table
-record_at tree = record {
-  name = codes "record";
-  tree = tree;
+record_at tree = record (plain_table (codes "record") tree) {
   columns = int_column (codes "batch") ∷ int_column (codes "place") ∷ text_column (codes "name") ∷ int_column (codes "state") ∷ int_column (codes "spoiled") ∷ int_column (codes "remakes") ∷ [];
-  key = None;
   primary = 1 ∷ 2 ∷ [];
   uniques = (1 ∷ 2 ∷ []) ∷ (1 ∷ 3 ∷ []) ∷ [];
   orders = plain ∷ plain ∷ [];
   checks = between 4 0 4 ∷ [];
   references = refers_to (1 ∷ []) (codes "batch") (codes "id" ∷ []) ∷ [];
-  computed = [];
-  stamps = no_stamps;
-  is_counted = false;
 }
 
 abbrev pub grouping_at : ℕ → Table
-grouping_at tree = record {
-  name = codes "grouping2";
-  tree = tree;
+grouping_at tree = record (plain_table (codes "grouping2") tree) {
   columns = int_column (codes "batch") ∷ int_column (codes "line") ∷ int_column (codes "place") ∷ blob_column (codes "aid") ∷ int_column (codes "rank") ∷ int_column (codes "enc") ∷ int_column (codes "tol") ∷ blob_column (codes "coded") ∷ [];
-  key = None;
   primary = 1 ∷ 2 ∷ [];
   uniques = (1 ∷ 2 ∷ []) ∷ [];
   orders = plain ∷ [];
   checks = between 5 1 999 ∷ between 6 0 2 ∷ between 7 0 1 ∷ [];
   references = refers_to (1 ∷ 3 ∷ []) (codes "record") (codes "batch" ∷ codes "place" ∷ []) ∷ [];
-  computed = [];
-  stamps = no_stamps;
-  is_counted = false;
 }
 
 abbrev pub session_at : ℕ → Table
-session_at tree = record {
-  name = codes "session";
-  tree = tree;
+session_at tree = record (plain_table (codes "session") tree) {
   columns = int_column (codes "id") ∷ text_column (codes "machine") ∷ int_column (codes "batch") ∷ int_column (codes "place") ∷ int_column (codes "serial") ∷ int_column (codes "state") ∷ int_column (codes "ended") ∷ int_column (codes "words") ∷ int_column (codes "app") ∷ int_column (codes "segment") ∷ int_column (codes "at_offset") ∷ int_column (codes "block") ∷ [];
   key = Some 0;
   primary = 0 ∷ [];
@@ -123,89 +100,51 @@ session_at tree = record {
   orders = plain ∷ [];
   checks = between 6 0 2 ∷ between 7 0 1 ∷ [];
   references = refers_to (3 ∷ 4 ∷ []) (codes "record") (codes "batch" ∷ codes "place" ∷ []) ∷ [];
-  computed = [];
-  stamps = no_stamps;
-  is_counted = false;
 }
 
 abbrev pub word_at : ℕ → Table
-word_at tree = record {
-  name = codes "word";
-  tree = tree;
+word_at tree = record (plain_table (codes "word") tree) {
   columns = int_column (codes "session") ∷ int_column (codes "place") ∷ int_column (codes "sw") ∷ [];
-  key = None;
   primary = 1 ∷ 2 ∷ [];
   uniques = (1 ∷ 2 ∷ []) ∷ [];
   orders = plain ∷ [];
   checks = between 3 0 65535 ∷ [];
   references = refers_to (1 ∷ []) (codes "session") (codes "id" ∷ []) ∷ [];
-  computed = [];
-  stamps = no_stamps;
-  is_counted = false;
 }
 
 abbrev pub blank_at : ℕ → Table
-blank_at tree = record {
-  name = codes "blank";
-  tree = tree;
+blank_at tree = record (plain_table (codes "blank") tree) {
   columns = int_column (codes "serial") ∷ text_column (codes "lot") ∷ int_column (codes "kind") ∷ [];
   key = Some 0;
   primary = 0 ∷ [];
-  uniques = [];
-  orders = [];
   checks = between 3 0 1 ∷ [];
   references = refers_to (2 ∷ []) (codes "lot") (codes "name" ∷ []) ∷ [];
-  computed = [];
-  stamps = no_stamps;
-  is_counted = false;
 }
 
 abbrev pub remake_at : ℕ → Table
-remake_at tree = record {
-  name = codes "remake";
-  tree = tree;
+remake_at tree = record (plain_table (codes "remake") tree) {
   columns = int_column (codes "batch") ∷ int_column (codes "place") ∷ int_column (codes "turn") ∷ [];
-  key = None;
   primary = 1 ∷ 2 ∷ 3 ∷ [];
   uniques = (1 ∷ 2 ∷ 3 ∷ []) ∷ [];
   orders = plain ∷ [];
-  checks = [];
   references = refers_to (1 ∷ 2 ∷ []) (codes "record") (codes "batch" ∷ codes "place" ∷ []) ∷ [];
-  computed = [];
-  stamps = no_stamps;
-  is_counted = false;
 }
 
 abbrev pub reply_at : ℕ → Table
-reply_at tree = record {
-  name = codes "reply";
-  tree = tree;
+reply_at tree = record (plain_table (codes "reply") tree) {
   columns = text_column (codes "client") ∷ int_column (codes "number") ∷ blob_column (codes "ask") ∷ int_column (codes "status") ∷ blob_column (codes "body") ∷ [];
-  key = None;
   primary = 1 ∷ 2 ∷ [];
   uniques = (1 ∷ 2 ∷ []) ∷ [];
   orders = plain ∷ [];
-  checks = [];
-  references = [];
-  computed = [];
-  stamps = no_stamps;
-  is_counted = false;
 }
 
 abbrev pub mark_at : ℕ → Table
-mark_at tree = record {
-  name = codes "mark";
-  tree = tree;
+mark_at tree = record (plain_table (codes "mark") tree) {
   columns = text_column (codes "client") ∷ int_column (codes "upto") ∷ [];
-  key = None;
   primary = 1 ∷ [];
   uniques = (1 ∷ []) ∷ [];
   orders = plain ∷ [];
   checks = between 2 1 999999999999999999 ∷ [];
-  references = [];
-  computed = [];
-  stamps = no_stamps;
-  is_counted = false;
 }
 
 abbrev pub version_table : Table
