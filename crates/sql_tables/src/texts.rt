@@ -4,6 +4,7 @@ ghost use Rattle.sql_tables.specs.Texts.{texts_of};
 
 use crate::versions::Version;
 
+// The table of the version takes one row, and in it only the version's own number.
 const VERSION: &str =
     "CREATE TABLE version (id INTEGER NOT NULL PRIMARY KEY CHECK (id = 1), number INTEGER NOT \
     NULL CHECK (number = 3)) STRICT";
@@ -39,6 +40,7 @@ const RECORD: &str =
     INTEGER NOT NULL, remakes INTEGER NOT NULL, PRIMARY KEY (batch, place), UNIQUE (batch, \
     name)) STRICT";
 
+// Version 3 knows a third mark of encipherment, under a name of its own.
 const GROUPING: &str =
     "CREATE TABLE grouping2 (batch INTEGER NOT NULL, line INTEGER NOT NULL, place INTEGER NOT \
     NULL, aid BLOB NOT NULL, rank INTEGER NOT NULL CHECK (rank BETWEEN 1 AND 999), enc \
@@ -83,6 +85,7 @@ const MARK: &str =
     "CREATE TABLE mark (client TEXT NOT NULL PRIMARY KEY, upto INTEGER NOT NULL CHECK (upto \
     BETWEEN 1 AND 999999999999999999)) STRICT";
 
+// The indices are no rule, but speed.
 const SESSION_RUNNING: &str = "CREATE INDEX session_running ON session (machine, state)";
 
 const GROUPING_PLACE: &str = "CREATE INDEX grouping_place ON grouping2 (batch, place)";
