@@ -13,7 +13,7 @@ use Rattle.sql_base.specs.Columns.{no_stamps}
 use Rattle.sql_base.specs.Effects.{Inserted}
 use Rattle.sql_base.proofs.Inserting.{inserted}
 use Rattle.sql_tables.specs.Tables.{our_schema}
-use Rattle.sql_tables.proofs.Version.{none_acts}
+use Rattle.sql_tables.proofs.VersionRow.{none_acts}
 use Rattle.table_rows.specs.Tables.{Tables}
 use Rattle.sql_rows.specs.Image.{Filled, IsFilled, IsImage, filled}
 use Rattle.sql_rows.proofs.Filling.{refilled}

@@ -8,7 +8,7 @@ use Rattle.sql_base.proofs.Deleting.{deleted}
 use Rattle.sql_base.proofs.Selecting.{passes, shown}
 use Rattle.sql_base.proofs.Tests.{one_test, same_most, same_text, two_tests}
 use Rattle.sql_tables.specs.Tables.{mark_table, our_schema, reply_table}
-use Rattle.sql_tables.proofs.Version.{none_acts}
+use Rattle.sql_tables.proofs.VersionRow.{none_acts}
 use Rattle.table_rows.specs.Tables.{is_released, without_mark, without_replies}
 use Rattle.sql_rows.specs.Encoding.{mark_row, number, reply_row}
 use Rattle.sql_rows.specs.Image.{Moves, filled, unnumbered}

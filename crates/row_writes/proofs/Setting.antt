@@ -16,7 +16,7 @@ use Rattle.sql_base.proofs.Tests.{one_test, same_int, same_text, two_tests}
 use Rattle.sql_base.proofs.Updating.{updated}
 use Rattle.sql_base.proofs.Values.{cast_int, cast_null}
 use Rattle.sql_tables.specs.Tables.{batch_table, lot_table, our_schema, record_table, session_table}
-use Rattle.sql_tables.proofs.Version.{none_acts}
+use Rattle.sql_tables.proofs.VersionRow.{none_acts}
 use Rattle.table_rows.specs.Tables.{StoredBatch, StoredLot, StoredRecord, StoredSession, closed_set, end_set, lot_set, record_set, session_set, totals_set, with_closed_set, with_end_set, with_lot_set, with_record_set, with_session_set, with_totals_set}
 use Rattle.sql_rows.specs.Encoding.{batch_row, flag, lot_row, number, record_code, record_row, session_code, session_row}
 use Rattle.sql_rows.specs.Image.{Moves, by_rowid, filled, unnumbered}

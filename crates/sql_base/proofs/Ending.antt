@@ -89,6 +89,3 @@ module _ {S : Type 0} (g : Ghosts S) (law : (s : S) (db : Trees) → IsTrue (g.v
   pub crash_undone : Survives Begun (state g mid) (λ _. ⊥) → Survives (state g mid) (state g new) (λ _. ⊥) → Survives (state g old) (state g new) (IsLeft R (state g old))
   crash_undone before last =
       survives_then (state g old) (state g mid) (state g new) (λ _. ⊥) (λ _. ⊥) (IsLeft R (state g old)) (λ _ db none. absurd none) (λ _ db none. absurd none) (survives_begin g old (state g mid) (λ _. ⊥) before) last
-
-pub settled_if : (autocommit in_transaction : Bool) (P : Type 0) → autocommit ≡ not in_transaction → in_transaction ≡ false → (IsTrue autocommit → P) → P
-settled_if autocommit in_transaction P is idle h = h (is ∙ ap not idle)

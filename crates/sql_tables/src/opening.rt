@@ -11,7 +11,7 @@ ghost use Rattle.sql_tables.specs.Tables.{our_schema};
 use crate::parts::are_same;
 use crate::texts::texts_of;
 use crate::versions::Version;
-use sql_base::make;
+use sql_base::{laws, make};
 use sqlite::{Alter, Connection, Error, MemStore, Transaction};
 use sqlite_schema::schema::Schema;
 
@@ -81,7 +81,7 @@ pub fn make_tables<S: Alter>(conn: &mut Connection<S>) -> Result<(), Error>
     ensures crash { Survives (state S.Store conn.old) (state S.Store conn.new)
         (IsLeft MakesAll (state S.Store conn.old)) }
 {
-    let _settled = conn.is_autocommit();
+    laws::is_committed(conn);
     let mut tx = conn.transaction();
     make_all(&mut tx)?;
     tx.commit()

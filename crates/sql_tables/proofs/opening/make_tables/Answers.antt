@@ -2,7 +2,7 @@ use Rattle.std.proofs.Common.{rules, arith}
 use Rattle.sqlite.specs.State.{HasCleanDisk}
 use Rattle.sqlite.specs.Held.{state}
 use Rattle.sql_tables.specs.Opening.{MakesAll}
-use Rattle.sql_base.proofs.Ending.{crash_of, ok_of, err_of, dropped, crash_undone, settled_if}
+use Rattle.sql_base.proofs.Ending.{crash_of, ok_of, err_of, dropped, crash_undone}
 use Rattle.sql_tables.proofs.opening.make_tables.Goals as goal
 
 pub returns-clause-ok : goal.returns-clause-ok
@@ -21,7 +21,7 @@ returns-clause-err g c clean =
     let end = c.commit.new.self.0 in
     let late : HasCleanDisk (state g.S.Store end) = search rules in
     let wrote = rw c.transaction-tx.ensures.begun at (c.in_ok-make_all.ensures.made (omega (arith, c.commit.ensures.survives.clean))) in
-    let settled = settled_if c.is_autocommit-settled.result old.in_transaction _ c.is_autocommit-settled.ensures.value c.requires c.is_autocommit-settled.ensures.settled in
+    let settled = c.is_committed.ensures in
     let it = err_of g.S.Store g.met.S.Store.settled MakesAll old mid end c.commit.result settled wrote.well wrote.kept (c.commit.ensures.err late) in
     search (rules, it)
 
@@ -41,7 +41,7 @@ returns-in_err-make_all-clause-err g c clean =
     let end = c.drop-tx.new.self.0 in
     let late : HasCleanDisk (state g.S.Store end) = search rules in
     let wrote = rw c.transaction-tx.ensures.begun at (c.in_err-make_all.ensures.made (omega (arith, c.drop-tx.ensures.survives.clean))) in
-    let settled = settled_if c.is_autocommit-settled.result old.in_transaction _ c.is_autocommit-settled.ensures.value c.requires c.is_autocommit-settled.ensures.settled in
+    let settled = c.is_committed.ensures in
     let it = dropped g.S.Store g.met.S.Store.settled MakesAll old mid end c.from_residual.result settled wrote.kept (c.drop-tx.ensures.undone late) in
     search (rules, it)
 
