@@ -1,5 +1,5 @@
 -- From a statement to its transaction's commit, once for all relations.
-use Rattle.std.proofs.Common.{Bool, [], Result, Ok, Err, OnOk, OnErr, IfErr, not, IsErr, inl, inr, ◌≡◌, ℕ, List, true, false, IsTrue, refl, sym, ap, subst, ◌∙◌, arith}
+use Rattle.std.proofs.Common.{Bool, [], Result, Ok, Err, OnOk, OnErr, IfErr, IsErr, inl, inr, ◌≡◌, ℕ, List, true, false, IsTrue, refl, sym, ap, subst, ◌∙◌, arith}
 use Rattle.sqlite.specs.Order.{Row}
 use Rattle.sqlite.specs.Store.{Ghosts}
 use Rattle.sqlite.specs.Tree.{Trees}
