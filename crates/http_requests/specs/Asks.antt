@@ -1,8 +1,5 @@
 -- What messages ask (this project's profile).
-use Rattle.std.specs.Prelude.{◌≡◌, ℕ, ◌==◌, ◌&&◌, nat_le, not, Bool, if◌then◌else◌, List, [], ◌∷◌, ◌++◌, length, slice_index, bytes_eq, codes, Option, Some, None, Result, Ok, Err, ⊤, option_map}
-use Rattle.std.specs.List.{list_all}
-use Rattle.std.specs.Char.{is_ascii_digit}
-use Rattle.std.specs.Str.Parse.{digits_value}
+use Rattle.std.specs.Prelude.{◌≡◌, ℕ, if◌then◌else◌, List, [], ◌∷◌, ◌++◌, bytes_eq, codes, Option, Some, None, Result, Ok, Err, ⊤, option_map}
 use Rattle.text_io.specs.Numbers.{number_in}
 use Rattle.store_data.specs.Name.{is_name}
 use Rattle.job_facts.specs.declared.request.Call.{Call}

@@ -1,7 +1,5 @@
 -- Requests in JSON (RFC 8259). Which members a request has, and their ranges, are this project's profile.
-use Rattle.std.specs.Prelude.{ℕ, ◌-◌, ◌+◌, ◌^◌, ◌==◌, ◌&&◌, nat_le, suc, if◌then◌else◌, Bool, List, length, bytes_eq, codes, Option, Some, None, option_map, option_and_then}
-use Rattle.std.specs.List.{list_all}
-use Rattle.std.specs.Char.{is_ascii_hexdigit}
+use Rattle.std.specs.Prelude.{ℕ, ◌-◌, ◌+◌, ◌^◌, ◌==◌, ◌&&◌, nat_le, suc, if◌then◌else◌, Bool, List, bytes_eq, codes, Option, Some, None, option_map, option_and_then}
 use Rattle.std.specs.Str.Parse.{digits_value}
 use Rattle.text_io.specs.Numbers.{is_word}
 use Rattle.serde_json.specs.Data.{Data, Members, no_members, member}
