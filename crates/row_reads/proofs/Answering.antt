@@ -44,8 +44,8 @@ product_back : (key : List ℕ) (p : Product) → p.code ≡ key → product_in 
 product_back key p is = rw (sym is, flag_back p.check) refl
 
 pub product_found : (key : List ℕ) (old new : State) (rows : List Row) → Shown product_text (Text key ∷ []) old new rows → (t : Tables) → IsImage t old.now
-    → AreNamedOnce (map (λ (p : Product). p.code) t.products) → (found : Option Product) → IsFirst (map (product_in key) rows) found → found ≡ product_named t.products key
-product_found key old new rows h t image once found first =
+    → (found : Option Product) → IsFirst (map (product_in key) rows) found → AreNamedOnce (map (λ (p : Product). p.code) t.products) → found ≡ product_named t.products key
+product_found key old new rows h t image found first once =
     let params = Text key ∷ [] in
     let has : Product → Bool = λ p. bytes_eq p.code key in
     one_found has (λ p. tells false product_columns params (product_row p)) t.products rows

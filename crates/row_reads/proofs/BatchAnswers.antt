@@ -41,8 +41,8 @@ named text project asks name old new rows h t image =
     asked true batch_row by_batch_name project (Text name ∷ []) (is_batch_named name) refl (λ v r. refl) (λ b. text_key name b.name) text 5 asks old new rows h image.ours t.batches image.each.1.1.1.0.rows
 
 pub batch_id_found : (name : List ℕ) (old new : State) (rows : List Row) → Shown batch_id_text (Text name ∷ []) old new rows → (t : Tables) → IsImage t old.now
-    → PassesOnce (is_batch_named name) t.batches → (found : Option ℕ) → IsFirst (map id_in rows) found → found ≡ option_map (λ (b : StoredBatch). b.id) (find (is_batch_named name) t.batches)
-batch_id_found name old new rows h t image once found first =
+    → (found : Option ℕ) → IsFirst (map id_in rows) found → PassesOnce (is_batch_named name) t.batches → found ≡ option_map (λ (b : StoredBatch). b.id) (find (is_batch_named name) t.batches)
+batch_id_found name old new rows h t image found first once =
     one_found (is_batch_named name) (λ b. tells true id_columns (Text name ∷ []) (batch_row b)) t.batches rows (named batch_id_text id_columns batch_id_asks name old new rows h t image)
     id_in (λ b. b.id) once (λ b is. refl) found first
 
@@ -50,8 +50,8 @@ head_back : (params : Row) (b : StoredBatch) → head_in (tells true head_column
 head_back params b = rw (flag_back b.closed) refl
 
 pub batch_head_found : (name : List ℕ) (old new : State) (rows : List Row) → Shown batch_head_text (Text name ∷ []) old new rows → (t : Tables) → IsImage t old.now
-    → PassesOnce (is_batch_named name) t.batches → (found : Option BatchHead) → IsFirst (map head_in rows) found → found ≡ option_map head_of (find (is_batch_named name) t.batches)
-batch_head_found name old new rows h t image once found first =
+    → (found : Option BatchHead) → IsFirst (map head_in rows) found → PassesOnce (is_batch_named name) t.batches → found ≡ option_map head_of (find (is_batch_named name) t.batches)
+batch_head_found name old new rows h t image found first once =
     one_found (is_batch_named name) (λ b. tells true head_columns (Text name ∷ []) (batch_row b)) t.batches rows (named batch_head_text head_columns batch_head_asks name old new rows h t image)
     head_in head_of once (λ b is. head_back (Text name ∷ []) b) found first
 
@@ -59,8 +59,8 @@ told_back : (params : Row) (b : StoredBatch) → told_in (tells true told_column
 told_back params b = rw (flag_back b.closed) refl
 
 pub batch_told_found : (name : List ℕ) (old new : State) (rows : List Row) → Shown batch_told_text (Text name ∷ []) old new rows → (t : Tables) → IsImage t old.now
-    → PassesOnce (is_batch_named name) t.batches → (found : Option BatchTold) → IsFirst (map told_in rows) found → found ≡ option_map told_of (find (is_batch_named name) t.batches)
-batch_told_found name old new rows h t image once found first =
+    → (found : Option BatchTold) → IsFirst (map told_in rows) found → PassesOnce (is_batch_named name) t.batches → found ≡ option_map told_of (find (is_batch_named name) t.batches)
+batch_told_found name old new rows h t image found first once =
     one_found (is_batch_named name) (λ b. tells true told_columns (Text name ∷ []) (batch_row b)) t.batches rows (named batch_told_text told_columns batch_told_asks name old new rows h t image)
     told_in told_of once (λ b is. told_back (Text name ∷ []) b) found first
 
@@ -86,8 +86,8 @@ id_key : (key n : ℕ)
 id_key key n = rw (same_most key n, equal_told n key, truth_told (n == key), alone (n == key)) (least_or_equal key n)
 
 pub batch_name_found : (id : ℕ) (old new : State) (rows : List Row) → Shown batch_name_text (Int (pos id) ∷ []) old new rows → (t : Tables) → IsImage t old.now
-    → PassesOnce (is_batch id) t.batches → (found : Option (List ℕ)) → IsFirst (map name_in rows) found → found ≡ option_map (λ (b : StoredBatch). b.name) (find (is_batch id) t.batches)
-batch_name_found id old new rows h t image once found first =
+    → (found : Option (List ℕ)) → IsFirst (map name_in rows) found → PassesOnce (is_batch id) t.batches → found ≡ option_map (λ (b : StoredBatch). b.name) (find (is_batch id) t.batches)
+batch_name_found id old new rows h t image found first once =
     let params = Int (pos id) ∷ [] in
     let tell : StoredBatch → Row = λ b. tells true (col 1 0 ∷ batch_name_columns) params (batch_row b) in
     let it = asked_sorted true batch_row by_id_in_order (col 1 0) batch_name_columns params (is_batch id) refl (λ v r. refl) (λ b. id_key id b.id) false limit_one batch_name_text 5 batch_name_asks old new rows h image.ours t.batches

@@ -33,8 +33,8 @@ session_back : (params : Row) (s : StoredSession) → session_in (tells true ses
 session_back params s = rw (session_state_back s.state) refl
 
 pub session_found : (id : ℕ) (old new : State) (rows : List Row) → Shown session_text (number id ∷ []) old new rows → (t : Tables) → IsImage t old.now
-    → PassesOnce (is_session id) t.sessions → (found : Option SessionAt) → IsFirst (map session_in rows) found → found ≡ option_map session_at (find (is_session id) t.sessions)
-session_found id old new rows h t image once found first =
+    → (found : Option SessionAt) → IsFirst (map session_in rows) found → PassesOnce (is_session id) t.sessions → found ≡ option_map session_at (find (is_session id) t.sessions)
+session_found id old new rows h t image found first once =
     let params = number id ∷ [] in
     one_found (is_session id) (λ s. tells true session_columns params (session_row s)) t.sessions rows
     (asked true session_row by_id session_columns params (is_session id) refl (λ v r. refl) (λ s. int_key id s.id) session_text 12 session_asks old new rows h image.ours t.sessions
@@ -51,9 +51,9 @@ running_key : (machine : List ℕ) (s : StoredSession)
 running_key machine s = rw (same_text s.machine machine, alone (is_true (binary (Compare Eq Binary) (number (session_code s.state)) (number 0))), same_int (session_code s.state) 0, running_code s.state) refl
 
 pub running_found : (machine : List ℕ) (old new : State) (rows : List Row) → Shown running_text (Text machine ∷ []) old new rows → (t : Tables) → IsImage t old.now
-    → PassesOnce (is_running_on machine) t.sessions → (found : Option ℕ) → IsFirst (map id_in rows) found
+    → (found : Option ℕ) → IsFirst (map id_in rows) found → PassesOnce (is_running_on machine) t.sessions
     → found ≡ option_map (λ (s : StoredSession). s.id) (find (is_running_on machine) t.sessions)
-running_found machine old new rows h t image once found first =
+running_found machine old new rows h t image found first once =
     let params = Text machine ∷ [] in
     one_found (is_running_on machine) (λ s. tells true running_columns params (session_row s)) t.sessions rows
     (asked true session_row by_running_machine running_columns params (is_running_on machine) refl (λ v r. refl) (running_key machine) running_text 12 running_asks old new rows h image.ours t.sessions
@@ -70,8 +70,8 @@ named_key : (batch : ℕ) (name : List ℕ) (r : StoredRecord)
 named_key batch name r = rw (same_int r.batch batch, alone (is_true (binary (Compare Eq Binary) (Text r.name) (Text name))), same_text r.name name) refl
 
 pub record_named_found : (batch : ℕ) (name : List ℕ) (old new : State) (rows : List Row) → Shown record_named_text (number batch ∷ Text name ∷ []) old new rows → (t : Tables) → IsImage t old.now
-    → PassesOnce (is_record_named batch name) t.records → (found : Option RecordAt) → IsFirst (map record_in rows) found → found ≡ option_map record_at (find (is_record_named batch name) t.records)
-record_named_found batch name old new rows h t image once found first =
+    → (found : Option RecordAt) → IsFirst (map record_in rows) found → PassesOnce (is_record_named batch name) t.records → found ≡ option_map record_at (find (is_record_named batch name) t.records)
+record_named_found batch name old new rows h t image found first once =
     let params = number batch ∷ Text name ∷ [] in
     one_found (is_record_named batch name) (λ r. tells false record_columns params (record_row r)) t.records rows
     (asked false record_row by_batch_and_name record_columns params (is_record_named batch name) refl (λ v r. refl) (named_key batch name) record_named_text 7 record_named_asks old new rows h
@@ -83,8 +83,8 @@ pub place_key : (b p batch place : ℕ)
 place_key b p batch place = rw (same_int b batch, alone (is_true (binary (Compare Eq Binary) (number p) (number place))), same_int p place) refl
 
 pub record_at_found : (batch place : ℕ) (old new : State) (rows : List Row) → Shown record_at_text (number batch ∷ number place ∷ []) old new rows → (t : Tables) → IsImage t old.now
-    → PassesOnce (is_record_at batch place) t.records → (found : Option RecordAt) → IsFirst (map record_in rows) found → found ≡ option_map record_at (find (is_record_at batch place) t.records)
-record_at_found batch place old new rows h t image once found first =
+    → (found : Option RecordAt) → IsFirst (map record_in rows) found → PassesOnce (is_record_at batch place) t.records → found ≡ option_map record_at (find (is_record_at batch place) t.records)
+record_at_found batch place old new rows h t image found first once =
     let params = number batch ∷ number place ∷ [] in
     one_found (is_record_at batch place) (λ r. tells false record_columns params (record_row r)) t.records rows
     (asked false record_row by_two_columns record_columns params (is_record_at batch place) refl (λ v r. refl) (λ r. place_key r.batch r.place batch place) record_at_text 7 record_at_asks old new rows h

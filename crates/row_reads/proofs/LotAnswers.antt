@@ -20,8 +20,8 @@ use Rattle.row_reads.proofs.Asking.{all_found, asked, count_found, one_found, te
 use Rattle.row_reads.proofs.NameMeanings.{lot_names_asks, products_asks, lot_asks, lots_asks, lots_of_asks}
 
 pub lot_found : (name : List ℕ) (old new : State) (rows : List Row) → Shown lot_text (Text name ∷ []) old new rows → (t : Tables) → IsImage t old.now
-    → PassesOnce (is_lot_named name) t.lots → (found : Option LotRow) → IsFirst (map lot_row_in rows) found → found ≡ option_map lot_row_of (find (is_lot_named name) t.lots)
-lot_found name old new rows h t image once found first =
+    → (found : Option LotRow) → IsFirst (map lot_row_in rows) found → PassesOnce (is_lot_named name) t.lots → found ≡ option_map lot_row_of (find (is_lot_named name) t.lots)
+lot_found name old new rows h t image found first once =
     let params = Text name ∷ [] in
     one_found (is_lot_named name) (λ l. tells false lot_row_columns params (lot_row l)) t.lots rows
     (asked false lot_row by_first_column lot_row_columns params (is_lot_named name) refl (λ v r. refl) (λ l. text_key name l.lot.name) lot_text 3 lot_asks old new rows h image.ours t.lots

@@ -25,8 +25,8 @@ kept_key : (client : List ℕ) (number : ℕ) (e : Entry)
 kept_key client number e = rw (same_text e.client client, alone (is_true (binary (Compare Eq Binary) (Int (pos e.number)) (Int (pos number)))), same_int e.number number) refl
 
 pub kept_found : (client : List ℕ) (number : ℕ) (old new : State) (rows : List Row) → Shown kept_text (Text client ∷ Int (pos number) ∷ []) old new rows → (t : Tables) → IsImage t old.now
-    → PassesOnce (is_reply_to client number) t.replies → (found : Option KeptReply) → IsFirst (map reply_in rows) found → found ≡ option_map reply_of_entry (entry_of t.replies client number)
-kept_found client number old new rows h t image once found first =
+    → (found : Option KeptReply) → IsFirst (map reply_in rows) found → PassesOnce (is_reply_to client number) t.replies → found ≡ option_map reply_of_entry (entry_of t.replies client number)
+kept_found client number old new rows h t image found first once =
     let params = Text client ∷ Int (pos number) ∷ [] in
     one_found (is_reply_to client number) (λ e. tells false kept_columns params (reply_row e)) t.replies rows
     (asked false reply_row by_two_columns kept_columns params (is_reply_to client number) refl (λ v r. refl) (kept_key client number) kept_text 19 kept_asks old new rows h image.ours t.replies

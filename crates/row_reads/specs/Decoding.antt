@@ -1,5 +1,5 @@
 -- What the values of an answered row tell.
-use Rattle.std.specs.Prelude.{◌≡◌, ◌+◌, ℕ, Bool, true, false, List, [], ◌∷◌, Option, Some, None}
+use Rattle.std.specs.Prelude.{◌≡◌, ◌+◌, ◌<◌, ◌^◌, ℕ, ⊤, Bool, true, false, List, [], ◌∷◌, Option, Some, None}
 use Rattle.sqlite.specs.declared.types.Value.{Value}
 use Rattle.sqlite.specs.declared.types.Value.TheVariants.{Blob, Text}
 use Rattle.sqlite.specs.Order.{Row, column}
@@ -29,6 +29,14 @@ reply_in row = record { ask = blob_in (column row 0); status = number_in (column
 
 abbrev pub id_in : Row → ℕ
 id_in row = number_in (column row 0)
+
+-- it is a number of SQL
+abbrev pub IsNumber : ℕ → Type 0
+IsNumber n = n < 2 ^ 63
+
+-- nothing is asked of it
+abbrev pub IsAny : {X : Type 0} → X → Type 0
+IsAny x = ⊤
 
 -- the name behind an id
 abbrev pub name_in : Row → List ℕ

@@ -3,19 +3,19 @@ ghost use Rattle.std.specs.Prelude.{◌≡◌, ◌<◌, ◌^◌, false, filter, 
 ghost use Rattle.std.specs.Prelude.{IfOk, IfSome, IsPermutation};
 ghost use Rattle.std.specs.List.{list_any};
 ghost use Rattle.sqlite.specs.Held.{state};
-ghost use Rattle.row_reads.specs.Decoding.{IsFirst, head_in, told_in, totals_in};
+ghost use Rattle.row_reads.specs.Decoding.{head_in, told_in, totals_in};
 ghost use Rattle.row_reads.specs.Extremes.{IsGreatest};
 ghost use Rattle.row_reads.specs.Reads.{Looks, TellsRows};
 ghost use Rattle.row_reads.specs.Telling.{AreCounts, IsHead, IsTold, head_of, told_of};
 ghost use Rattle.table_rows.specs.Keys.{is_batch, is_batch_for, is_batch_named, is_batch_with};
 ghost use Rattle.table_rows.specs.Tables.{PassesOnce, StoredBatch};
 
-use crate::values::{first_id, first_name, first_number, has_rows, name_at, number_at};
+use crate::answered::{Answered, all, first};
+use crate::values::{first_number, has_rows, name_at, number_at};
 use job_facts::BatchTotals;
 use sql_base::{int, rows_of};
 use sqlite::types::ValueRef;
 use sqlite::{Alter, Connection, Error, Row};
-use std::alloc::Global;
 use store_data::Name;
 
 /// A batch without its bytes and its counters.
@@ -66,64 +66,40 @@ fn totals_in(row: &Row) -> Result<BatchTotals, Error>
     })
 }
 
-fn head_in(row: &Row) -> Result<BatchHead, Error>
-    ensures value { IfOk result (λ head. head ≡ head_in row.now) }
-    ensures ranged { IfOk result IsHead }
-{
-    let id = number_at(row, 0)?;
-    let product = name_at(row, 1)?;
-    let is_closed: bool = row.get(2)?;
-    let totals = totals_in(row)?;
-    Ok(BatchHead {
-        id,
-        product,
-        is_closed,
-        totals,
-    })
-}
+impl Answered for BatchHead {
+    ghost value = { head_in };
 
-fn told_in(row: &Row) -> Result<BatchTold, Error>
-    ensures value { IfOk result (λ told. told ≡ told_in row.now) }
-    ensures ranged { IfOk result IsTold }
-{
-    let id = number_at(row, 0)?;
-    let product = name_at(row, 1)?;
-    let is_closed: bool = row.get(2)?;
-    Ok(BatchTold {
-        id,
-        product,
-        is_closed,
-    })
-}
+    ghost fits = { IsHead };
 
-fn first_told(rows: &[Row]) -> Result<Option<BatchTold>, Error>
-    ensures value { IfOk result (λ found. IsFirst (map told_in rows.now) found) }
-    ensures ranged { IfOk result (λ found. IfSome found IsTold) }
-{
-    match rows.first() {
-        None => Ok(None),
-        Some(row) => Ok(Some(told_in(row)?)),
+    fn read(row: &Row) -> Result<BatchHead, Error> {
+        let id = number_at(row, 0)?;
+        let product = name_at(row, 1)?;
+        let is_closed: bool = row.get(2)?;
+        let totals = totals_in(row)?;
+        Ok(BatchHead {
+            id,
+            product,
+            is_closed,
+            totals,
+        })
     }
 }
 
-fn first_head(rows: &[Row]) -> Result<Option<BatchHead>, Error>
-    ensures value { IfOk result (λ found. IsFirst (map head_in rows.now) found) }
-    ensures ranged { IfOk result (λ found. IfSome found IsHead) }
-{
-    match rows.first() {
-        None => Ok(None),
-        Some(row) => Ok(Some(head_in(row)?)),
-    }
-}
+impl Answered for BatchTold {
+    ghost value = { told_in };
 
-fn heads_in(alloc: Global, rows: &[Row]) -> Result<Vec<BatchHead>, Error>
-    ensures { IfOk result (λ heads. heads.items ≡ map head_in rows.now) }
-{
-    let mut heads = Vec::new(alloc);
-    for row in rows {
-        heads.push(head_in(row)?)?;
+    ghost fits = { IsTold };
+
+    fn read(row: &Row) -> Result<BatchTold, Error> {
+        let id = number_at(row, 0)?;
+        let product = name_at(row, 1)?;
+        let is_closed: bool = row.get(2)?;
+        Ok(BatchTold {
+            id,
+            product,
+            is_closed,
+        })
     }
-    Ok(heads)
 }
 
 // ---- queries
@@ -144,7 +120,7 @@ pub fn batch_id<S: Alter>(conn: &mut Connection<S>, name: &Name) -> Result<Optio
         "SELECT id FROM batch WHERE name = ?1",
         &[ValueRef::Text(name.bytes())],
     )?;
-    first_id(rows.as_slice())
+    first(rows.as_slice())
 }
 
 /// The name of the batch with this id. An equality with the id alone would read the row whole, with
@@ -163,7 +139,7 @@ pub fn batch_name<S: Alter>(conn: &mut Connection<S>, id: u64) -> Result<Option<
         "SELECT id, name FROM batch WHERE ?1 <= id AND (id = ?1) = 1 ORDER BY id LIMIT 1",
         &[int(id)],
     )?;
-    first_name(rows.as_slice())
+    first(rows.as_slice())
 }
 
 /// The batch of this name, without its bytes and its counters: an index alone answers, so that the
@@ -185,7 +161,7 @@ pub fn batch_told<S: Alter>(
         "SELECT id, product, closed FROM batch WHERE name = ?1",
         &[ValueRef::Text(name.bytes())],
     )?;
-    first_told(rows.as_slice())
+    first(rows.as_slice())
 }
 
 /// The batch of this name, without its bytes.
@@ -207,7 +183,7 @@ pub fn batch_head<S: Alter>(
         FROM batch WHERE name = ?1",
         &[ValueRef::Text(name.bytes())],
     )?;
-    first_head(rows.as_slice())
+    first(rows.as_slice())
 }
 
 /// Whether the batch of this name has these bytes.
@@ -245,7 +221,7 @@ pub fn batches_of<S: Alter>(
         &[ValueRef::Text(product.bytes())],
     )?;
     let alloc = *rows.allocator();
-    heads_in(alloc, rows.as_slice())
+    all(alloc, rows.as_slice())
 }
 
 /// The greatest id of a batch; 0 where there is no batch.

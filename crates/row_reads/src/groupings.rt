@@ -11,11 +11,11 @@ ghost use Rattle.row_reads.specs.Reads.{Looks, TellsRows};
 ghost use Rattle.sql_rows.specs.Decoding.{enc_of_code, number_in};
 ghost use Rattle.table_rows.specs.Keys.{is_grouping_at, is_grouping_of};
 
+use crate::answered::{Answered, all};
 use crate::values::{bytes_at, count, number_at};
 use sql_base::{int, rows_of};
 use sqlite::types::ValueRef;
 use sqlite::{Alter, Connection, Error, Row};
-use std::alloc::Global;
 use store_data::{Aid, Bytes, Enc};
 
 /// A row of a batch, without the name of its record.
@@ -78,38 +78,28 @@ fn enc_of(code: u64) -> Result<Enc, Error>
     }
 }
 
-// The grouping in an answered row.
-fn grouping_in(row: &Row) -> Result<GroupingAt, Error>
-    ensures value { IfOk result (λ g. g ≡ grouping_in row.now) }
-    ensures ranged { IfOk result IsGroupingAt }
-{
-    let line = number_at(row, 0)?;
-    let aid = aid_at(row, 1)?;
-    let rank = rank_at(row, 2)?;
-    let code = number_at(row, 3)?;
-    let enc = enc_of(code)?;
-    let tol: bool = row.get(4)?;
-    let coded = bytes_at(row, 5)?;
-    Ok(GroupingAt {
-        line,
-        aid,
-        rank,
-        enc,
-        tol,
-        coded,
-    })
-}
+impl Answered for GroupingAt {
+    ghost value = { grouping_in };
 
-// The groupings in the answered rows.
-fn all_groupings(alloc: Global, rows: &[Row]) -> Result<Vec<GroupingAt>, Error>
-    ensures value { IfOk result (λ all. all.items ≡ map grouping_in rows.now) }
-    ensures ranged { IfOk result (λ all. All IsGroupingAt all.items) }
-{
-    let mut all = Vec::new(alloc);
-    for answered in rows {
-        all.push(grouping_in(answered)?)?;
+    ghost fits = { IsGroupingAt };
+
+    fn read(row: &Row) -> Result<GroupingAt, Error> {
+        let line = number_at(row, 0)?;
+        let aid = aid_at(row, 1)?;
+        let rank = rank_at(row, 2)?;
+        let code = number_at(row, 3)?;
+        let enc = enc_of(code)?;
+        let tol: bool = row.get(4)?;
+        let coded = bytes_at(row, 5)?;
+        Ok(GroupingAt {
+            line,
+            aid,
+            rank,
+            enc,
+            tol,
+            coded,
+        })
     }
-    Ok(all)
 }
 
 /// The rows of the record at this place of the batch with this id, by their numbers.
@@ -135,7 +125,7 @@ pub fn groupings_of<S: Alter>(
         &[int(batch), int(place)],
     )?;
     let alloc = *rows.allocator();
-    all_groupings(alloc, rows.as_slice())
+    all(alloc, rows.as_slice())
 }
 
 /// How many rows the batch with this id has.

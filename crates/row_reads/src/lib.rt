@@ -2,6 +2,7 @@
 //! crash leaves what it could leave before.
 #![tactic(auto)]
 
+mod answered;
 mod batches;
 mod blanks;
 mod groupings;

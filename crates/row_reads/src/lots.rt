@@ -3,18 +3,18 @@ ghost use Rattle.std.specs.Prelude.{◌≡◌, ◌<◌, ◌^◌, false, filter, 
 ghost use Rattle.std.specs.Prelude.{option_map, IfOk, IfSome, IsPermutation};
 ghost use Rattle.sqlite.specs.Held.{state};
 ghost use Rattle.job_facts.specs.States.{any_overlaps, is_in, lot_of};
-ghost use Rattle.row_reads.specs.Decoding.{IsFirst, lot_in, lot_row_in};
+ghost use Rattle.row_reads.specs.Decoding.{IsAny, lot_in, lot_row_in};
 ghost use Rattle.row_reads.specs.Reads.{Looks, TellsRows};
 ghost use Rattle.row_reads.specs.Telling.{IsLotRow, lot_row_of};
 ghost use Rattle.table_rows.specs.Keys.{is_lot_for, is_lot_named};
 ghost use Rattle.table_rows.specs.Tables.{PassesOnce, StoredLot};
 
+use crate::answered::{Answered, all, first};
 use crate::values::{count, name_at, number_at};
 use job_facts::{Lot, any_overlaps, lot_among};
 use sql_base::rows_of;
 use sqlite::types::ValueRef;
 use sqlite::{Alter, Connection, Error, Row};
-use std::alloc::Global;
 use store_data::Name;
 
 /// A lot, and how many of its blanks are discarded.
@@ -26,58 +26,35 @@ pub struct LotRow {
 
 // ---- answered rows
 
-fn lot_in(row: &Row) -> Result<Lot, Error>
-    ensures { IfOk result (λ lot. lot ≡ lot_in row.now) }
-{
-    let name = name_at(row, 0)?;
-    let product = name_at(row, 1)?;
-    let first: u64 = row.get(2)?;
-    let count: u32 = row.get(3)?;
-    Ok(Lot {
-        name,
-        product,
-        first,
-        count,
-    })
-}
+impl Answered for Lot {
+    ghost value = { lot_in };
 
-fn lots_in(alloc: Global, rows: &[Row]) -> Result<Vec<Lot>, Error>
-    ensures { IfOk result (λ lots. lots.items ≡ map lot_in rows.now) }
-{
-    let mut lots = Vec::new(alloc);
-    for row in rows {
-        lots.push(lot_in(row)?)?;
-    }
-    Ok(lots)
-}
+    ghost fits = { IsAny };
 
-fn lot_row_in(row: &Row) -> Result<LotRow, Error>
-    ensures value { IfOk result (λ lot. lot ≡ lot_row_in row.now) }
-    ensures ranged { IfOk result IsLotRow }
-{
-    let lot = lot_in(row)?;
-    let discarded = number_at(row, 4)?;
-    Ok(LotRow { lot, discarded })
-}
-
-fn first_lot_row(rows: &[Row]) -> Result<Option<LotRow>, Error>
-    ensures value { IfOk result (λ found. IsFirst (map lot_row_in rows.now) found) }
-    ensures ranged { IfOk result (λ found. IfSome found IsLotRow) }
-{
-    match rows.first() {
-        None => Ok(None),
-        Some(row) => Ok(Some(lot_row_in(row)?)),
+    fn read(row: &Row) -> Result<Lot, Error> {
+        let name = name_at(row, 0)?;
+        let product = name_at(row, 1)?;
+        let first: u64 = row.get(2)?;
+        let count: u32 = row.get(3)?;
+        Ok(Lot {
+            name,
+            product,
+            first,
+            count,
+        })
     }
 }
 
-fn lot_rows_in(alloc: Global, rows: &[Row]) -> Result<Vec<LotRow>, Error>
-    ensures { IfOk result (λ lots. lots.items ≡ map lot_row_in rows.now) }
-{
-    let mut lots = Vec::new(alloc);
-    for row in rows {
-        lots.push(lot_row_in(row)?)?;
+impl Answered for LotRow {
+    ghost value = { lot_row_in };
+
+    ghost fits = { IsLotRow };
+
+    fn read(row: &Row) -> Result<LotRow, Error> {
+        let lot = Lot::read(row)?;
+        let discarded = number_at(row, 4)?;
+        Ok(LotRow { lot, discarded })
     }
-    Ok(lots)
 }
 
 // ---- queries
@@ -97,7 +74,7 @@ pub fn lot<S: Alter>(conn: &mut Connection<S>, name: &Name) -> Result<Option<Lot
         "SELECT name, product, low_serial, amount, discarded FROM lot WHERE name = ?1",
         &[ValueRef::Text(name.bytes())],
     )?;
-    first_lot_row(rows.as_slice())
+    first(rows.as_slice())
 }
 
 /// All lots, in any order.
@@ -114,7 +91,7 @@ pub fn all_lots<S: Alter>(conn: &mut Connection<S>) -> Result<Vec<Lot>, Error>
         &[],
     )?;
     let alloc = *rows.allocator();
-    lots_in(alloc, rows.as_slice())
+    all(alloc, rows.as_slice())
 }
 
 /// The lots of a product, in any order.
@@ -132,7 +109,7 @@ pub fn lots_of<S: Alter>(conn: &mut Connection<S>, product: &Name) -> Result<Vec
         &[ValueRef::Text(product.bytes())],
     )?;
     let alloc = *rows.allocator();
-    lot_rows_in(alloc, rows.as_slice())
+    all(alloc, rows.as_slice())
 }
 
 /// The lot in which a blank lies.

@@ -3,19 +3,18 @@ ghost use Rattle.std.specs.Prelude.{◌≡◌, ◌<◌, ◌^◌, false, filter, 
 ghost use Rattle.std.specs.Prelude.{IfSome, map};
 ghost use Rattle.sqlite.specs.Held.{state};
 ghost use Rattle.row_reads.specs.CardDecoding.{IsRecordAt, place_of, record_at, record_in};
-ghost use Rattle.row_reads.specs.Decoding.{IsFirst};
 ghost use Rattle.row_reads.specs.Extremes.{AreSorted, IsLeastBy};
 ghost use Rattle.row_reads.specs.Reads.{Looks, TellsRows};
 ghost use Rattle.sql_rows.specs.Decoding.{record_state_of_code};
 ghost use Rattle.table_rows.specs.Keys.{is_record_at, is_record_named, is_record_of, is_waiting_of};
 ghost use Rattle.table_rows.specs.Tables.{PassesOnce};
 
+use crate::answered::{Answered, all, first};
 use crate::values::{name_at, number_at};
 use job_facts::RecordState;
 use sql_base::{int, rows_of};
 use sqlite::types::ValueRef;
 use sqlite::{Alter, Connection, Error, Row};
-use std::alloc::Global;
 use store_data::Name;
 
 /// How a record of a batch stands.
@@ -45,34 +44,25 @@ fn record_state(code: u64) -> Result<RecordState, Error>
     }
 }
 
-// The record in an answered row.
-fn record_in(row: &Row) -> Result<RecordAt, Error>
-    ensures value { IfOk result (λ r. r ≡ record_in row.now) }
-    ensures ranged { IfOk result IsRecordAt }
-{
-    let place = number_at(row, 0)?;
-    let name = name_at(row, 1)?;
-    let code = number_at(row, 2)?;
-    let stands = record_state(code)?;
-    let spoiled = number_at(row, 3)?;
-    let remakes = number_at(row, 4)?;
-    Ok(RecordAt {
-        place,
-        name,
-        stands,
-        spoiled,
-        remakes,
-    })
-}
+impl Answered for RecordAt {
+    ghost value = { record_in };
 
-// The record in the first answered row, if there is one.
-fn first_record(rows: &[Row]) -> Result<Option<RecordAt>, Error>
-    ensures value { IfOk result (λ found. IsFirst (map record_in rows.now) found) }
-    ensures ranged { IfOk result (λ found. IfSome found IsRecordAt) }
-{
-    match rows.first() {
-        None => Ok(None),
-        Some(row) => Ok(Some(record_in(row)?)),
+    ghost fits = { IsRecordAt };
+
+    fn read(row: &Row) -> Result<RecordAt, Error> {
+        let place = number_at(row, 0)?;
+        let name = name_at(row, 1)?;
+        let code = number_at(row, 2)?;
+        let stands = record_state(code)?;
+        let spoiled = number_at(row, 3)?;
+        let remakes = number_at(row, 4)?;
+        Ok(RecordAt {
+            place,
+            name,
+            stands,
+            spoiled,
+            remakes,
+        })
     }
 }
 
@@ -96,7 +86,7 @@ pub fn record_named<S: Alter>(
         "SELECT place, name, state, spoiled, remakes FROM record WHERE batch = ?1 AND name = ?2",
         &[int(batch), ValueRef::Text(name.bytes())],
     )?;
-    first_record(rows.as_slice())
+    first(rows.as_slice())
 }
 
 /// The record at this place of the batch with this id.
@@ -120,19 +110,7 @@ pub fn record_at<S: Alter>(
         "SELECT place, name, state, spoiled, remakes FROM record WHERE batch = ?1 AND place = ?2",
         &[int(batch), int(place)],
     )?;
-    first_record(rows.as_slice())
-}
-
-// The records in the answered rows.
-fn all_records(alloc: Global, rows: &[Row]) -> Result<Vec<RecordAt>, Error>
-    ensures value { IfOk result (λ all. all.items ≡ map record_in rows.now) }
-    ensures ranged { IfOk result (λ all. All IsRecordAt all.items) }
-{
-    let mut all = Vec::new(alloc);
-    for answered in rows {
-        all.push(record_in(answered)?)?;
-    }
-    Ok(all)
+    first(rows.as_slice())
 }
 
 /// The records of the batch with this id, by their places.
@@ -152,7 +130,7 @@ pub fn records_of<S: Alter>(conn: &mut Connection<S>, batch: u64) -> Result<Vec<
         &[int(batch)],
     )?;
     let alloc = *rows.allocator();
-    all_records(alloc, rows.as_slice())
+    all(alloc, rows.as_slice())
 }
 
 /// Of the waiting records of the batch with this id the one with the least place.
@@ -175,5 +153,5 @@ pub fn first_waiting<S: Alter>(
         ORDER BY place LIMIT 1",
         &[int(batch)],
     )?;
-    first_record(rows.as_slice())
+    first(rows.as_slice())
 }

@@ -3,11 +3,12 @@ ghost use Rattle.std.specs.Prelude.{◌≡◌, ◌<◌, ◌^◌, ℕ, false, len
 ghost use Rattle.sqlite.specs.Held.{state};
 ghost use Rattle.job_facts.specs.Contents.{entry_of, reply_of_entry};
 ghost use Rattle.row_reads.specs.Counts.{shown_count};
-ghost use Rattle.row_reads.specs.Decoding.{IsFirst, first_number, reply_in};
+ghost use Rattle.row_reads.specs.Decoding.{IsAny, first_number, reply_in};
 ghost use Rattle.row_reads.specs.Reads.{Looks, TellsRows};
 ghost use Rattle.table_rows.specs.Keys.{is_reply_to};
 ghost use Rattle.table_rows.specs.Tables.{PassesOnce};
 
+use crate::answered::{Answered, first};
 use crate::values::{bytes_at, first_number, short_at};
 use job_facts::KeptReply;
 use sql_base::{int, rows_of};
@@ -15,23 +16,16 @@ use sqlite::types::ValueRef;
 use sqlite::{Alter, Connection, Error, Row};
 use store_data::Name;
 
-// The reply in an answered row.
-fn reply_in(row: &Row) -> Result<KeptReply, Error>
-    ensures { IfOk result (λ reply. reply ≡ reply_in row.now) }
-{
-    let ask = bytes_at(row, 0)?;
-    let status = short_at(row, 1)?;
-    let body = bytes_at(row, 2)?;
-    Ok(KeptReply { ask, status, body })
-}
+impl Answered for KeptReply {
+    ghost value = { reply_in };
 
-// The reply in the first answered row, if there is one.
-fn first_reply(rows: &[Row]) -> Result<Option<KeptReply>, Error>
-    ensures { IfOk result (λ found. IsFirst (map reply_in rows.now) found) }
-{
-    match rows.first() {
-        None => Ok(None),
-        Some(row) => Ok(Some(reply_in(row)?)),
+    ghost fits = { IsAny };
+
+    fn read(row: &Row) -> Result<KeptReply, Error> {
+        let ask = bytes_at(row, 0)?;
+        let status = short_at(row, 1)?;
+        let body = bytes_at(row, 2)?;
+        Ok(KeptReply { ask, status, body })
     }
 }
 
@@ -54,7 +48,7 @@ pub fn kept<S: Alter>(
         "SELECT ask, status, body FROM reply WHERE client = ?1 AND number = ?2",
         &[ValueRef::Text(client.bytes()), int(number)],
     )?;
-    first_reply(rows.as_slice())
+    first(rows.as_slice())
 }
 
 // The number that a count(*) answered. SQL's numbers end, and of more rows than that it answers the

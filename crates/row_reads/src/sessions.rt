@@ -5,19 +5,18 @@ ghost use Rattle.sqlite.specs.Held.{state};
 ghost use Rattle.store_data.specs.Cursor.{IsCursor};
 ghost use Rattle.row_reads.specs.CardDecoding.{IsGoodCard, IsSessionAt, cursor_in, good_at};
 ghost use Rattle.row_reads.specs.CardDecoding.{good_in, session_at, session_in};
-ghost use Rattle.row_reads.specs.Decoding.{IsFirst};
 ghost use Rattle.row_reads.specs.Extremes.{IsGreatest};
 ghost use Rattle.row_reads.specs.Reads.{Looks, TellsRows};
 ghost use Rattle.sql_rows.specs.Decoding.{session_state_of_code};
 ghost use Rattle.table_rows.specs.Keys.{is_good_of, is_running_on, is_session};
 ghost use Rattle.table_rows.specs.Tables.{PassesOnce, StoredSession};
 
-use crate::values::{first_id, first_number, name_at, number_at};
+use crate::answered::{Answered, all, first};
+use crate::values::{first_number, name_at, number_at};
 use job_facts::SessionState;
 use sql_base::{int, rows_of};
 use sqlite::types::ValueRef;
 use sqlite::{Alter, Connection, Error, Row};
-use std::alloc::Global;
 use store_data::{Cursor, Name};
 
 /// Where a session stands.
@@ -88,36 +87,27 @@ fn cursor_in(row: &Row) -> Result<Cursor, Error>
     cursor_of(app, segment, offset, block)
 }
 
-// The session in an answered row.
-fn session_in(row: &Row) -> Result<SessionAt, Error>
-    ensures value { IfOk result (λ s. s ≡ session_in row.now) }
-    ensures ranged { IfOk result IsSessionAt }
-{
-    let machine = name_at(row, 0)?;
-    let batch = number_at(row, 1)?;
-    let place = number_at(row, 2)?;
-    let code = number_at(row, 3)?;
-    let stands = session_state(code)?;
-    let words = number_at(row, 4)?;
-    let cursor = cursor_in(row)?;
-    Ok(SessionAt {
-        machine,
-        batch,
-        place,
-        stands,
-        words,
-        cursor,
-    })
-}
+impl Answered for SessionAt {
+    ghost value = { session_in };
 
-// The session in the first answered row, if there is one.
-fn first_session(rows: &[Row]) -> Result<Option<SessionAt>, Error>
-    ensures value { IfOk result (λ found. IsFirst (map session_in rows.now) found) }
-    ensures ranged { IfOk result (λ found. IfSome found IsSessionAt) }
-{
-    match rows.first() {
-        None => Ok(None),
-        Some(row) => Ok(Some(session_in(row)?)),
+    ghost fits = { IsSessionAt };
+
+    fn read(row: &Row) -> Result<SessionAt, Error> {
+        let machine = name_at(row, 0)?;
+        let batch = number_at(row, 1)?;
+        let place = number_at(row, 2)?;
+        let code = number_at(row, 3)?;
+        let stands = session_state(code)?;
+        let words = number_at(row, 4)?;
+        let cursor = cursor_in(row)?;
+        Ok(SessionAt {
+            machine,
+            batch,
+            place,
+            stands,
+            words,
+            cursor,
+        })
     }
 }
 
@@ -138,7 +128,7 @@ pub fn session<S: Alter>(conn: &mut Connection<S>, id: u64) -> Result<Option<Ses
         WHERE id = ?1",
         &[int(id)],
     )?;
-    first_session(rows.as_slice())
+    first(rows.as_slice())
 }
 
 /// The id of the session that runs at a machine.
@@ -160,7 +150,7 @@ pub fn running_session<S: Alter>(
         "SELECT id FROM session WHERE machine = ?1 AND state = 0",
         &[ValueRef::Text(machine.bytes())],
     )?;
-    first_id(rows.as_slice())
+    first(rows.as_slice())
 }
 
 /// The greatest id of a session; 0 where there is no session.
@@ -176,26 +166,16 @@ pub fn last_session<S: Alter>(conn: &mut Connection<S>) -> Result<u64, Error>
     first_number(rows.as_slice())
 }
 
-// The good card in an answered row.
-fn good_in(row: &Row) -> Result<GoodCard, Error>
-    ensures value { IfOk result (λ g. g ≡ good_in row.now) }
-    ensures ranged { IfOk result IsGoodCard }
-{
-    let place = number_at(row, 0)?;
-    let serial = number_at(row, 1)?;
-    Ok(GoodCard { place, serial })
-}
+impl Answered for GoodCard {
+    ghost value = { good_in };
 
-// The good cards in the answered rows.
-fn all_good(alloc: Global, rows: &[Row]) -> Result<Vec<GoodCard>, Error>
-    ensures value { IfOk result (λ all. all.items ≡ map good_in rows.now) }
-    ensures ranged { IfOk result (λ all. All IsGoodCard all.items) }
-{
-    let mut all = Vec::new(alloc);
-    for answered in rows {
-        all.push(good_in(answered)?)?;
+    ghost fits = { IsGoodCard };
+
+    fn read(row: &Row) -> Result<GoodCard, Error> {
+        let place = number_at(row, 0)?;
+        let serial = number_at(row, 1)?;
+        Ok(GoodCard { place, serial })
     }
-    Ok(all)
 }
 
 /// The good cards of the batch with this id, in any order.
@@ -214,5 +194,5 @@ pub fn good_sessions<S: Alter>(conn: &mut Connection<S>, batch: u64) -> Result<V
         &[int(batch)],
     )?;
     let alloc = *rows.allocator();
-    all_good(alloc, rows.as_slice())
+    all(alloc, rows.as_slice())
 }

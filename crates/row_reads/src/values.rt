@@ -1,10 +1,11 @@
 //! The values of an answered row.
-ghost use Rattle.std.specs.Prelude.{◌≡◌, ◌<◌, ◌^◌, length, map, IfOk, IfSome};
+ghost use Rattle.std.specs.Prelude.{◌≡◌, ◌<◌, ◌^◌, length, IfOk};
 ghost use Rattle.sqlite.specs.Order.{column};
 ghost use Rattle.sql_rows.specs.Decoding.{number_in};
-ghost use Rattle.row_reads.specs.Decoding.{IsFirst, blob_in, first_number, has_rows};
+ghost use Rattle.row_reads.specs.Decoding.{IsAny, IsNumber, blob_in, first_number, has_rows};
 ghost use Rattle.row_reads.specs.Decoding.{id_in, name_in, text_in};
 
+use crate::answered::Answered;
 use sqlite::types::ValueRef;
 use sqlite::{Error, Row};
 use store_data::{Bytes, Name};
@@ -65,38 +66,25 @@ pub(crate) fn short_at(row: &Row, at: usize) -> Result<u16, Error>
 
 // ---- answered rows
 
-fn id_in(row: &Row) -> Result<u64, Error>
-    ensures value { IfOk result (λ id. id ≡ id_in row.now) }
-    ensures ranged { IfOk result (λ id. id < 2 ^ 63) }
-{
-    number_at(row, 0)
-}
+// An id is in the first column.
+impl Answered for u64 {
+    ghost value = { id_in };
 
-// The id in the first answered row, if there is one.
-pub(crate) fn first_id(rows: &[Row]) -> Result<Option<u64>, Error>
-    ensures value { IfOk result (λ found. IsFirst (map id_in rows.now) found) }
-    ensures ranged { IfOk result (λ found. IfSome found (λ id. id < 2 ^ 63)) }
-{
-    match rows.first() {
-        None => Ok(None),
-        Some(row) => Ok(Some(id_in(row)?)),
+    ghost fits = { IsNumber };
+
+    fn read(row: &Row) -> Result<u64, Error> {
+        number_at(row, 0)
     }
 }
 
-// The name behind an id.
-fn name_in(row: &Row) -> Result<Name, Error>
-    ensures { IfOk result (λ name. name ≡ name_in row.now) }
-{
-    name_at(row, 1)
-}
+// A name is behind an id.
+impl Answered for Name {
+    ghost value = { name_in };
 
-// The name in the first answered row, if there is one.
-pub(crate) fn first_name(rows: &[Row]) -> Result<Option<Name>, Error>
-    ensures { IfOk result (λ found. IsFirst (map name_in rows.now) found) }
-{
-    match rows.first() {
-        None => Ok(None),
-        Some(row) => Ok(Some(name_in(row)?)),
+    ghost fits = { IsAny };
+
+    fn read(row: &Row) -> Result<Name, Error> {
+        name_at(row, 1)
     }
 }
 

@@ -1,11 +1,9 @@
-use Rattle.std.proofs.Common.{map}
-use Rattle.row_reads.specs.Decoding.{IsFirst, head_in}
+use Rattle.row_reads.specs.Decoding.{head_in}
 use Rattle.row_reads.proofs.BatchAnswers.{batch_head_found}
-use Rattle.row_reads.proofs.Told.{rows_told}
+use Rattle.row_reads.proofs.Told.{first_told}
 use Rattle.row_reads.proofs.batches.batch_head.Goals as goal
 
 pub returns-clause-found : goal.returns-clause-found
 returns-clause-found g c clean =
     let shown = rw c.bytes.ensures.value at (c.in_ok-rows.ensures.shown clean) in
-    rows_told _ _ _ _ _ _ c.as_slice.ensures.value shown.1 c.first_head.result (λ rows found. IsFirst (map head_in rows) found) _ c.first_head.ensures.value
-    (λ t image found is once. batch_head_found c.args.name.now _ _ _ shown.1 t image once found is)
+    first_told head_in _ _ _ _ _ _ c.as_slice.ensures.value shown.1 c.first.result _ c.first.ensures.value (batch_head_found c.args.name.now _ _ _ shown.1)

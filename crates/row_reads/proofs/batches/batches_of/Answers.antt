@@ -1,12 +1,15 @@
-use Rattle.std.proofs.Common.{◌≡◌, map, sym, subst}
+use Rattle.std.proofs.Common.{map}
+use Rattle.std.specs.Prelude.{filter}
 use Rattle.std.specs.List.Sorted.{IsPermutation}
+use Rattle.table_rows.specs.Keys.{is_batch_for}
 use Rattle.row_reads.specs.Decoding.{head_in}
+use Rattle.row_reads.specs.Telling.{head_of}
 use Rattle.row_reads.proofs.BatchAnswers.{batches_of_found}
-use Rattle.row_reads.proofs.Told.{rows_told}
+use Rattle.row_reads.proofs.Told.{value_told}
 use Rattle.row_reads.proofs.batches.batches_of.Goals as goal
 
 pub returns-clause-found : goal.returns-clause-found
 returns-clause-found g c clean =
     let shown = rw c.bytes.ensures.value at (c.in_ok-rows.ensures.shown clean) in
-    rows_told _ _ _ _ _ _ c.as_slice.ensures.value shown.1 c.heads_in.result (λ rows heads. heads.items ≡ map head_in rows) _ c.heads_in.ensures
-    (λ t image heads is. subst (IsPermutation _) (sym is) (batches_of_found c.args.product.now _ _ _ shown.1 t image))
+    value_told (λ v. v.items) (map head_in) _ _ _ _ _ _ c.as_slice.ensures.value shown.1 c.all.result
+    (λ t. IsPermutation (map head_of (filter (is_batch_for c.args.product.now) t.batches))) c.all.ensures.value (batches_of_found c.args.product.now _ _ _ shown.1)

@@ -1,14 +1,14 @@
-use Rattle.std.proofs.Common.{◌≡◌, map, sym, subst}
+use Rattle.std.proofs.Common.{map}
 use Rattle.std.specs.Prelude.{filter}
-use Rattle.row_reads.specs.CardDecoding.{grouping_at, grouping_in, line_of}
 use Rattle.table_rows.specs.Keys.{is_grouping_at}
+use Rattle.row_reads.specs.CardDecoding.{grouping_at, grouping_in, line_of}
 use Rattle.row_reads.specs.Extremes.{AreSorted}
 use Rattle.row_reads.proofs.ManyAnswers.{groupings_found}
-use Rattle.row_reads.proofs.Told.{rows_told}
+use Rattle.row_reads.proofs.Told.{value_told}
 use Rattle.row_reads.proofs.groupings.groupings_of.Goals as goal
 
 pub returns-clause-found : goal.returns-clause-found
 returns-clause-found g c clean =
     let shown = rw (c.int.ensures, c.int-2.ensures) at (c.in_ok-rows.ensures.shown clean) in
-    rows_told _ _ _ _ _ _ c.as_slice.ensures.value shown.1 c.all_groupings.result (λ rows all. all.items ≡ map grouping_in rows) _ c.all_groupings.ensures.value
-    (λ t image all is. subst (AreSorted line_of (map grouping_at (filter (is_grouping_at c.args.batch c.args.place) t.groupings))) (sym is) (groupings_found c.args.batch c.args.place _ _ _ shown.1 t image))
+    value_told (λ v. v.items) (map grouping_in) _ _ _ _ _ _ c.as_slice.ensures.value shown.1 c.all.result
+    (λ t. AreSorted line_of (map grouping_at (filter (is_grouping_at c.args.batch c.args.place) t.groupings))) c.all.ensures.value (groupings_found c.args.batch c.args.place _ _ _ shown.1)

@@ -1,12 +1,15 @@
-use Rattle.std.proofs.Common.{◌≡◌, map, sym, subst}
+use Rattle.std.proofs.Common.{map}
+use Rattle.std.specs.Prelude.{filter}
 use Rattle.std.specs.List.Sorted.{IsPermutation}
+use Rattle.table_rows.specs.Keys.{is_lot_for}
 use Rattle.row_reads.specs.Decoding.{lot_row_in}
+use Rattle.row_reads.specs.Telling.{lot_row_of}
 use Rattle.row_reads.proofs.LotAnswers.{lots_of_found}
-use Rattle.row_reads.proofs.Told.{rows_told}
+use Rattle.row_reads.proofs.Told.{value_told}
 use Rattle.row_reads.proofs.lots.lots_of.Goals as goal
 
 pub returns-clause-found : goal.returns-clause-found
 returns-clause-found g c clean =
     let shown = rw c.bytes.ensures.value at (c.in_ok-rows.ensures.shown clean) in
-    rows_told _ _ _ _ _ _ c.as_slice.ensures.value shown.1 c.lot_rows_in.result (λ rows lots. lots.items ≡ map lot_row_in rows) _ c.lot_rows_in.ensures
-    (λ t image lots is. subst (IsPermutation _) (sym is) (lots_of_found c.args.product.now _ _ _ shown.1 t image))
+    value_told (λ v. v.items) (map lot_row_in) _ _ _ _ _ _ c.as_slice.ensures.value shown.1 c.all.result
+    (λ t. IsPermutation (map lot_row_of (filter (is_lot_for c.args.product.now) t.lots))) c.all.ensures.value (lots_of_found c.args.product.now _ _ _ shown.1)

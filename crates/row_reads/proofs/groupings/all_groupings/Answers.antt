@@ -1,8 +1,0 @@
-use Rattle.row_reads.specs.CardDecoding.{IsGroupingAt, grouping_in}
-use Rattle.row_reads.proofs.Walking.{one_further}
-use Rattle.row_reads.proofs.groupings.all_groupings.Goals as goal
-
-pub loop-answered-preserved : goal.loop-answered-preserved
-loop-answered-preserved c =
-    one_further grouping_in IsGroupingAt c.args.rows.now c.loop-answered.answered-index c.answered-item.result c.loop-answered-test.true c.answered-item.is
-    c.in_ok-grouping_in.field-0 c.in_ok-grouping_in.ensures.value c.in_ok-grouping_in.ensures.ranged c.loop-answered.all.items _ c.loop-answered.invariant c.in_ok-push.ensures.items
