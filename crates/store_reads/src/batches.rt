@@ -1,31 +1,19 @@
 //! Batches are read.
-ghost use Rattle.std.specs.Prelude.{false, option_map, ◌≡◌};
+ghost use Rattle.std.specs.Prelude.{false, ◌≡◌};
 ghost use Rattle.sqlite.specs.Held.{state};
 ghost use Rattle.job_facts.specs.Accounts.{batch_totals};
 ghost use Rattle.job_facts.specs.Rows.{batch_has, batch_row_of, batch_size_of};
 ghost use Rattle.job_facts.specs.States.{is_batch_finished};
 ghost use Rattle.row_reads.specs.Reads.{Looks};
-ghost use Rattle.store_reads.specs.Heads.{is_over_in, row_of, totals_in};
+ghost use Rattle.store_reads.specs.Heads.{is_over_in, totals_in};
 ghost use Rattle.store_reads.specs.Tells.{Tells};
 
 use job_facts::{BatchRow, BatchSize, BatchTotals};
-use row_reads::{BatchHead, BatchTold, batch_head, batch_told, grouping_count};
+use row_reads::{BatchHead, batch_head, batch_told, grouping_count};
 use sqlite::{Alter, Connection, Error};
 use store_data::Name;
 
 // ---- what is told of what is read
-
-fn row_of(found: Option<BatchTold>) -> Option<BatchRow>
-    ensures { result ≡ option_map row_of found }
-{
-    match found {
-        None => None,
-        Some(told) => Some(BatchRow {
-            product: told.product,
-            is_closed: told.is_closed,
-        }),
-    }
-}
 
 fn totals_of(found: Option<BatchHead>) -> BatchTotals
     ensures { result ≡ totals_in found }
@@ -69,7 +57,10 @@ pub fn batch<S: Alter>(conn: &mut Connection<S>, name: &Name) -> Result<Option<B
     row_laws::batches_by_name();
     row_laws::batches_by_rows();
     let found = batch_told(conn, name)?;
-    Ok(row_of(found))
+    Ok(found.map(|told| BatchRow {
+        product: told.product,
+        is_closed: told.is_closed,
+    }))
 }
 
 // The numbers of a size go up to it.

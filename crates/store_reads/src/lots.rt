@@ -1,25 +1,14 @@
 //! Lots and blanks are read.
-ghost use Rattle.std.specs.Prelude.{false, option_map, ◌≡◌};
+ghost use Rattle.std.specs.Prelude.{false, ◌≡◌};
 ghost use Rattle.sqlite.specs.Held.{state};
 ghost use Rattle.job_facts.specs.States.{any_overlaps, is_charged, lot_named, lot_of};
-ghost use Rattle.row_reads.specs.declared.lots.LotRow.{LotRow as LotRowValue};
 ghost use Rattle.row_reads.specs.Reads.{Looks};
 ghost use Rattle.store_reads.specs.Tells.{Tells};
 
 use crate::numbers::END;
 use job_facts::Lot;
-use row_reads::LotRow;
 use sqlite::{Alter, Connection, Error};
 use store_data::Name;
-
-fn lot_in(found: Option<LotRow>) -> Option<Lot>
-    ensures { result ≡ option_map (λ (row : LotRowValue). row.lot) found }
-{
-    match found {
-        None => None,
-        Some(row) => Some(row.lot),
-    }
-}
 
 /// The lot of this name.
 pub fn lot<S: Alter>(conn: &mut Connection<S>, name: &Name) -> Result<Option<Lot>, Error>
@@ -31,7 +20,7 @@ pub fn lot<S: Alter>(conn: &mut Connection<S>, name: &Name) -> Result<Option<Lot
 {
     row_laws::lots_by_name();
     let found = row_reads::lot(conn, name)?;
-    Ok(lot_in(found))
+    Ok(found.map(|row| row.lot))
 }
 
 /// The lot in which a blank lies.

@@ -1,33 +1,14 @@
 //! Records are read.
-ghost use Rattle.std.specs.Prelude.{false, option_map, ◌≡◌};
+ghost use Rattle.std.specs.Prelude.{false, ◌≡◌};
 ghost use Rattle.sqlite.specs.Held.{state};
 ghost use Rattle.job_facts.specs.States.{first_waiting, record_state_of};
-ghost use Rattle.row_reads.specs.declared.records.RecordAt.{RecordAt as RecordAtValue};
 ghost use Rattle.row_reads.specs.Reads.{Looks};
 ghost use Rattle.store_reads.specs.Tells.{Tells};
 
 use job_facts::RecordState;
-use row_reads::{RecordAt, batch_id, record_named};
+use row_reads::{batch_id, record_named};
 use sqlite::{Alter, Connection, Error};
 use store_data::Name;
-
-fn state_of(found: Option<RecordAt>) -> Option<RecordState>
-    ensures { result ≡ option_map (λ (r : RecordAtValue). r.stands) found }
-{
-    match found {
-        None => None,
-        Some(r) => Some(r.stands),
-    }
-}
-
-fn name_of(found: Option<RecordAt>) -> Option<Name>
-    ensures { result ≡ option_map (λ (r : RecordAtValue). r.name) found }
-{
-    match found {
-        None => None,
-        Some(r) => Some(r.name),
-    }
-}
 
 /// The state of a record, if the batch has it.
 pub fn record_state<S: Alter>(
@@ -47,7 +28,7 @@ pub fn record_state<S: Alter>(
         return Ok(None);
     };
     let found = record_named(conn, id, rec)?;
-    Ok(state_of(found))
+    Ok(found.map(|card| card.stands))
 }
 
 /// The first waiting record of a batch, in file order.
@@ -67,5 +48,5 @@ pub fn first_waiting<S: Alter>(
         return Ok(None);
     };
     let found = row_reads::first_waiting(conn, id)?;
-    Ok(name_of(found))
+    Ok(found.map(|card| card.name))
 }

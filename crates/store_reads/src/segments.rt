@@ -2,7 +2,6 @@
 ghost use Rattle.std.specs.Prelude.{IfOk, IfSome, false, option_map, ◌≡◌, ◌<◌, ◌≤◌, ◌^◌, All};
 ghost use Rattle.sqlite.specs.Held.{state};
 ghost use Rattle.store_data.specs.Sequence.{IsRow};
-ghost use Rattle.store_data.specs.declared.row.Product.{Product as ProductValue};
 ghost use Rattle.job_facts.specs.declared.rows.SegmentRow.{SegmentRow as SegmentRowValue};
 ghost use Rattle.job_facts.specs.Rows.{segment_row_of};
 ghost use Rattle.row_reads.specs.Reads.{Looks};
@@ -22,16 +21,6 @@ pub(crate) struct BatchProduct {
     pub(crate) product: Product,
 }
 
-fn with_id(id: u64, found: Option<Product>) -> Option<BatchProduct>
-    ensures { result ≡ option_map
-        (λ (p : ProductValue). record { id = id; product = p }) found }
-{
-    match found {
-        None => None,
-        Some(product) => Some(BatchProduct { id, product }),
-    }
-}
-
 // The id of the batch of this name, and its product.
 fn product_in<S: Alter>(
     conn: &mut Connection<S>,
@@ -49,7 +38,10 @@ fn product_in<S: Alter>(
         return Ok(None);
     };
     let found = row_reads::product(conn, &told.product)?;
-    Ok(with_id(told.id, found))
+    Ok(found.map(|product| BatchProduct {
+        id: told.id,
+        product,
+    }))
 }
 
 // The rows of the record of this name in the batch with this id, if it is there.

@@ -1,4 +1,4 @@
-use Rattle.std.proofs.Common.{sym, ap, ◌∙◌}
+use Rattle.std.proofs.Common.{rules, sym, ap, ◌∙◌}
 use Rattle.std.specs.Prelude.{find, option_map}
 use Rattle.sqlite.specs.Held.{state}
 use Rattle.row_reads.specs.Telling.{told_of}
@@ -14,5 +14,5 @@ returns-clause-value g c =
     let name = c.args.name.now in
     shown (state g.S.Store c.args.conn.now) (state g.S.Store c.batch_told.new.conn) _ _ c.in_ok-found.ensures.found
     (λ d sound is.
-    c.row_of.ensures ∙ ap (option_map row_of) (is (c.batches_by_name.ensures.once d.facts name sound.facts)) ∙ option_map-map row_of told_of (find (is_batch_named name) (stored_batches d.facts))
+    search rules ∙ ap (option_map row_of) (is (c.batches_by_name.ensures.once d.facts name sound.facts)) ∙ option_map-map row_of told_of (find (is_batch_named name) (stored_batches d.facts))
     ∙ sym (c.batches_by_rows.ensures.row d.facts name))

@@ -1,4 +1,4 @@
-use Rattle.std.proofs.Common.{sym, ap, ◌∙◌}
+use Rattle.std.proofs.Common.{rules, sym, ap, ◌∙◌}
 use Rattle.std.specs.Prelude.{option_map}
 use Rattle.sqlite.specs.Held.{state}
 use Rattle.row_reads.specs.declared.lots.LotRow.{LotRow}
@@ -12,4 +12,4 @@ returns-clause-value g c =
     let named = c.lots_by_name.ensures in
     let name = c.args.name.now in
     shown (state g.S.Store c.args.conn.now) (state g.S.Store c.lot.new.conn) _ _ c.in_ok-found.ensures.found
-    (λ d sound is. c.lot_in.ensures ∙ ap (option_map (λ (row : LotRow). row.lot)) (is (named.once d.facts name sound.facts)) ∙ option_map-map (λ (row : LotRow). row.lot) lot_row_of _ ∙ sym (named.lot d.facts name))
+    (λ d sound is. search rules ∙ ap (option_map (λ (row : LotRow). row.lot)) (is (named.once d.facts name sound.facts)) ∙ option_map-map (λ (row : LotRow). row.lot) lot_row_of _ ∙ sym (named.lot d.facts name))

@@ -1,4 +1,4 @@
-use Rattle.std.proofs.Common.{sym, ◌∙◌}
+use Rattle.std.proofs.Common.{rules, sym, ◌∙◌}
 use Rattle.sqlite.specs.Held.{state}
 use Rattle.image_laws.specs.Image.{stored_batches, stored_records}
 use Rattle.store_reads.proofs.Telling.{shown, shown_then}
@@ -23,5 +23,5 @@ returns-clause-value g c =
     (shown old mid _ _ (rw c.in-Some.is at c.in_ok-id.ensures.found) (λ d sound is. is (c.batches_by_name.ensures.once d.facts b sound.facts)))
     (shown mid new _ _ c.in_ok-found.ensures.found (λ d sound is. is))
     (λ d sound one two.
-    c.name_of.ensures ∙ waiting_told (stored_batches d.facts) (stored_records d.facts) b c.in-Some.id one (c.records_of_batches.ensures.waiting_rising d.facts c.in-Some.id) c.in_ok-found.found two
+    search rules ∙ waiting_told (stored_batches d.facts) (stored_records d.facts) b c.in-Some.id one (c.records_of_batches.ensures.waiting_rising d.facts c.in-Some.id) c.in_ok-found.found two
     ∙ sym (c.records_of_batches.ensures.waiting d.facts b))

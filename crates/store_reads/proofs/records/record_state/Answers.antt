@@ -1,4 +1,4 @@
-use Rattle.std.proofs.Common.{sym, ◌∙◌}
+use Rattle.std.proofs.Common.{rules, sym, ◌∙◌}
 use Rattle.sqlite.specs.Held.{state}
 use Rattle.image_laws.specs.Image.{stored_batches, stored_records}
 use Rattle.store_reads.proofs.Found.{no_batch_of, state_told}
@@ -24,5 +24,5 @@ returns-clause-value g c =
     (shown old mid _ _ (rw c.in-Some.is at c.in_ok-id.ensures.found) (λ d sound is. is (c.batches_by_name.ensures.once d.facts b sound.facts)))
     (shown mid new _ _ c.in_ok-found.ensures.found (λ d sound is. is (c.records_by_name.ensures.once d.facts c.in-Some.id r)))
     (λ d sound one two.
-    c.state_of.ensures ∙ state_told (stored_batches d.facts) (stored_records d.facts) b r c.in-Some.id one c.in_ok-found.found two
+    search rules ∙ state_told (stored_batches d.facts) (stored_records d.facts) b r c.in-Some.id one c.in_ok-found.found two
     ∙ sym (c.records_by_name.ensures.state d.facts b r))

@@ -1,4 +1,4 @@
-use Rattle.std.proofs.Common.{◌∙◌}
+use Rattle.std.proofs.Common.{rules, ◌∙◌}
 use Rattle.sqlite.specs.Held.{state}
 use Rattle.store_reads.proofs.SegmentRows.{no_product, product_told}
 use Rattle.store_reads.proofs.Telling.{shown, shown_then}
@@ -19,4 +19,4 @@ returns-clause-value g c =
     shown_then old mid new _ _ _ c.batch_told.ensures.looks c.product.ensures.looks
     (shown old mid _ _ (rw c.in-Some.is at c.in_ok-told.ensures.found) (λ d sound is. is (c.batches_by_name.ensures.once d.facts b sound.facts)))
     (shown mid new _ _ c.in_ok-found.ensures.found (λ d sound is. is sound.facts.named.products.once))
-    (λ d sound one two. c.with_id.ensures ∙ product_told d.facts b c.in-Some.told one c.in_ok-found.found two)
+    (λ d sound one two. search rules ∙ product_told d.facts b c.in-Some.told one c.in_ok-found.found two)
