@@ -156,9 +156,10 @@ pub fn before<S: Alter>(conn: &mut Connection<S>, change: &Change<'_>) -> Result
     ensures idle { conn.new.in_transaction ≡ false }
 {
     match *change {
-        Change::Nothing => Ok(Before::Nothing),
-        Change::AddsProduct { .. } => Ok(Before::Nothing),
-        Change::AddsLot { .. } => Ok(Before::Nothing),
+        Change::Nothing
+        | Change::AddsProduct { .. }
+        | Change::AddsLot { .. }
+        | Change::Closes { .. } => Ok(Before::Nothing),
         Change::AddsBatch { product, .. } => {
             let (id, product) = import(conn, &product)?;
             Ok(Before::Import { id, product })
@@ -188,6 +189,5 @@ pub fn before<S: Alter>(conn: &mut Connection<S>, change: &Change<'_>) -> Result
             let place = place_of(conn, &batch, &rec)?;
             Ok(Before::OfRecord { place })
         }
-        Change::Closes { .. } => Ok(Before::Nothing),
     }
 }
