@@ -54,6 +54,13 @@ fn sessions_of<'a, 'b>(by_record: &'b [SessionRef<'a>], batch: &StoredBatch) -> 
     range_of(by_record, batch.id)
 }
 
+// Whether these are the rows of the records of these names.
+fn has_records(batch: &StoredBatch, records: &[StoredRecord], names: &[Name]) -> bool
+    ensures { IsTrue result ↔ (map key_of records.now ≡ keys_of batch.now.id names.now) }
+{
+    are_records(records, batch.id, names)
+}
+
 // The rows of a batch's groupings.
 fn groupings_of<'a>(tables: &'a Tables, batch: &StoredBatch) -> &'a [StoredGrouping]
     requires { AreReady tables.now }
@@ -151,7 +158,7 @@ fn has_file(
 {
     let names = names_of(alloc, &rows)?;
     let records = records_of(tables, batch);
-    if !are_records(records, batch.id, &names) {
+    if !has_records(batch, records, &names) {
         return Ok(false);
     }
     let groupings = groupings_of(tables, batch);

@@ -19,7 +19,8 @@ use Rattle.serde_json.specs.Data.{boolean}
 use Rattle.arrivals.proofs.Escapes.{escape_plain, name_plain}
 use Rattle.text_io.specs.Inputs.{most_input}
 use Rattle.http_requests.specs.Members.{passing, name_at, text_at}
-use Rattle.http_requests.specs.Requests.{abort_in, answer_in, call_by_word, call_in, call_of_value, close_in, discard_in, flag_at, is_lot, is_within, is_word, lot_in, number_within, open_in, product_in, release_in, remake_in, request_by_word, withdraw_in, word_in, with_two, with_three, with_four}
+use Rattle.text_io.specs.Numbers.{is_word}
+use Rattle.http_requests.specs.Requests.{abort_in, answer_in, call_by_word, call_in, call_of_value, close_in, discard_in, flag_at, is_lot, is_within, lot_in, number_within, open_in, product_in, release_in, remake_in, request_by_word, withdraw_in, word_in, with_two, with_three, with_four}
 use Rattle.http_requests.proofs.PostLemmas.{decimal_is_short, name_is_short}
 use Rattle.http_requests.proofs.RequestLemmas.{value_in-read}
 use Rattle.wire.specs.Sending.{AreNames, IsNoImport, IsSendable, body_of, value_of, word_text}

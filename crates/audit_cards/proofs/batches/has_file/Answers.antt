@@ -8,11 +8,11 @@ use Rattle.audit_cards.proofs.BatchLemmas.{all_placed, audited_file, counts_told
 use Rattle.audit_order.proofs.Told.{refused, told_as}
 use Rattle.audit_cards.proofs.batches.has_file.Goals as goal
 
-pub returns-then-not-are_records : goal.returns-then-not-are_records
-returns-then-not-are_records c =
+pub returns-then-not-has_records : goal.returns-then-not-has_records
+returns-then-not-has_records c =
     let t = c.args.tables.now in
     let b = c.args.batch.now in
-    refused (λ a. false≢true (sym c.if-not-are_records.true ∙ c.are_records.ensures.1
+    refused (λ a. false≢true (sym c.if-not-has_records.true ∙ c.has_records.ensures.1
     (ap (map key_of) c.records_of-records.ensures ∙ a.records ∙ keys_here t b c.args.product.now c.requires.product c.args.rows.items c.requires.file
     ∙ ap (keys_of b.id) (sym (c.deref-2.ensures.value ∙ c.in_ok-names.ensures ∙ ap names_in c.deref.ensures.value)))))
 
@@ -36,14 +36,14 @@ are_placed-requires c =
 
 pub returns-then-not-are_placed : goal.returns-then-not-are_placed
 returns-then-not-are_placed c =
-    let keys = c.are_records.ensures.0 c.if-not-are_records.false ∙ ap (keys_of c.args.batch.now.id) (c.deref-2.ensures.value ∙ c.in_ok-names.ensures ∙ ap names_in c.deref.ensures.value) in
+    let keys = c.has_records.ensures.0 c.if-not-has_records.false ∙ ap (keys_of c.args.batch.now.id) (c.deref-2.ensures.value ∙ c.in_ok-names.ensures ∙ ap names_in c.deref.ensures.value) in
     refused (λ a. false≢true (sym c.if-not-are_placed.true ∙ c.are_placed.ensures.1
     (all_placed c.args.tables.now c.args.batch.now c.args.product.now c.args.rows.items c.records_of-records.result.now c.args.by_record.now c.sessions_of-sessions.result.now
     c.requires.batch c.requires.product c.requires.ranged c.requires.file c.records_of-records.ensures keys c.requires.sessions c.sessions_of-sessions.ensures a)))
 
 pub are_audited-requires-clause-file : goal.are_audited-requires-clause-file
 are_audited-requires-clause-file c =
-    let keys = c.are_records.ensures.0 c.if-not-are_records.false ∙ ap (keys_of c.args.batch.now.id) (c.deref-2.ensures.value ∙ c.in_ok-names.ensures ∙ ap names_in c.deref.ensures.value) in
+    let keys = c.has_records.ensures.0 c.if-not-has_records.false ∙ ap (keys_of c.args.batch.now.id) (c.deref-2.ensures.value ∙ c.in_ok-names.ensures ∙ ap names_in c.deref.ensures.value) in
     let parts = file_parts c.args.tables.now c.args.batch.now c.args.product.now c.args.rows.items c.records_of-records.result.now c.args.by_record.now c.sessions_of-sessions.result.now
     c.requires.batch c.requires.product c.requires.ranged c.requires.file c.records_of-records.ensures keys c.requires.sessions c.sessions_of-sessions.ensures in
     subst (λ (gs : List (List Row)). HasFile c.args.tables.now c.args.batch.now c.args.product.now gs c.records_of-records.result.now c.sessions_of-sessions.result.now)
@@ -57,7 +57,7 @@ returns c =
     let rows = c.args.rows.items in
     let records = c.records_of-records.result.now in
     let own = c.sessions_of-sessions.result.now in
-    let keys = c.are_records.ensures.0 c.if-not-are_records.false ∙ ap (keys_of b.id) (c.deref-2.ensures.value ∙ c.in_ok-names.ensures ∙ ap names_in c.deref.ensures.value) in
+    let keys = c.has_records.ensures.0 c.if-not-has_records.false ∙ ap (keys_of b.id) (c.deref-2.ensures.value ∙ c.in_ok-names.ensures ∙ ap names_in c.deref.ensures.value) in
     let parts = file_parts t b p rows records c.args.by_record.now own c.requires.batch c.requires.product c.requires.ranged c.requires.file c.records_of-records.ensures keys c.requires.sessions c.sessions_of-sessions.ensures in
     let read = parts_file t b p rows records c.args.by_record.now own c.requires.batch c.requires.product c.requires.ranged c.requires.file c.records_of-records.ensures keys c.requires.sessions c.sessions_of-sessions.ensures in
     let same = own_same t.sessions c.args.by_record.now c.requires.sessions b.id own c.sessions_of-sessions.ensures in
