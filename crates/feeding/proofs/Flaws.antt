@@ -8,10 +8,8 @@ use Rattle.std.specs.Char.{is_ascii_digit, is_ascii_hexdigit}
 use Rattle.std.specs.Str.Parse.{digits_value}
 use Rattle.std.proofs.lemmas.Bool.{and_left, and_right, cond_both, eqb-true, or_cases}
 use Rattle.std.proofs.lemmas.Slice.Eq.{bytes_eq-Decides}
-use Rattle.http_requests.specs.Asks.{number_in}
-use Rattle.text_io.specs.Numbers.{is_word}
+use Rattle.text_io.specs.Numbers.{is_word, number_in, number_within, status_word, within}
 use Rattle.text_io.specs.Lines.{words}
-use Rattle.text_io.specs.Numbers.{number_within, status_word, within}
 use Rattle.feeding.specs.declared.flaw.Flaw.{Flaw}
 use Rattle.feeding.specs.declared.flaw.Flaw.TheVariants.{Empty, EndsInCr, Space, Serial, Word}
 use Rattle.feeding.specs.Cards.{Card, all_of, card_by, card_of, new_card}
