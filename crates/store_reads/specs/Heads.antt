@@ -1,5 +1,5 @@
 -- What is told of a batch by what is read of it without its bytes.
-use Rattle.std.specs.Prelude.{◌==◌, ◌&&◌, Bool, true, Option, Some, None}
+use Rattle.std.specs.Prelude.{◌==◌, ◌&&◌, Bool, Option, Some, None}
 use Rattle.job_facts.specs.declared.rows.BatchRow.{BatchRow}
 use Rattle.job_facts.specs.declared.rows.BatchTotals.{BatchTotals}
 use Rattle.row_reads.specs.declared.batches.BatchHead.{BatchHead}
@@ -15,6 +15,5 @@ totals_in None = no_totals
 totals_in (Some h) = h.totals
 
 -- none waits, runs or failed
-abbrev pub is_over_in : Option BatchHead → Bool
-is_over_in None = true
-is_over_in (Some h) = (h.totals.waiting == 0) && ((h.totals.running == 0) && (h.totals.failed == 0))
+abbrev pub is_over : BatchTotals → Bool
+is_over totals = (totals.waiting == 0) && ((totals.running == 0) && (totals.failed == 0))

@@ -5,7 +5,7 @@ ghost use Rattle.job_facts.specs.Accounts.{batch_totals};
 ghost use Rattle.job_facts.specs.Rows.{batch_has, batch_row_of, batch_size_of};
 ghost use Rattle.job_facts.specs.States.{is_batch_finished};
 ghost use Rattle.row_reads.specs.Reads.{Looks};
-ghost use Rattle.store_reads.specs.Heads.{is_over_in, totals_in};
+ghost use Rattle.store_reads.specs.Heads.{is_over, totals_in};
 ghost use Rattle.store_reads.specs.Tells.{Tells};
 
 use job_facts::{BatchRow, BatchSize, BatchTotals};
@@ -33,15 +33,10 @@ fn totals_of(found: Option<BatchHead>) -> BatchTotals
     }
 }
 
-fn is_over(found: Option<BatchHead>) -> bool
-    ensures { result ≡ is_over_in found }
+fn is_over(totals: BatchTotals) -> bool
+    ensures { result ≡ is_over totals }
 {
-    match found {
-        None => true,
-        Some(head) => {
-            head.totals.waiting == 0 && head.totals.running == 0 && head.totals.failed == 0
-        }
-    }
+    totals.waiting == 0 && totals.running == 0 && totals.failed == 0
 }
 
 // ---- batches
@@ -112,10 +107,9 @@ pub fn is_finished<S: Alter>(conn: &mut Connection<S>, batch: &Name) -> Result<b
     ensures looks { Looks (state S.Store conn.old) (state S.Store conn.new) }
     ensures idle { conn.new.in_transaction ≡ false }
 {
-    row_laws::batches_by_name();
     row_laws::totals_by_rows();
-    let found = batch_head(conn, batch)?;
-    Ok(is_over(found))
+    let totals = batch_totals(conn, batch)?;
+    Ok(is_over(totals))
 }
 
 /// How a batch stands.

@@ -1,23 +1,22 @@
 use Rattle.std.proofs.Common.{◌≡◌, Option, Some, None, refl, sym, ap, ◌∙◌}
-use Rattle.std.specs.Prelude.{find, option_map}
+use Rattle.std.specs.Prelude.{find}
 use Rattle.sqlite.specs.Held.{state}
-use Rattle.row_reads.specs.Telling.{head_of}
 use Rattle.table_rows.specs.Keys.{is_batch_named}
 use Rattle.table_rows.specs.Tables.{StoredBatch}
 use Rattle.row_laws.specs.Telling as rows
 use Rattle.image_laws.specs.Image.{stored_batches}
-use Rattle.store_reads.specs.Heads.{is_over_in}
-use Rattle.store_reads.proofs.Telling.{shown}
+use Rattle.store_reads.specs.Heads.{is_over}
+use Rattle.store_reads.proofs.Told.{shows_as}
 use Rattle.store_reads.proofs.batches.is_finished.Goals as goal
 
-by_row : (o : Option StoredBatch) → is_over_in (option_map head_of o) ≡ rows.is_over_in o
+by_row : (o : Option StoredBatch) → is_over (rows.totals_in o) ≡ rows.is_over_in o
 by_row None = refl
 by_row (Some b) = refl
 
 pub returns-clause-value : goal.returns-clause-value
 returns-clause-value g c =
     let name = c.args.batch.now in
-    shown (state g.S.Store c.args.conn.now) (state g.S.Store c.batch_head.new.conn) _ _ c.in_ok-found.ensures.found
+    shows_as (state g.S.Store c.args.conn.now) (state g.S.Store c.batch_totals.new.conn) _ _ c.in_ok-totals.ensures.value
     (λ d sound is.
-    c.is_over.ensures ∙ ap is_over_in (is (c.batches_by_name.ensures.once d.facts name sound.facts)) ∙ by_row (find (is_batch_named name) (stored_batches d.facts))
+    c.is_over.ensures ∙ ap is_over (is ∙ c.totals_by_rows.ensures.totals d.facts name sound.facts) ∙ by_row (find (is_batch_named name) (stored_batches d.facts))
     ∙ sym (c.totals_by_rows.ensures.finished d.facts name sound.facts))
