@@ -115,10 +115,18 @@ fn check(rt: &impl Abort, alloc: Global, machine: Name, case: &Case) {
     }
 }
 
+// The same of each of these.
+fn check_each(rt: &impl Abort, alloc: Global, cases: &[Case]) -> Result<(), Fail> {
+    let machine = name("m1")?;
+    for case in cases {
+        check(rt, alloc, machine, case);
+    }
+    Ok(())
+}
+
 // The replies of these tests, by what comes to the opening, whose number is 10000003.
 #[test]
 fn a_refused_opening_has_its_number_and_code(rt: HostRuntime) -> Result<(), Fail> {
-    let (alloc, machine) = (rt.alloc(), name("m1")?);
     let cases = [
         Case {
             list: b"1000\n",
@@ -158,10 +166,7 @@ fn a_refused_opening_has_its_number_and_code(rt: HostRuntime) -> Result<(), Fail
             events: b"rejected serial=1000 number=10000003 code=56 name=batch-unknown\nrejected serial=1001 number=10000004 code=60 name=blank-used\n",
         },
     ];
-    for case in &cases {
-        check(&rt, alloc, machine, case);
-    }
-    Ok(())
+    check_each(&rt, rt.alloc(), &cases)
 }
 
 #[test]
@@ -202,7 +207,6 @@ fn a_spoiled_card_has_its_cause(rt: HostRuntime) -> Result<(), Fail> {
 
 #[test]
 fn a_try_that_changes_nothing_is_noticed(rt: HostRuntime) -> Result<(), Fail> {
-    let (alloc, machine) = (rt.alloc(), name("m1")?);
     let cases = [
         Case {
             list: b"",
@@ -236,16 +240,12 @@ fn a_try_that_changes_nothing_is_noticed(rt: HostRuntime) -> Result<(), Fail> {
             events: b"again number=10000001 tries=1 reply=\"HTTP/1.1 409 Conflict\"\n",
         },
     ];
-    for case in &cases {
-        check(&rt, alloc, machine, case);
-    }
-    Ok(())
+    check_each(&rt, rt.alloc(), &cases)
 }
 
 // What someone else sends is escaped, and no more than 100 bytes of it are written.
 #[test]
 fn a_first_line_is_escaped_and_short(rt: HostRuntime) -> Result<(), Fail> {
-    let (alloc, machine) = (rt.alloc(), name("m1")?);
     let cases = [
         Case {
             list: b"",
@@ -282,10 +282,7 @@ fn a_first_line_is_escaped_and_short(rt: HostRuntime) -> Result<(), Fail> {
             events: b"again number=10000001 tries=1 reply=\"0123456789012345678901234567890123456789012345678901234567890123456789012345678901234567890123456789\"\n",
         },
     ];
-    for case in &cases {
-        check(&rt, alloc, machine, case);
-    }
-    Ok(())
+    check_each(&rt, rt.alloc(), &cases)
 }
 
 // Lists whose second line is bad, behind a card that gets good, and the event line of what is wrong with it.
