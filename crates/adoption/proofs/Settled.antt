@@ -1,5 +1,5 @@
 -- Tables that stay as they are, or are made anew.
-use Rattle.std.proofs.Common.{◌≡◌, ◌∙◌, IsTrue, inl, inr, refl, sym, ap, subst, arith}
+use Rattle.std.proofs.Common.{◌≡◌, ◌∙◌, IsTrue, Result, Ok, Err, OnOk, inl, inr, refl, sym, ap, subst, arith}
 use Rattle.sqlite.specs.Effect.{Database}
 use Rattle.sqlite.specs.Held.{Held, state}
 use Rattle.sqlite.specs.State.{HasCleanDisk, IsLive, State, Survives}
@@ -55,8 +55,9 @@ module _ (v : Version) (t : Tables) (old mid new : State) (kept : HasCleanDisk m
   turned : HasCleanDisk mid → IsTrue mid.is_open → (db : Database) → Remakes v t mid.now db → Settles v t old.now db
   turned clean shown db made held = made (live shown).0 (subst (λ (d : Database). HoldsRows v t d) (sym ((kept clean).now_is shown)) held).just
 
-  pub remade : HasCleanDisk mid → Ends (Remakes v t) mid new → Comes (Settles v t) old new
-  remade clean ends = record {
+  pub remade : {E : Type 0} (r : Result (Unit {0}) E) → HasCleanDisk mid → OnOk r (Ends (Remakes v t) mid new) → OnOk r (Comes (Settles v t) old new)
+  remade (Err e) clean ends = tt
+  remade (Ok u) clean ends = record {
     db = new.now;
     made = turned clean ends.was_open new.now ends.made;
     shown = λ _. refl;

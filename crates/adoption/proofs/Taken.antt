@@ -1,5 +1,5 @@
 -- From the rows that a database holds to the contents that are taken.
-use Rattle.std.proofs.Common.{Result, Ok, Err, OnOk, IsTrue, subst, arith}
+use Rattle.std.proofs.Common.{IsTrue, subst, arith}
 use Rattle.std.proofs.lemmas.List.Sorted.{IsPermutation-sym}
 use Rattle.sqlite.specs.Effect.{Database}
 use Rattle.sqlite.specs.State.{HasCleanDisk, State, Survives}
@@ -50,9 +50,8 @@ module _ (law : OrderLaw) (v : Version) (t : Tables) (old mid new : State) (kept
   turned : HasCleanDisk mid → IsTrue mid.is_open → (db : Database) → Settles v t mid.now db → Adopts old.now db
   turned clean shown db settles = let it = found clean in adopted law v t old.now db it.0 it.1 (subst (λ (d : Database). Settles v t d db) ((kept clean).now_is shown) settles)
 
-  pub taken : {E : Type 0} (r : Result (Unit {0}) E) → HasCleanDisk mid → OnOk r (Comes (Settles v t) mid new) → OnOk r (Comes Adopts old new)
-  taken (Err e) clean comes = tt
-  taken (Ok u) clean comes = record {
+  pub taken : HasCleanDisk mid → Comes (Settles v t) mid new → Comes Adopts old new
+  taken clean comes = record {
     db = comes.db;
     made = turned clean comes.was_open comes.db comes.made;
     shown = comes.shown;

@@ -8,16 +8,22 @@ use Rattle.adoption.proofs.adopting.adopt.Goals as goal
 pub returns-in-Unsound-clause-damaged : goal.returns-in-Unsound-clause-damaged
 returns-in-Unsound-clause-damaged g c clean same = subst (λ f. Tells f (state g.S.Store c.args.conn.now).now) c.in-Unsound.is (c.in_ok-audit.ensures.told clean)
 
-pub returns-in-Sound-clause-ok : goal.returns-in-Sound-clause-ok
-returns-in-Sound-clause-ok g c clean =
+pub returns-in_ok-settle-in-Sound-clause-ok : goal.returns-in_ok-settle-in-Sound-clause-ok
+returns-in_ok-settle-in-Sound-clause-ok g c clean =
     let old = state g.S.Store c.args.conn.now in
     let mid = state g.S.Store c.audit.new.conn in
     let early : HasCleanDisk mid = omega (arith, c.settle.ensures.crash.clean) in
     taken c.rows_are_held_in_any_order.ensures c.in-Sound.version c.in-Sound.tables old mid (state g.S.Store c.settle.new.conn) c.in_ok-audit.ensures.kept
-    (λ read. subst (λ f. Tells f old.now) c.in-Sound.is (c.in_ok-audit.ensures.told read)) c.settle.result early (c.settle.ensures.ok clean)
+    (λ read. subst (λ f. Tells f old.now) c.in-Sound.is (c.in_ok-audit.ensures.told read)) early (c.in_ok-settle-in-Sound.ensures.ok clean)
 
-pub returns-in-Sound-clause-crash : goal.returns-in-Sound-clause-crash
-returns-in-Sound-clause-crash g c =
+pub returns-in_ok-settle-in-Sound-clause-crash : goal.returns-in_ok-settle-in-Sound-clause-crash
+returns-in_ok-settle-in-Sound-clause-crash g c =
+    let old = state g.S.Store c.args.conn.now in
+    left_taken c.rows_are_held_in_any_order.ensures c.in-Sound.version c.in-Sound.tables old (state g.S.Store c.audit.new.conn) (state g.S.Store c.settle.new.conn) c.in_ok-audit.ensures.kept
+    (λ read. subst (λ f. Tells f old.now) c.in-Sound.is (c.in_ok-audit.ensures.told read)) c.in_ok-audit.ensures.survives c.settle.ensures.crash
+
+pub returns-in_err-settle-in-Sound-clause-crash : goal.returns-in_err-settle-in-Sound-clause-crash
+returns-in_err-settle-in-Sound-clause-crash g c =
     let old = state g.S.Store c.args.conn.now in
     left_taken c.rows_are_held_in_any_order.ensures c.in-Sound.version c.in-Sound.tables old (state g.S.Store c.audit.new.conn) (state g.S.Store c.settle.new.conn) c.in_ok-audit.ensures.kept
     (λ read. subst (λ f. Tells f old.now) c.in-Sound.is (c.in_ok-audit.ensures.told read)) c.in_ok-audit.ensures.survives c.settle.ensures.crash

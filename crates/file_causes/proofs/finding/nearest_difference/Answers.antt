@@ -1,4 +1,4 @@
-use Rattle.std.proofs.Common.{subst}
+use Rattle.std.proofs.Common.{ap, subst, ◌∙◌}
 use Rattle.sql_tables.specs.Alike.{HasJust}
 use Rattle.sql_tables.specs.Versions.{schema_of}
 use Rattle.file_causes.specs.Differences.{nearest}
@@ -7,5 +7,5 @@ use Rattle.file_causes.proofs.finding.nearest_difference.Goals as goal
 pub schema_difference-requires : goal.schema_difference-requires
 schema_difference-requires g c = λ just.
     let s = c.schema-schema.result.now in
-    let named : HasJust s (schema_of (nearest s)) = subst (HasJust s) c.in_ok-ours.ensures just in
+    let named : HasJust s (schema_of (nearest s)) = subst (HasJust s) (c.in_ok-ours.ensures ∙ ap schema_of c.nearest.ensures) just in
     c.requires (nearest s) (subst (λ x. HasJust x (schema_of (nearest s))) c.schema-schema.ensures.value named)
