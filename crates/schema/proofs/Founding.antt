@@ -1,7 +1,7 @@
 -- From newly made tables to a store without contents.
 use Rattle.std.proofs.Common.{◌≡◌, ◌⊎◌, Option, inl, inr, refl, sym, subst, IsTrue}
 use Rattle.sqlite.specs.Effect.{Database}
-use Rattle.sqlite.specs.State.{State}
+use Rattle.sqlite.specs.State.{State, Survives}
 use Rattle.job_facts.specs.Contents.{AreSound, Contents, no_contents}
 use Rattle.job_facts.specs.Store.{IsFound}
 use Rattle.job_facts.proofs.NextContents.{nothing_sound}
@@ -12,6 +12,7 @@ use Rattle.sql_base.specs.Ends.{Ends, IsLeft}
 use Rattle.sql_rows.specs.Image.{IsImage}
 use Rattle.sql_rows.proofs.Newly.{newly_filled}
 use Rattle.sql_tables.specs.Opening.{MakesAll}
+use Rattle.schema.specs.Begun.{LeavesNoOther}
 use Rattle.schema.specs.Link.{link}
 use Rattle.schema.proofs.Link.{RowsLaw, found}
 
@@ -36,3 +37,11 @@ module _ (law : RowsLaw) (old new : State) (d : Option Contents) (left : (link n
   pub before_or_nothing : old.may_leave left.0 ⊎ ((old.now.schema ≡ no_schema) × IsLeft MakesAll old left.0) → (link old 0 0).may_leave d ⊎ IsFound d no_contents
   before_or_nothing (inl before) = inl (left.0, before, left.2)
   before_or_nothing (inr it) = inr (left_nothing it.1.1.0 it.0 it.1.1.1 it.1.1.2)
+
+-- what tables that are made in an empty database leave
+pub left_made : (old new : State) → old.now.schema ≡ no_schema → Survives old new (IsLeft MakesAll old) → LeavesNoOther old new
+left_made old new none survives clean trees may =
+    elim (survives.crash clean trees may) [
+      | inl before ↦ inl before
+      | inr it ↦ inr (none, it)
+    ]

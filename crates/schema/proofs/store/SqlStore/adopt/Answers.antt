@@ -18,4 +18,4 @@ returns-in-Err-clause-late g c clean =
     left_late c.rows_are_held_in_any_order.ensures (state g.S.Store c.args.conn) (state g.S.Store c.adopt.new.conn) c.adopt.ensures.crash clean
 
 pub returns-in-Err-clause-damaged : goal.returns-in-Err-clause-damaged
-returns-in-Err-clause-damaged g c clean same = c.in-Err.ensures.damaged clean (c.refusal.ensures.damaged same)
+returns-in-Err-clause-damaged g c clean same = c.in-Err.ensures.damaged clean same
