@@ -11,10 +11,23 @@ use schema::SqlStore;
 use server::Opened;
 use sqlite::FileStore;
 use sqlite_disk::Disk;
+use std::alloc::Global;
 use std::io::{self, Write};
 use store_data::Name;
 use store_files::{Found, StoreTask};
 use subcommands::{End, end_of_close, run_feed};
+
+/// Bytes of a block that glibc, with its head and the allocator's, still counts among those up to
+/// 32 MiB: of no larger one it learns when it is let go.
+const LARGE_BLOCK: usize = 33_488_896;
+
+// Once a large block was let go, the C library keeps blocks up to its size for the next that asks. Until
+// then it gives each back to the system after an arrival, and takes and clears it for the next, a third
+// of the time of an opening beside a batch of 600 KB. So one is made and let go untouched, which takes
+// no memory. Where it is refused, nothing changes.
+fn keep_large_blocks(alloc: Global) {
+    drop(Vec::<u8>::with_capacity(alloc, LARGE_BLOCK));
+}
 
 /// Serves so many connections to a port of 127.0.0.1.
 #[derive(Drop)]
@@ -39,6 +52,7 @@ impl StoreTask for ServeTask<'_> {
             turns,
             level,
         } = self;
+        keep_large_blocks(rt.alloc());
         let mut connections = match Loopback::listen(rt, port) {
             Ok(connections) => connections,
             Err(_) => return end_of_close(End::PortFailed, store.finish()),
