@@ -1,5 +1,5 @@
 -- The rows of a batch file that are put in one after the other.
-use Rattle.std.proofs.Common.{◌≡◌, ℕ, ◌+◌, ◌<◌, ◌≤◌, Bool, true, false, not, List, [], ◌∷◌, ◌++◌, length, map, Option, Some, None, Result, Ok, Err, inl, inr, refl, sym, ap, subst, ◌∙◌, arith}
+use Rattle.std.proofs.Common.{◌≡◌, ℕ, ◌+◌, ◌<◌, ◌≤◌, Bool, true, false, not, List, [], ◌∷◌, ◌++◌, length, map, Some, None, Ok, inl, inr, refl, sym, ap, subst, ◌∙◌, arith}
 use Rattle.std.specs.Prelude.{bytes_eq}
 use Rattle.std.specs.List.{enumerate_from, list_any, position_or_len}
 use Rattle.std.specs.List.Sorted.{IsPermutation}
@@ -9,23 +9,20 @@ use Rattle.std.proofs.lemmas.List.Folds.{list_any-append}
 use Rattle.std.proofs.lemmas.List.Sorted.{IsPermutation-append_comm, IsPermutation-append_left, IsPermutation-refl}
 use Rattle.sqlite.specs.Effect.{Database}
 use Rattle.sqlite.specs.State.{HasCleanDisk, State}
-use Rattle.store_data.specs.Groups.{first_appearances, grouped, with_key, with_the_key}
-use Rattle.store_data.specs.declared.row.Product.{Product}
+use Rattle.store_data.specs.Groups.{grouped, with_key, with_the_key}
 use Rattle.store_data.specs.declared.row.Row.{Row}
 use Rattle.store_data.proofs.GroupLemmas.{bytes_eq-same, keys_more, list_any-first_appearances}
 use Rattle.store_data.proofs.IsPlanLemmas.{length-grouped}
-use Rattle.batch_import.specs.declared.fault.RowFault.{RowFault}
-use Rattle.batch_import.specs.Batch.{batch_of, coming_of, first_record_fault, no_more, ok_unless, planned_rows, records_of_rows}
+use Rattle.batch_import.specs.Batch.{coming_of, no_more}
 use Rattle.batch_import.specs.Rows.{Left, TakesRow, row_then}
 use Rattle.batch_import.specs.Walks.{rows_then}
-use Rattle.batch_import.proofs.OutlineLemmas.{enumerate_push, keys_of_numbered}
+use Rattle.batch_import.proofs.OutlineLemmas.{enumerate_push}
 use Rattle.batch_import.proofs.WalkLemmas.{coming_of-few}
-use Rattle.job_facts.specs.States.{rows_or_none}
 use Rattle.job_facts.proofs.Lists.{list_any-there}
 use Rattle.sql_rows.specs.Image.{Moves}
 use Rattle.sql_rows.proofs.SameRows.{same_rows}
-use Rattle.table_rows.specs.After.{batch_rows_after, new_batch, new_grouping, new_record}
-use Rattle.table_rows.specs.Tables.{HaveSameRows, StoredGrouping, Tables, with_batch, with_grouping}
+use Rattle.table_rows.specs.After.{new_grouping, new_record}
+use Rattle.table_rows.specs.Tables.{HaveSameRows, StoredGrouping, Tables, with_grouping}
 use Rattle.change_writes.specs.Imports.{IsImported, names_of, record_if_new, with_file_row, with_file_rows}
 use Rattle.sql_rows.specs.Many.{GoesOn, with_records}
 
@@ -233,38 +230,3 @@ module _ (check : Bool) (raw : List ℕ) (batch : ℕ) where
         let same : imported.more ≡ no_more = cc in
         let is : (coming_of check raw).rows ≡ imported.taken = ap (λ c. c.rows) (imported.all ∙ ap (rows_then imported.taken) same) ∙ append-nil imported.taken in
         subst (λ rows. GoesOn (Moves (with_file_rows batch rows)) a b) (sym is) (imported.well clean)
-
--- ---- a file without a fault
-
-abbrev by_fault : ℕ → List Row → Option RowFault → Result (List Row) RowFault
-by_fault m rows o = elim o as (λ _. Result (List Row) RowFault) [ Some fault ↦ Err fault | None ↦ planned_rows m rows ]
-
--- its rows are those that come of it
-pub rows_come : (p : Product) (raw : List ℕ) (rows : List Row) → batch_of p raw ≡ Ok rows → (coming_of p.check raw).rows ≡ rows
-unfolding batch_of
-rows_come p raw rows read = at (coming_of p.check raw).fault (coming_of p.check raw).rows read
-  where
-    unless : (o : Option RowFault) (all : List Row) → ok_unless o all ≡ Ok rows → all ≡ rows
-    unless None all e = cc
-    unless (Some fault) all e = absurd (cc)
-
-    at : (o : Option RowFault) (all : List Row) → by_fault p.max all o ≡ Ok rows → all ≡ rows
-    at (Some fault) all e = absurd (cc)
-    at None [] e = absurd (cc)
-    at None (row ∷ more) e = unless (first_record_fault p.max (records_of_rows (row ∷ more))) (row ∷ more) e
-
--- each record has a name of its own
-pub records_named : (rows : List Row) → length (records_of_rows rows) ≡ length (names_of rows)
-unfolding grouped
-records_named rows =
-    let key = λ (e : ℕ × Row). e.1.rec in
-    length-map (first_appearances (map key (enumerate_from 2 rows))) (with_the_key key (enumerate_from 2 rows)) ∙ ap (λ names. length (first_appearances names)) (keys_of_numbered 2 rows)
-
--- a batch, its records and its rows, as they were put in
-pub batch_put : (id : ℕ) (name code bytes : List ℕ) (p : Product) (raw : List ℕ) (rows : List Row) (count : ℕ) → batch_of p raw ≡ Ok rows → count ≡ length (records_of_rows rows) → (a b c : Database)
-    → Moves (with_batch (new_batch id name code bytes count)) a b → Moves (with_file_rows id (coming_of p.check raw).rows) b c → Moves (batch_rows_after id name code bytes (rows_or_none (batch_of p raw))) a c
-batch_put id name code bytes p raw rows count is is_count a b c first then =
-    let put = subst (λ rs. Moves (with_file_rows id rs) b c) (rows_come p raw rows is) then in
-    let counted = subst (λ n. Moves (with_batch (new_batch id name code bytes n)) a b) (is_count ∙ records_named rows) first in
-    subst (λ m. Moves (batch_rows_after id name code bytes (rows_or_none m)) a c) (sym is)
-    (λ t image. put (with_batch (new_batch id name code bytes (length (names_of rows))) t) (counted t image))

@@ -15,6 +15,10 @@ pub wrote_many : {X : Type 0} (R : Database → Database → Type 0) (a b : Stat
 wrote_many R a b (Ok x) well kept = record { well = record { made = well.made; committed = well.committed; inside = λ _. well.inside }; kept = kept }
 wrote_many R a b (Err e) well kept = record { well = tt; kept = kept }
 
+pub many : {X : Type 0} (R : Database → Database → Type 0) (a b : State) (r : Result X Error) → Wrote R a b r → WroteMany R a b r
+many R a b (Ok x) it = record { well = record { made = it.well.made; committed = it.well.committed; inside = λ _. it.well.inside }; kept = it.kept }
+many R a b (Err e) it = record { well = tt; kept = it.kept }
+
 -- an error on the way
 pub failed_many : {X : Type 0} (R : Database → Database → Type 0) (a b : State) (r : Result X Error) → IsErr r → KeepsCommit a b → WroteMany R a b r
 failed_many R a b (Ok x) is kept = absurd (cc)
@@ -35,6 +39,15 @@ pub wrote_on : {X : Type 0} (P Q R : Database → Database → Type 0) (a b c : 
     → Wrote R a c r
 wrote_on P Q R a b c (Ok x) both one kept two = record { well = inside_on P Q R a b c both one two.well; kept = keeps_then a b c kept two.kept }
 wrote_on P Q R a b c (Err e) both one kept two = record { well = tt; kept = keeps_then a b c kept two.kept }
+
+-- one row after many
+pub many_then : {X : Type 0} (P Q R : Database → Database → Type 0) (a b c : State) (r : Result X Error) → (P a.now b.now → Q b.now c.now → R a.now c.now) → GoesOn P a b → KeepsCommit a b → Wrote Q b c r
+    → Wrote R a c r
+many_then P Q R a b c (Ok x) both one kept two = record {
+  well = record { made = both one.made two.well.made; committed = two.well.committed ∙ one.committed; inside = two.well.inside; was_open = kept.was_open two.well.was_open };
+  kept = keeps_then a b c kept two.kept;
+}
+many_then P Q R a b c (Err e) both one kept two = record { well = tt; kept = keeps_then a b c kept two.kept }
 
 -- rows that move, and move on
 module _ (f g : Tables → Tables) (a b c : Database) where

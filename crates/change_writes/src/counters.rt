@@ -1,11 +1,9 @@
 //! Numbers that a change makes, where they are numbers of SQL's.
 ghost use Rattle.std.specs.Prelude.{◌≡◌, ◌+◌, ◌<◌, ◌^◌, IfOk, IsTrue};
-ghost use Rattle.store_data.specs.Sequence.{IsProduct};
 ghost use Rattle.table_rows.specs.After.{less, more, one_opened, one_spoiled};
 
 use job_facts::{BatchTotals, RecordState};
 use sqlite::Error;
-use store_data::Product;
 
 /// SQL's numbers end here.
 const LIMIT: u64 = 1 << 63;
@@ -36,13 +34,6 @@ pub(crate) fn totals_fit(totals: &BatchTotals) -> bool
         totals.failed,
         totals.withdrawn,
     ) && fit(totals.good, totals.sessions, totals.spoiled, 0)
-}
-
-/// Whether a batch can be read under a product.
-pub(crate) fn is_readable(product: &Product) -> bool
-    ensures { IsTrue result → IsProduct product.now }
-{
-    product.max >= 16 && product.low <= 31
 }
 
 /// One more of them.

@@ -1,26 +1,26 @@
 //! A batch is imported, in an open transaction. A crash before its end leaves nothing of it.
-ghost use Rattle.std.specs.Prelude.{◌≡◌, ◌<◌, ◌^◌, [], List, IfOk, Ok, OnOk, bytes_eq, length};
+ghost use Rattle.std.specs.Prelude.{◌≡◌, ◌<◌, ◌^◌, [], IfOk, Ok, OnOk, bytes_eq, length};
 ghost use Rattle.std.specs.List.{position_or_len};
 ghost use Rattle.sqlite.specs.Held.{state};
 ghost use Rattle.sqlite.specs.State.{Survives};
 ghost use Rattle.store_data.specs.Groups.{with_key};
-ghost use Rattle.store_data.specs.Sequence.{IsProduct};
-ghost use Rattle.store_data.specs.declared.row.Row.{Row as RowValue};
-ghost use Rattle.batch_import.specs.Batch.{batch_of, coming_of, records_of_rows};
+ghost use Rattle.batch_import.specs.Batch.{coming_of};
 ghost use Rattle.batch_import.specs.Rows.{TakesRow};
-ghost use Rattle.job_facts.specs.States.{rows_or_none};
 ghost use Rattle.sql_rows.specs.Writes.{WritesRows};
-ghost use Rattle.table_rows.specs.After.{batch_rows_after};
+ghost use Rattle.table_rows.specs.After.{batch_rows_after, rows_after};
+ghost use Rattle.table_rows.specs.declared.writing.Writing.TheVariants as writing;
 ghost use Rattle.change_writes.specs.Imports.{record_if_new, with_file_row, with_file_rows};
 ghost use Rattle.sql_rows.specs.Many.{WritesMany, with_records};
 ghost use Rattle.change_writes.specs.Refused.{refused};
 
-use batch_import::{BatchRows, ImportFault, check_batch, rows};
+use crate::counters::fit;
+use batch_import::{BatchRows, ImportFault, rows};
 use indexmap::IndexSet;
 use row_writes::{add_batch, add_grouping, add_record, set_raw};
 use sqlite::{Alter, Error, ErrorCode, Transaction};
 use std::alloc::Global;
 use store_data::{Name, Product, Row};
+use table_rows::NewBatch;
 
 /// The number of the first data row: row 1 is the header.
 const FIRST_DATA_ROW: u32 = 2;
@@ -28,63 +28,42 @@ const FIRST_DATA_ROW: u32 = 2;
 /// Writes the batch of a file: its row, its records and its groupings. A file with a fault is an
 /// error, and so is refused memory. After an error the caller drops the transaction. The bytes are
 /// set last: each row that refers to the batch has its row read whole.
-pub(crate) fn write_batch<'x, S: Alter>(
+pub(crate) fn write_batch<S: Alter>(
     tx: &mut Transaction<'_, S>,
     alloc: Global,
-    id: u64,
-    name: &'x Name,
-    code: &'x Name,
-    product: &Product,
-    raw: &'x [u8],
-) -> Result<(), Error>
-    requires id { id < 2 ^ 63 }
-    requires product { IsProduct product.now }
+    batch: &NewBatch<'_>,
+) -> Result<usize, Error>
     ensures same_reference { tx.new.conn.ghost_name ≡ tx.old.conn.ghost_name }
-    ensures wrote { let rows = rows_or_none (batch_of product.now raw.now) in
-        WritesRows (batch_rows_after id name.now code.now raw.now rows)
+    ensures wrote { WritesRows (rows_after (writing.AddsBatch batch.now))
         (state S.Store tx.old.conn.now) (state S.Store tx.new.conn.now) result }
     ensures survives { Survives (state S.Store tx.old.conn.now) (state S.Store tx.new.conn.now)
         (λ _. ⊥) }
 {
-    write_bare(tx, alloc, id, name, code, product, raw)?;
-    set_raw(tx, id, raw)?;
-    Ok(())
+    if !fit(batch.id, 0, 0, 0) {
+        return Err(Error::InvalidQuery);
+    }
+    write_bare(tx, alloc, batch)?;
+    set_raw(tx, batch.id, batch.raw)
 }
 
 // Writes the batch of a file, but for the bytes in its row.
-fn write_bare<'x, S: Alter>(
+fn write_bare<S: Alter>(
     tx: &mut Transaction<'_, S>,
     alloc: Global,
-    id: u64,
-    name: &'x Name,
-    code: &'x Name,
-    product: &Product,
-    raw: &[u8],
+    batch: &NewBatch<'_>,
 ) -> Result<(), Error>
-    requires id { id < 2 ^ 63 }
-    requires product { IsProduct product.now }
+    requires id { batch.now.id < 2 ^ 63 }
     ensures same_reference { tx.new.conn.ghost_name ≡ tx.old.conn.ghost_name }
-    ensures wrote { let rows = rows_or_none (batch_of product.now raw.now) in
-        WritesRows (batch_rows_after id name.now code.now [] rows)
+    ensures wrote { let b = batch.now in
+        let rows = (coming_of b.product.check b.raw.now).rows in
+        WritesRows (batch_rows_after b.id b.name b.product.code [] b.records rows)
         (state S.Store tx.old.conn.now) (state S.Store tx.new.conn.now) result }
     ensures survives { Survives (state S.Store tx.old.conn.now) (state S.Store tx.new.conn.now)
         (λ _. ⊥) }
 {
-    let records = records_of(alloc, raw, product)?;
-    add_batch(tx, id, name, code, &[], records)?;
-    add_rows(tx, alloc, id, product, raw)
-}
-
-// How many records a file has that has no fault.
-fn records_of(alloc: Global, raw: &[u8], product: &Product) -> Result<u32, Error>
-    requires { IsProduct product.now }
-    ensures { IfOk result (λ count. (rows : List RowValue)
-        × (batch_of product.now raw.now ≡ Ok rows) × (count ≡ length (records_of_rows rows))) }
-{
-    match check_batch(alloc, raw, product) {
-        Ok(totals) => Ok(totals.records),
-        Err(fault) => Err(refused(fault)),
-    }
+    let product = &batch.product;
+    add_batch(tx, batch.id, &batch.name, &product.code, &[], batch.records)?;
+    add_rows(tx, alloc, batch.id, product, batch.raw)
 }
 
 // What is told of a file that is not taken.

@@ -8,7 +8,5 @@ mod counters;
 mod imports;
 mod records;
 mod releases;
-pub mod writing;
 
 pub use commits::commit;
-pub use writing::Writing;

@@ -1,13 +1,12 @@
 //! A record passes to another state, in an open transaction. A crash before its end leaves nothing
 //! of it.
-ghost use Rattle.std.specs.Prelude.{◌≡◌, ◌+◌};
+ghost use Rattle.std.specs.Prelude.{◌≡◌};
 ghost use Rattle.sqlite.specs.Held.{state};
 ghost use Rattle.sqlite.specs.State.{Survives};
-ghost use Rattle.job_facts.specs.declared.facts.RecordState.TheVariants as rec;
 ghost use Rattle.job_facts.specs.declared.facts.SessionState.TheVariants as session;
 ghost use Rattle.sql_rows.specs.Writes.{WritesRows};
-ghost use Rattle.table_rows.specs.After.{less, more, passed, record_after, stopped};
-ghost use Rattle.table_rows.specs.Tables.{StoredRemake, with_remake};
+ghost use Rattle.table_rows.specs.After.{passed, record_after, rows_after, stopped};
+ghost use Rattle.table_rows.specs.declared.writing.Writing.TheVariants as writing;
 ghost use Rattle.sql_rows.specs.Many.{WritesMany};
 
 use crate::counters::{fit, less, more, one_more, one_spoiled, totals_fit};
@@ -87,7 +86,7 @@ pub(crate) fn write_stop<S: Alter>(
     tx: &mut Transaction<'_, S>,
     place: &RecordPlace,
     stands: SessionState,
-) -> Result<(), Error>
+) -> Result<usize, Error>
     ensures same_reference { tx.new.conn.ghost_name ≡ tx.old.conn.ghost_name }
     ensures wrote { WritesMany (stopped place.now stands) (state S.Store tx.old.conn.now)
         (state S.Store tx.new.conn.now) result }
@@ -95,15 +94,10 @@ pub(crate) fn write_stop<S: Alter>(
         (λ _. ⊥) }
 {
     match stands {
-        SessionState::Running => {}
-        SessionState::Good => {
-            write_passed(tx, place, RecordState::Running, RecordState::Good)?;
-        }
-        SessionState::Spoiled => {
-            write_spoiled(tx, place)?;
-        }
+        SessionState::Running => Ok(0),
+        SessionState::Good => write_passed(tx, place, RecordState::Running, RecordState::Good),
+        SessionState::Spoiled => write_spoiled(tx, place),
     }
-    Ok(())
 }
 
 /// A failed record is remade, and waits again.
@@ -112,16 +106,8 @@ pub(crate) fn write_remake<S: Alter>(
     place: &RecordPlace,
 ) -> Result<usize, Error>
     ensures same_reference { tx.new.conn.ghost_name ≡ tx.old.conn.ghost_name }
-    ensures wrote { let p = place.now in
-        let turn : StoredRemake = record {
-          batch = p.batch;
-          place = p.place;
-          turn = p.remakes + 1;
-        } in
-        let totals = more rec.Waiting (less rec.Failed p.totals) in
-        WritesRows (λ t. record_after p rec.Waiting p.spoiled (p.remakes + 1) totals
-        (with_remake turn t)) (state S.Store tx.old.conn.now)
-        (state S.Store tx.new.conn.now) result }
+    ensures wrote { WritesRows (rows_after (writing.Remakes place.now))
+        (state S.Store tx.old.conn.now) (state S.Store tx.new.conn.now) result }
     ensures survives { Survives (state S.Store tx.old.conn.now) (state S.Store tx.new.conn.now)
         (λ _. ⊥) }
 {

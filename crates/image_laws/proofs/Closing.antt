@@ -9,7 +9,7 @@ use Rattle.job_facts.specs.declared.change.Change.TheVariants as change
 use Rattle.job_facts.specs.Accounts.{batch_totals}
 use Rattle.job_facts.specs.Contents.{Contents}
 use Rattle.job_facts.specs.Facts.{Batch, Facts, with_close}
-use Rattle.job_facts.specs.Sound.{IsSound, IsSoundChange, changed}
+use Rattle.job_facts.specs.Sound.{IsSound, changed}
 use Rattle.job_facts.specs.States.{is_closed}
 use Rattle.job_facts.proofs.Lists.{map_same}
 use Rattle.step_laws.specs.Later.{KnowsMore}
@@ -18,39 +18,17 @@ use Rattle.step_laws.proofs.ChangeStands.{others_same}
 use Rattle.step_laws.proofs.Kept.{no_more, one_more}
 use Rattle.table_rows.specs.After.{rows_after}
 use Rattle.table_rows.specs.Tables.{HaveSameRows, StoredBatch, closed_set}
-use Rattle.table_rows.specs.declared.before.Before.{Before}
-use Rattle.table_rows.specs.declared.before.Before.TheVariants as before
-use Rattle.image_laws.specs.Before.{IsBefore}
+use Rattle.table_rows.specs.declared.writing.Writing.TheVariants as writing
 use Rattle.image_laws.specs.Image.{batches_by_id, image, stored_batch, stored_batches, stored_blanks, stored_lots, stored_words}
-use Rattle.image_laws.proofs.Lists.{unmoved}
+use Rattle.image_laws.proofs.Lists.{knows_later, unmoved}
 use Rattle.image_laws.proofs.Staying.{batch_by, groupings_stay, records_stay, remakes_stay, session_states_same, sessions_stay, totals_same}
 
 module _ (f : Facts) (name : List ℕ) where
   abbrev with_closed : Facts
   with_closed = with_close f name
 
-  lots_stay : stored_lots with_closed ≡ stored_lots f
-  unfolding stored_lots
-  lots_stay = refl
-
-  blanks_stay : stored_blanks with_closed ≡ stored_blanks f
-  unfolding stored_blanks
-  blanks_stay = refl
-
-  words_stay : stored_words with_closed ≡ stored_words f
-  unfolding stored_words
-  words_stay = refl
-
   knows : KnowsMore f with_closed
-  knows = record {
-    products = no_more f.products;
-    lots = no_more f.lots;
-    batches = no_more f.batches;
-    discarded = no_more f.discarded;
-    remakes = no_more f.remakes;
-    withdrawn = no_more f.withdrawn;
-    closed = one_more f.closed name;
-  }
+  knows = knows_later f _ _ _ (no_more f.discarded) (one_more f.closed name)
 
   stand : IsSound f → (b r : List ℕ) → StandsSame f with_closed b r
   stand sound b r = others_same f (change.Closes name) sound tt b r refl
@@ -83,24 +61,24 @@ module _ (f : Facts) (name : List ℕ) where
       map_same (stored_batch with_closed) (λ e. closed_set name (stored_batch f e)) (batches_by_id f) (λ k d within. batch_row sound _)
       ∙ sym (map-map (closed_set name) (stored_batch f) (batches_by_id f))
 
-pub rows_after_close : (c : Contents) (name : List ℕ) (told : Before) → IsSound c.facts → IsSoundChange c.facts (change.Closes name) → IsBefore c.facts (change.Closes name) told
-    → HaveSameRows (image (record c { facts = changed c.facts (change.Closes name) })) (rows_after (change.Closes name) told (image c))
-rows_after_close c name before.Nothing sound keeps is =
+pub rows_after_close : (c : Contents) (name : List ℕ) → IsSound c.facts
+    → HaveSameRows (image (record c { facts = changed c.facts (change.Closes name) })) (rows_after (writing.Closes name) (image c))
+unfolding stored_lots stored_blanks stored_words
+rows_after_close c name sound =
     let f = c.facts in
     let g = with_close f name in
     let stands : (b r : List ℕ) → StandsSame f g b r = stand f name sound in
     let more = knows f name in
     record {
       products = unmoved _ _ refl;
-      lots = unmoved _ _ (lots_stay f name);
+      lots = unmoved _ _ refl;
       batches = unmoved _ _ (batches_set f name sound);
       records = unmoved _ _ (records_stay f g sound more refl stands);
       groupings = unmoved _ _ (groupings_stay f g sound more refl stands);
       sessions = unmoved _ _ (sessions_stay f g sound more refl stands refl);
-      words = unmoved _ _ (words_stay f name);
-      blanks = unmoved _ _ (blanks_stay f name);
+      words = unmoved _ _ refl;
+      blanks = unmoved _ _ refl;
       remakes = unmoved _ _ (remakes_stay f g sound more refl stands);
       replies = unmoved _ _ refl;
       marks = unmoved _ _ refl;
     }
-rows_after_close c name _ sound keeps is = absurd is

@@ -12,10 +12,9 @@ use Rattle.step_laws.proofs.ChangeStands.{record_of_there, touched_stands, touch
 use Rattle.step_laws.proofs.RecordStands.{named}
 use Rattle.table_rows.specs.After.{rows_after}
 use Rattle.table_rows.specs.Tables.{HaveSameRows}
-use Rattle.table_rows.specs.declared.before.Before.{Before}
-use Rattle.table_rows.specs.declared.before.Before.TheVariants as before
-use Rattle.table_rows.specs.declared.before.RecordPlace.{RecordPlace}
-use Rattle.image_laws.specs.Before.{IsBefore}
+use Rattle.table_rows.specs.declared.writing.Writing.TheVariants as writing
+use Rattle.table_rows.specs.declared.writing.RecordPlace.{RecordPlace}
+use Rattle.image_laws.specs.WritingOf.{IsPlaceOfSession}
 use Rattle.image_laws.specs.Image.{image}
 use Rattle.image_laws.proofs.Lists.{unmoved}
 use Rattle.image_laws.proofs.OneRecord.{batches_set, records_set}
@@ -28,10 +27,9 @@ ended_stands : (f : Facts) (x : Session) → session_state f (ended x) ≡ sessi
 unfolding session_state
 ended_stands f x = refl
 
-pub rows_after_end : (c : Contents) (s : ℕ) (told : Before) → IsSound c.facts
-    → IsSoundChange c.facts (change.Ends s) → IsBefore c.facts (change.Ends s) told
-    → HaveSameRows (image (record c { facts = changed c.facts (change.Ends s) })) (rows_after (change.Ends s) told (image c))
-rows_after_end c s (before.OfRecord p) sound keeps is =
+pub rows_after_end : (c : Contents) (s : ℕ) (p : RecordPlace) → IsSound c.facts → IsSoundChange c.facts (change.Ends s) → IsPlaceOfSession c.facts s p
+    → HaveSameRows (image (record c { facts = changed c.facts (change.Ends s) })) (rows_after (writing.Ends s p) (image c))
+rows_after_end c s p sound keeps is =
     let f : Facts = c.facts in
     let x : Session = keeps.before.1.0 in
     let there = keeps.before.1.1 in
@@ -45,7 +43,7 @@ rows_after_end c s (before.OfRecord p) sound keeps is =
     let totals = totals_spoiled f s x ended there refl refl runs sound beside ran stands now in
     let spoiled = spoiled_more f s x ended there refl refl runs stands in
     let at : RecordPlace = place_of f x.batch x.rec in
-    subst (λ q. HaveSameRows (image (record c { facts = g })) (rows_after end (before.OfRecord q) (image c))) (sym (own_place f s x there p is))
+    subst (λ q. HaveSameRows (image (record c { facts = g })) (rows_after (writing.Ends s q) (image c))) (sym (own_place f s x there p is))
     (record {
       products = unmoved _ _ refl;
       lots = unmoved _ _ (lots_stay f f.remakes f.withdrawn g.sessions);
@@ -59,4 +57,3 @@ rows_after_end c s (before.OfRecord p) sound keeps is =
       replies = unmoved _ _ refl;
       marks = unmoved _ _ refl;
     })
-rows_after_end c s _ sound keeps is = absurd is

@@ -16,7 +16,7 @@ use Rattle.store_data.specs.declared.row.Product.{Product}
 use Rattle.store_data.specs.declared.row.Row.{Row}
 use Rattle.store_data.proofs.CommandLemmas.{enumerate_from-append}
 use Rattle.store_data.proofs.GroupLemmas.{bytes_eq-same, same-bytes_eq}
-use Rattle.batch_import.specs.Batch.{batch_of}
+use Rattle.batch_import.specs.Batch.{batch_of, coming_of}
 use Rattle.job_facts.specs.declared.change.Change.TheVariants as change
 use Rattle.job_facts.specs.declared.facts.RecordState.{RecordState}
 use Rattle.job_facts.specs.declared.facts.RecordState.TheVariants as rec
@@ -35,11 +35,10 @@ use Rattle.step_laws.proofs.Permuted.{PassAlone}
 use Rattle.step_laws.proofs.RecordStands.{record_same, states_known}
 use Rattle.table_rows.specs.After.{batch_rows_after, new_batch, new_grouping, new_record, rows_after}
 use Rattle.table_rows.specs.Tables.{HaveSameRows, StoredBatch, StoredRemake}
-use Rattle.table_rows.specs.declared.before.Before.{Before}
-use Rattle.table_rows.specs.declared.before.Before.TheVariants as before
+use Rattle.table_rows.specs.declared.writing.Writing.TheVariants as writing
 use Rattle.table_rows.proofs.Found.{filter_none, find_none}
-use Rattle.image_laws.specs.Before.{IsBefore}
 use Rattle.image_laws.specs.Image.{batch_id, batches_by_id, groupings_in, image, place_in, placed_records, records_in, remakes_at, remakes_in, sessions_by_id, stored_batch, stored_batches, stored_blanks, stored_groupings, stored_lots, stored_record, stored_records, stored_remakes, stored_session, stored_sessions, stored_words}
+use Rattle.image_laws.proofs.FileRows.{each_record_named, rows_come}
 use Rattle.image_laws.proofs.Found.{found_alone, place_kept, some_there, to_last}
 use Rattle.image_laws.proofs.Lists.{All-numbered, flat_map_same, pushed, unmoved}
 use Rattle.image_laws.proofs.OneRecord.{turned}
@@ -157,18 +156,6 @@ module _ (f : Facts) (new : Batch) (sound : IsSound f) (after : IsSound (with_ba
       map_same (stored_session g) (stored_session f) (sessions_by_id f)
       (All-weaker (λ (e : ℕ × Session). IsSession f e.1) (λ e. stored_session g e ≡ stored_session f e) session_other
       (sessions_by_id f) (All-numbered (IsSession f) 1 f.sessions sound.sessions.each))
-
-  lots_old : stored_lots g ≡ stored_lots f
-  unfolding stored_lots
-  lots_old = refl
-
-  blanks_old : stored_blanks g ≡ stored_blanks f
-  unfolding stored_blanks
-  blanks_old = refl
-
-  words_old : stored_words g ≡ stored_words f
-  unfolding stored_words
-  words_old = refl
 
   -- ---- the new batch's records
 
@@ -293,29 +280,35 @@ rows_read : (products : List Product) (new : Batch) (product : Product) → prod
 unfolding rows_of
 rows_read products new product there = ap (λ p. rows_under p new.raw) there
 
-pub rows_after_batch : (c : Contents) (b p : List ℕ) (raw : Bor (List ℕ)) (told : Before) → IsSound c.facts → IsSoundChange c.facts (change.AddsBatch b p raw)
-    → IsBefore c.facts (change.AddsBatch b p raw) told
-    → HaveSameRows (image (record c { facts = changed c.facts (change.AddsBatch b p raw) })) (rows_after (change.AddsBatch b p raw) told (image c))
-rows_after_batch c b p raw (before.Import id product) sound keeps is =
+pub rows_after_batch : (c : Contents) (number : ℕ) (b : List ℕ) (p : Product) (records : ℕ) (raw : Bor (List ℕ)) → IsSound c.facts → IsSoundChange c.facts (change.AddsBatch number b p records raw)
+    → HaveSameRows (image (record c { facts = changed c.facts (change.AddsBatch number b p records raw) }))
+    (rows_after (writing.AddsBatch (record { id = number; name = b; product = p; records = records; raw = raw })) (image c))
+unfolding stored_lots stored_blanks stored_words
+rows_after_batch c number b p records raw sound keeps =
     let f = c.facts in
-    let new : Batch = record { name = b; product = p; raw = raw.now } in
-    let rows : List Row = rows_or_none (batch_of product raw.now) in
-    let read : rows_of f.products new ≡ rows = rows_read f.products new product is.1 in
+    let new : Batch = record { name = b; product = p.code; raw = raw.now } in
+    let owed = keeps.before in
+    let rows : List Row = (coming_of p.check raw.now).rows in
+    let come : rows ≡ owed.rows = rows_come p raw.now owed.rows owed.read in
+    let read : rows_of f.products new ≡ rows = rows_read f.products new p owed.product ∙ ap rows_or_none owed.read ∙ sym come in
     let found : List (List ℕ) = first_appearances (map (λ (row : Row). row.rec) rows) in
-    let number : last f new sound keeps.sound ≡ id = omega (arith, is.0) in
-    let same : HaveSameRows (image (record c { facts = with_batch f new })) (batch_rows_after (last f new sound keeps.sound) b p raw.now rows (image c)) = record {
+    let counted : length found ≡ records =
+    sym (owed.counted ∙ each_record_named owed.rows ∙ ap (λ (rs : List Row). length (first_appearances (map (λ (row : Row). row.rec) rs))) (sym come)) in
+    let id : ℕ = last f new sound keeps.sound in
+    let is_next : id ≡ number = omega (arith, owed.next) in
+    let same : HaveSameRows (image (record c { facts = with_batch f new })) (batch_rows_after id b p.code raw.now (length found) rows (image c)) = record {
       products = unmoved _ _ refl;
-      lots = unmoved _ _ (lots_old f new sound keeps.sound);
-      batches = subst (λ bs. IsPermutation bs (new_batch (last f new sound keeps.sound) b p raw.now (length found) ∷ stored_batches f)) (sym (batches_more f new sound keeps.sound rows read))
-          (pushed (stored_batches f) (new_batch (last f new sound keeps.sound) b p raw.now (length found)));
-      records = behind (stored_records f) (map (new_record (last f new sound keeps.sound)) (enumerate_from 0 found)) _ (records_more f new sound keeps.sound rows read);
-      groupings = behind (stored_groupings f) (map (new_grouping (last f new sound keeps.sound) found) (enumerate_from 2 rows)) _ (groupings_more f new sound keeps.sound rows read);
+      lots = unmoved _ _ refl;
+      batches = subst (λ bs. IsPermutation bs (new_batch id b p.code raw.now (length found) ∷ stored_batches f)) (sym (batches_more f new sound keeps.sound rows read))
+          (pushed (stored_batches f) (new_batch id b p.code raw.now (length found)));
+      records = behind (stored_records f) (map (new_record id) (enumerate_from 0 found)) _ (records_more f new sound keeps.sound rows read);
+      groupings = behind (stored_groupings f) (map (new_grouping id found) (enumerate_from 2 rows)) _ (groupings_more f new sound keeps.sound rows read);
       sessions = unmoved _ _ (sessions_old f new sound keeps.sound);
-      words = unmoved _ _ (words_old f new sound keeps.sound);
-      blanks = unmoved _ _ (blanks_old f new sound keeps.sound);
+      words = unmoved _ _ refl;
+      blanks = unmoved _ _ refl;
       remakes = unmoved _ _ (remakes_old f new sound keeps.sound);
       replies = unmoved _ _ refl;
       marks = unmoved _ _ refl;
     } in
-    subst (λ n. HaveSameRows (image (record c { facts = with_batch f new })) (batch_rows_after n b p raw.now rows (image c))) number same
-rows_after_batch c b p raw _ sound keeps is = absurd is
+    subst (λ n. HaveSameRows (image (record c { facts = with_batch f new })) (batch_rows_after n b p.code raw.now records rows (image c))) is_next
+    (subst (λ k. HaveSameRows (image (record c { facts = with_batch f new })) (batch_rows_after id b p.code raw.now k rows (image c))) counted same)

@@ -15,6 +15,7 @@ pub mod Products
 pub mod Lots
 pub mod Closing
 pub mod Releasing
+pub mod FileRows
 pub mod Importing
 pub mod Words
 pub mod Ending

@@ -24,12 +24,11 @@ use Rattle.step_laws.proofs.Kept.{lot_knows, no_more, one_more}
 use Rattle.step_laws.proofs.Permuted.{PassAlone}
 use Rattle.table_rows.specs.After.{new_lot, rows_after}
 use Rattle.table_rows.specs.Tables.{HaveSameRows, StoredBlank, StoredLot, lot_set}
-use Rattle.table_rows.specs.declared.before.Before.{Before}
-use Rattle.table_rows.specs.declared.before.Before.TheVariants as before
-use Rattle.image_laws.specs.Before.{IsBefore}
+use Rattle.table_rows.specs.declared.writing.Writing.TheVariants as writing
 use Rattle.image_laws.specs.Image.{image, name_of, stored_blank, stored_blanks, stored_lot, stored_lots, stored_words}
+use Rattle.image_laws.specs.WritingOf.{AreDiscardedOf}
 use Rattle.image_laws.proofs.Found.{found_alone, some_there, to_last}
-use Rattle.image_laws.proofs.Lists.{pushed, unmoved}
+use Rattle.image_laws.proofs.Lists.{knows_later, pushed, unmoved}
 use Rattle.image_laws.proofs.Staying.{batches_stay, groupings_stay, records_stay, remakes_stay, session_states_same, sessions_stay}
 
 -- a blank lies in one lot at most
@@ -85,9 +84,9 @@ module _ (f : Facts) (l : Lot) (sound : IsSound f) (after : IsSound (with_lot f 
   unfolding stored_words
   words_stay = refl
 
-pub rows_after_lot : (c : Contents) (l : Lot) (told : Before) → IsSound c.facts → IsSoundChange c.facts (change.AddsLot l) → IsBefore c.facts (change.AddsLot l) told
-    → HaveSameRows (image (record c { facts = changed c.facts (change.AddsLot l) })) (rows_after (change.AddsLot l) told (image c))
-rows_after_lot c l before.Nothing sound keeps is =
+pub rows_after_lot : (c : Contents) (l : Lot) → IsSound c.facts → IsSoundChange c.facts (change.AddsLot l)
+    → HaveSameRows (image (record c { facts = changed c.facts (change.AddsLot l) })) (rows_after (writing.AddsLot l) (image c))
+rows_after_lot c l sound keeps =
     let f = c.facts in
     let g = with_lot f l in
     let stands : (b r : List ℕ) → StandsSame f g b r = λ b r. others_same f (change.AddsLot l) sound tt b r refl in
@@ -105,7 +104,6 @@ rows_after_lot c l before.Nothing sound keeps is =
       replies = unmoved _ _ refl;
       marks = unmoved _ _ refl;
     }
-rows_after_lot c l _ sound keeps is = absurd is
 
 -- ---- a blank was taken out of use
 
@@ -176,20 +174,11 @@ module _ (f : Facts) (blank : ℕ) (name : List ℕ) (sound : IsSound f) (of_lot
   words_same = refl
 
   knows_out : KnowsMore f with_out
-  knows_out = record {
-    products = no_more f.products;
-    lots = no_more f.lots;
-    batches = no_more f.batches;
-    discarded = one_more f.discarded blank;
-    remakes = no_more f.remakes;
-    withdrawn = no_more f.withdrawn;
-    closed = no_more f.closed;
-  }
+  knows_out = knows_later f _ _ _ (one_more f.discarded blank) (no_more f.closed)
 
-pub rows_after_discard : (c : Contents) (blank : ℕ) (name : List ℕ) (told : Before) → IsSound c.facts → IsSoundChange c.facts (change.Discards blank name)
-    → IsBefore c.facts (change.Discards blank name) told
-    → HaveSameRows (image (record c { facts = changed c.facts (change.Discards blank name) })) (rows_after (change.Discards blank name) told (image c))
-rows_after_discard c blank name (before.OfLot discarded) sound keeps is =
+pub rows_after_discard : (c : Contents) (blank : ℕ) (name : List ℕ) (discarded : ℕ) → IsSound c.facts → IsSoundChange c.facts (change.Discards blank name) → AreDiscardedOf c.facts name discarded
+    → HaveSameRows (image (record c { facts = changed c.facts (change.Discards blank name) })) (rows_after (writing.Discards blank name discarded) (image c))
+rows_after_discard c blank name discarded sound keeps is =
     let f = c.facts in
     let g = with_discard f blank in
     let stands : (b r : List ℕ) → StandsSame f g b r = λ b r. others_same f (change.Discards blank name) sound keeps.before b r refl in
@@ -208,4 +197,3 @@ rows_after_discard c blank name (before.OfLot discarded) sound keeps is =
       replies = unmoved _ _ refl;
       marks = unmoved _ _ refl;
     }
-rows_after_discard c blank name _ sound keeps is = absurd is

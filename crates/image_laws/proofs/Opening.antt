@@ -32,10 +32,10 @@ use Rattle.step_laws.proofs.ReplyFacts.{new_runs}
 use Rattle.table_rows.specs.After.{less, more, one_opened, rows_after}
 use Rattle.table_rows.specs.After as after
 use Rattle.table_rows.specs.Tables.{HaveSameRows, StoredBlank}
-use Rattle.table_rows.specs.declared.before.Before.{Before}
-use Rattle.table_rows.specs.declared.before.Before.TheVariants as before
-use Rattle.table_rows.specs.declared.before.RecordPlace.{RecordPlace}
-use Rattle.image_laws.specs.Before.{IsBefore}
+use Rattle.table_rows.specs.declared.writing.Writing.{Writing}
+use Rattle.table_rows.specs.declared.writing.Writing.TheVariants as writing
+use Rattle.table_rows.specs.declared.writing.RecordPlace.{RecordPlace}
+use Rattle.image_laws.specs.WritingOf.{IsPlaceOf}
 use Rattle.image_laws.specs.Image.{image, name_of, stored_blank, stored_blanks, stored_session, stored_sessions, stored_words, words_in}
 use Rattle.image_laws.proofs.Lists.{pushed, unmoved}
 use Rattle.image_laws.proofs.OneRecord.{batches_set, records_set, totals_pass}
@@ -124,12 +124,13 @@ module _ (f : Facts) (machine b r : List ℕ) (blank : ℕ) where
 
 -- ---- the change
 
-pub rows_after_opening : (c : Contents) (machine b r : List ℕ) (blank : ℕ) (lot : List ℕ) (told : Before) → IsSound c.facts
-    → IsSoundChange c.facts (change.Opens machine b r blank lot) → IsBefore c.facts (change.Opens machine b r blank lot) told
-    → HaveSameRows (image (record c { facts = changed c.facts (change.Opens machine b r blank lot) })) (rows_after (change.Opens machine b r blank lot) told (image c))
-rows_after_opening c machine b r blank lot (before.Opening id p) sound keeps is =
+pub rows_after_opening : (c : Contents) (s : ℕ) (machine b r : List ℕ) (blank : ℕ) (lot : List ℕ) (p : RecordPlace) → IsSound c.facts
+    → IsSoundChange c.facts (change.Opens s machine b r blank lot) → IsPlaceOf c.facts b r p
+    → HaveSameRows (image (record c { facts = changed c.facts (change.Opens s machine b r blank lot) }))
+    (rows_after (writing.Opens (record { id = s; machine = machine; blank = blank; lot = lot; place = p })) (image c))
+rows_after_opening c s machine b r blank lot p sound keeps is =
     let f : Facts = c.facts in
-    let opens = change.Opens machine b r blank lot in
+    let opens = change.Opens s machine b r blank lot in
     let g : Facts = changed f opens in
     let new : Session = new_session machine b r blank in
     let sessions : List Session = f.sessions ++ new ∷ [] in
@@ -146,8 +147,9 @@ rows_after_opening c machine b r blank lot (before.Opening id p) sound keeps is 
     let blank_row : stored_blank f false blank ≡ record { serial = blank; lot = lot; discarded = false } =
     ap (λ n. record { serial = blank; lot = n; discarded = false }) (ap name_of keeps.before.1.1 ∙ keeps.before.1.2) in
     let at : RecordPlace = place_of f b r in
-    subst (λ q. HaveSameRows (image (record c { facts = g })) (rows_after opens (before.Opening id q) (image c))) (sym (is_place f b r p is.1))
-    (subst (λ n. HaveSameRows (image (record c { facts = g })) (rows_after opens (before.Opening n at) (image c))) (sym is.0)
+    let wrote : ℕ → RecordPlace → Writing = λ id q. writing.Opens (record { id = id; machine = machine; blank = blank; lot = lot; place = q }) in
+    subst (λ q. HaveSameRows (image (record c { facts = g })) (rows_after (wrote s q) (image c))) (sym (is_place f b r p is))
+    (subst (λ n. HaveSameRows (image (record c { facts = g })) (rows_after (wrote n at) (image c))) (sym keeps.before.2)
     (record {
       products = unmoved _ _ refl;
       lots = unmoved _ _ (lots_stay f f.remakes f.withdrawn sessions);
@@ -163,4 +165,3 @@ rows_after_opening c machine b r blank lot (before.Opening id p) sound keeps is 
       replies = unmoved _ _ refl;
       marks = unmoved _ _ refl;
     }))
-rows_after_opening c machine b r blank lot _ sound keeps is = absurd is

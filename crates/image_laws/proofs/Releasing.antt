@@ -6,11 +6,12 @@ use Rattle.std.proofs.lemmas.Bool.Decides.{nat_tests}
 use Rattle.std.proofs.lemmas.List.Elements.{All-weaker, filter-append}
 use Rattle.store_data.proofs.GroupLemmas.{bytes_eq-same, same-bytes_eq}
 use Rattle.job_facts.specs.Contents.{AreSound, Contents, Entry, IsOwedRelease, Mark, above, has_mark, is_above, mark_of, released, with_mark}
-use Rattle.table_rows.specs.After.{rows_after_release}
+use Rattle.table_rows.specs.After.{rows_written}
+use Rattle.table_rows.specs.declared.writing.Writing.TheVariants as writing
 use Rattle.table_rows.specs.Tables.{HaveSameRows, is_released}
 use Rattle.table_rows.proofs.Found.{filter_alike}
 use Rattle.image_laws.specs.Image.{image}
-use Rattle.image_laws.proofs.Lists.{pushed, unmoved}
+use Rattle.image_laws.proofs.Lists.{pushed, replies_move}
 
 abbrev upto_of : Option Mark → ℕ
 upto_of o = unwrap_or (option_map (λ (m : Mark). m.upto) o) 0
@@ -63,7 +64,7 @@ module _ (client : List ℕ) (upto : ℕ) where
       ]
 
 pub rows_after_release_are : (c : Contents) (upto : ℕ) (entry : Entry) → AreSound c → IsOwedRelease upto entry c
-    → HaveSameRows (image (released c upto entry)) (rows_after_release upto entry (image c))
+    → HaveSameRows (image (released c upto entry)) (rows_written (writing.Releases entry.client upto) entry (image c))
 rows_after_release_are c upto entry sound owed =
     let client = entry.client in
     let marks : List Mark = with_mark c.marks client upto in
@@ -76,16 +77,5 @@ rows_after_release_are c upto entry sound owed =
     ∙ lt-ltb upto entry.number owed.near in
     let kept : above marks (c.kept ++ entry ∷ []) ≡ filter is_left c.kept ++ entry ∷ [] =
     filter-append (is_above marks) c.kept (entry ∷ []) ∙ ap (λ b. filter (is_above marks) c.kept ++ cond b (entry ∷ []) []) own ∙ ap (λ es. es ++ entry ∷ []) old in
-    record {
-      products = unmoved _ _ refl;
-      lots = unmoved _ _ refl;
-      batches = unmoved _ _ refl;
-      records = unmoved _ _ refl;
-      groupings = unmoved _ _ refl;
-      sessions = unmoved _ _ refl;
-      words = unmoved _ _ refl;
-      blanks = unmoved _ _ refl;
-      remakes = unmoved _ _ refl;
-      replies = subst (λ es. IsPermutation es (entry ∷ filter is_left c.kept)) (sym kept) (pushed (filter is_left c.kept) entry);
-      marks = pushed (filter (λ (m : Mark). not (has_mark client m)) c.marks) (record { client = client; upto = upto });
-    }
+    replies_move (image c) _ _ _ _ (subst (λ es. IsPermutation es (entry ∷ filter is_left c.kept)) (sym kept) (pushed (filter is_left c.kept) entry))
+    (pushed (filter (λ (m : Mark). not (has_mark client m)) c.marks) (record { client = client; upto = upto }))

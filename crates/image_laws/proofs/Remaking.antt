@@ -20,10 +20,9 @@ use Rattle.step_laws.proofs.ChangeStands.{others_same, told_state, touched_stand
 use Rattle.step_laws.proofs.RecordStands.{named, same_states}
 use Rattle.table_rows.specs.After.{less, more, rows_after}
 use Rattle.table_rows.specs.Tables.{HaveSameRows, StoredRemake}
-use Rattle.table_rows.specs.declared.before.Before.{Before}
-use Rattle.table_rows.specs.declared.before.Before.TheVariants as before
-use Rattle.table_rows.specs.declared.before.RecordPlace.{RecordPlace}
-use Rattle.image_laws.specs.Before.{IsBefore}
+use Rattle.table_rows.specs.declared.writing.Writing.TheVariants as writing
+use Rattle.table_rows.specs.declared.writing.RecordPlace.{RecordPlace}
+use Rattle.image_laws.specs.WritingOf.{IsPlaceOf}
 use Rattle.image_laws.specs.Image.{batch_id, batches_by_id, image, place_in, placed_records, remakes_at, remakes_in, stored_remakes}
 use Rattle.image_laws.proofs.Lists.{flat_map_same, pushed, unmoved}
 use Rattle.image_laws.proofs.OneRecord.{batch_once, batches_set, has_name, ids, named_alone, places_in, records_once, records_set, totals_pass, turned}
@@ -127,10 +126,9 @@ module _ (f : Facts) (remakes withdrawn : List RecordName) (b r : List ℕ) (sou
       ∙ totals_pass f f.sessions remakes withdrawn b r sound others there was now was_is now_is (session_states f b)
       ∙ ap (λ n. more now (less was n)) (sym (totals_are f b))
 
-pub rows_after_remake : (c : Contents) (b r : List ℕ) (told : Before) → IsSound c.facts
-    → IsSoundChange c.facts (change.Remakes b r) → IsBefore c.facts (change.Remakes b r) told
-    → HaveSameRows (image (record c { facts = changed c.facts (change.Remakes b r) })) (rows_after (change.Remakes b r) told (image c))
-rows_after_remake c b r (before.OfRecord p) sound keeps is =
+pub rows_after_remake : (c : Contents) (b r : List ℕ) (p : RecordPlace) → IsSound c.facts → IsSoundChange c.facts (change.Remakes b r) → IsPlaceOf c.facts b r p
+    → HaveSameRows (image (record c { facts = changed c.facts (change.Remakes b r) })) (rows_after (writing.Remakes p) (image c))
+rows_after_remake c b r p sound keeps is =
     let f : Facts = c.facts in
     let remake = change.Remakes b r in
     let g : Facts = changed f remake in
@@ -139,7 +137,7 @@ rows_after_remake c b r (before.OfRecord p) sound keeps is =
     let now : record_state g b r ≡ rec.Waiting = touched_stands f remake sound keeps.before keeps.after (named b r) rec.Waiting refl refl in
     let totals = counters f g.remakes f.withdrawn b r sound told.0 others rec.Failed rec.Waiting told.1 now in
     let at : RecordPlace = place_of f b r in
-    subst (λ q. HaveSameRows (image (record c { facts = g })) (rows_after remake (before.OfRecord q) (image c))) (sym (is_place f b r p is))
+    subst (λ q. HaveSameRows (image (record c { facts = g })) (rows_after (writing.Remakes q) (image c))) (sym (is_place f b r p is))
     (record {
       products = unmoved _ _ refl;
       lots = unmoved _ _ (lots_stay f g.remakes f.withdrawn f.sessions);
@@ -154,12 +152,10 @@ rows_after_remake c b r (before.OfRecord p) sound keeps is =
       replies = unmoved _ _ refl;
       marks = unmoved _ _ refl;
     })
-rows_after_remake c b r _ sound keeps is = absurd is
 
-pub rows_after_withdrawal : (c : Contents) (b r : List ℕ) (was : RecordState) (told : Before) → IsSound c.facts
-    → IsSoundChange c.facts (change.Withdraws b r was) → IsBefore c.facts (change.Withdraws b r was) told
-    → HaveSameRows (image (record c { facts = changed c.facts (change.Withdraws b r was) })) (rows_after (change.Withdraws b r was) told (image c))
-rows_after_withdrawal c b r was (before.OfRecord p) sound keeps is =
+pub rows_after_withdrawal : (c : Contents) (b r : List ℕ) (was : RecordState) (p : RecordPlace) → IsSound c.facts → IsSoundChange c.facts (change.Withdraws b r was) → IsPlaceOf c.facts b r p
+    → HaveSameRows (image (record c { facts = changed c.facts (change.Withdraws b r was) })) (rows_after (writing.Withdraws was p) (image c))
+rows_after_withdrawal c b r was p sound keeps is =
     let f : Facts = c.facts in
     let withdrawal = change.Withdraws b r was in
     let g : Facts = changed f withdrawal in
@@ -168,7 +164,7 @@ rows_after_withdrawal c b r was (before.OfRecord p) sound keeps is =
     let now : record_state g b r ≡ rec.Withdrawn = touched_stands f withdrawal sound keeps.before keeps.after (named b r) rec.Withdrawn refl refl in
     let totals = counters f f.remakes g.withdrawn b r sound told.0 others was rec.Withdrawn told.1 now in
     let at : RecordPlace = place_of f b r in
-    subst (λ q. HaveSameRows (image (record c { facts = g })) (rows_after withdrawal (before.OfRecord q) (image c))) (sym (is_place f b r p is))
+    subst (λ q. HaveSameRows (image (record c { facts = g })) (rows_after (writing.Withdraws was q) (image c))) (sym (is_place f b r p is))
     (record {
       products = unmoved _ _ refl;
       lots = unmoved _ _ (lots_stay f f.remakes g.withdrawn f.sessions);
@@ -183,4 +179,3 @@ rows_after_withdrawal c b r was (before.OfRecord p) sound keeps is =
       replies = unmoved _ _ refl;
       marks = unmoved _ _ refl;
     })
-rows_after_withdrawal c b r was _ sound keeps is = absurd is

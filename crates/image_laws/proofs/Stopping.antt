@@ -16,8 +16,8 @@ use Rattle.step_laws.proofs.ChangeStands.{others_same, record_of_there}
 use Rattle.step_laws.proofs.Numbered.{session_sound}
 use Rattle.step_laws.proofs.RecordStands.{named}
 use Rattle.table_rows.specs.After.{less, more, one_spoiled}
-use Rattle.table_rows.specs.declared.before.RecordPlace.{RecordPlace}
-use Rattle.image_laws.specs.Before.{IsPlaceOf, IsPlaceOfSession}
+use Rattle.table_rows.specs.declared.writing.RecordPlace.{RecordPlace}
+use Rattle.image_laws.specs.WritingOf.{IsPlaceOf, IsPlaceOfSession}
 use Rattle.image_laws.proofs.OneRecord.{totals_pass}
 use Rattle.image_laws.proofs.OneSession.{AreAround, record_around, sessions_around}
 use Rattle.image_laws.proofs.Staying.{totals_are, totals_by}

@@ -4,8 +4,8 @@ use Rattle.std.specs.Prelude.{count_by}
 use Rattle.job_facts.specs.Accounts.{batch_totals}
 use Rattle.job_facts.specs.Facts.{Facts, RecordName, Session}
 use Rattle.job_facts.specs.States.{is_spoiled, plan_for, records_named, remakes_of, session_cursor, session_state, states_of}
-use Rattle.table_rows.specs.declared.before.RecordPlace.{RecordPlace}
-use Rattle.image_laws.specs.Before.{IsPlaceOf}
+use Rattle.table_rows.specs.declared.writing.RecordPlace.{RecordPlace}
+use Rattle.image_laws.specs.WritingOf.{IsPlaceOf}
 use Rattle.image_laws.specs.Image.{batch_id, place_in, stored_blanks, stored_groupings, stored_lots, stored_remakes, stored_sessions, stored_words}
 
 -- ---- what is told of the record

@@ -26,21 +26,22 @@ use Rattle.step_laws.proofs.RecordStands.{named}
 use Rattle.table_rows.specs.After.{record_after, rows_after}
 use Rattle.table_rows.specs.Tables.{HaveSameRows, session_set, with_session_set}
 use Rattle.table_rows.specs.Tables as tables
-use Rattle.table_rows.specs.declared.before.Before.{Before}
-use Rattle.table_rows.specs.declared.before.Before.TheVariants as before
-use Rattle.image_laws.specs.Before.{IsBefore}
+use Rattle.table_rows.specs.declared.writing.Writing.TheVariants as writing
+use Rattle.table_rows.specs.declared.writing.NewWord.{NewWord}
+use Rattle.table_rows.specs.declared.writing.RecordPlace.{RecordPlace}
+use Rattle.image_laws.specs.WritingOf.{IsPlaceOf}
 use Rattle.image_laws.specs.Image.{image, stored_blanks, stored_groupings, stored_lots, stored_remakes, stored_sessions, stored_words}
-use Rattle.image_laws.proofs.Lists.{unmoved}
+use Rattle.image_laws.proofs.Lists.{knows_later, unmoved}
 use Rattle.image_laws.proofs.OneRecord.{batches_set, records_set}
 use Rattle.image_laws.proofs.OneSession.{blanks_same, sessions_elsewhere, sessions_same, stand_same}
 use Rattle.image_laws.proofs.SessionRows.{word_put, word_set}
 use Rattle.image_laws.proofs.Staying.{batches_stay, records_stay}
-use Rattle.image_laws.proofs.Stopping.{other_records, own_place, spoiled_good, spoiled_more, totals_good, totals_spoiled}
-use Rattle.image_laws.proofs.Touching.{groupings_stay, lots_stay, place_of, remakes_stay}
+use Rattle.image_laws.proofs.Stopping.{other_records, spoiled_good, spoiled_more, totals_good, totals_spoiled}
+use Rattle.image_laws.proofs.Touching.{groupings_stay, is_place, lots_stay, place_of, remakes_stay}
 
-module _ (f : Facts) (s index sw : ℕ) (stands : SessionState) (cursor : Cursor) (keeps : IsSoundChange f (change.AddsWord s index sw stands cursor)) where
+module _ (f : Facts) (s : ℕ) (b r : List ℕ) (index sw : ℕ) (stands : SessionState) (cursor : Cursor) (keeps : IsSoundChange f (change.AddsWord s b r index sw stands cursor)) where
   abbrev word_change : Change
-  word_change = change.AddsWord s index sw stands cursor
+  word_change = change.AddsWord s b r index sw stands cursor
 
   abbrev worded_facts : Facts
   worded_facts = with_word f s sw
@@ -85,19 +86,16 @@ module _ (f : Facts) (s index sw : ℕ) (stands : SessionState) (cursor : Cursor
 
   -- ---- of its record
 
+  pub own_placed : (p : RecordPlace) → IsPlaceOf f b r p → p ≡ place_of f own.batch own.rec
+  own_placed p is =
+      is_place f own.batch own.rec p
+      (subst (λ d. IsPlaceOf f d own.rec p) (sym keeps.before.4) (subst (λ q. IsPlaceOf f b q p) (sym keeps.before.5) is))
+
   elsewhere : (d : List ℕ) → bytes_eq own.batch d ≡ false → session_states worded_facts d ≡ session_states f d
   elsewhere = sessions_elsewhere f s own (worded sw) keeps.before.1 refl refl
 
   knows : KnowsMore f worded_facts
-  knows = record {
-    products = no_more f.products;
-    lots = no_more f.lots;
-    batches = no_more f.batches;
-    discarded = no_more f.discarded;
-    remakes = no_more f.remakes;
-    withdrawn = no_more f.withdrawn;
-    closed = no_more f.closed;
-  }
+  knows = knows_later f _ _ _ (no_more f.discarded) (no_more f.closed)
 
   module _ (sound : IsSound f) where
     others : (d q : List ℕ) → is_record d q (named own.batch own.rec) ≡ false → StandsSame f worded_facts d q
@@ -126,52 +124,61 @@ module _ (f : Facts) (s index sw : ℕ) (stands : SessionState) (cursor : Cursor
       marks = unmoved _ _ refl;
     }
 
-pub rows_after_word : (c : Contents) (s index sw : ℕ) (stands : SessionState) (cursor : Cursor) (told : Before) → IsSound c.facts
-    → IsSoundChange c.facts (change.AddsWord s index sw stands cursor) → IsBefore c.facts (change.AddsWord s index sw stands cursor) told
-    → HaveSameRows (image (record c { facts = changed c.facts (change.AddsWord s index sw stands cursor) })) (rows_after (change.AddsWord s index sw stands cursor) told (image c))
-rows_after_word c s index sw session.Running cursor before.Nothing sound keeps is =
+abbrev word_of : ℕ → ℕ → ℕ → Cursor → NewWord
+word_of s index sw cursor = record { session = s; index = index; sw = sw; cursor = cursor }
+
+pub rows_after_word : (c : Contents) (s : ℕ) (b r : List ℕ) (index sw : ℕ) (cursor : Cursor) → IsSound c.facts → IsSoundChange c.facts (change.AddsWord s b r index sw session.Running cursor)
+    → HaveSameRows (image (record c { facts = changed c.facts (change.AddsWord s b r index sw session.Running cursor) })) (rows_after (writing.AddsWord (word_of s index sw cursor)) (image c))
+rows_after_word c s b r index sw cursor sound keeps =
     let f : Facts = c.facts in
     let runs = session.Running in
     let x : Session = keeps.before.0 in
     let g : Facts = with_word f s sw in
-    let stands : session_state f (worded sw x) ≡ session_state f x = stands_then f s index sw runs cursor keeps ∙ sym keeps.before.2 in
-    let same : (b r : List ℕ) → StandsSame f g b r = stand_same f s x (worded sw) keeps.before.1 refl refl stands in
-    let more_known = knows f s index sw runs cursor keeps in
+    let stands : session_state f (worded sw x) ≡ session_state f x = stands_then f s b r index sw runs cursor keeps ∙ sym keeps.before.2 in
+    let same : (d q : List ℕ) → StandsSame f g d q = stand_same f s x (worded sw) keeps.before.1 refl refl stands in
+    let more_known = knows f s b r index sw runs cursor keeps in
     record {
       products = unmoved _ _ refl;
-      lots = unmoved _ _ (lots_then f s index sw runs cursor keeps);
+      lots = unmoved _ _ (lots_then f s b r index sw runs cursor keeps);
       batches = unmoved _ _ (batches_stay f g sound more_known refl same (sessions_same f s x (worded sw) keeps.before.1 refl refl stands) refl);
       records = unmoved _ _ (records_stay f g sound more_known refl same);
-      groupings = unmoved _ _ (groupings_then f s index sw runs cursor keeps);
-      sessions = unmoved _ _ (sessions_then f s index sw runs cursor keeps);
-      words = words_then f s index sw runs cursor keeps;
-      blanks = unmoved _ _ (blanks_then f s index sw runs cursor keeps);
-      remakes = unmoved _ _ (remakes_then f s index sw runs cursor keeps);
+      groupings = unmoved _ _ (groupings_then f s b r index sw runs cursor keeps);
+      sessions = unmoved _ _ (sessions_then f s b r index sw runs cursor keeps);
+      words = words_then f s b r index sw runs cursor keeps;
+      blanks = unmoved _ _ (blanks_then f s b r index sw runs cursor keeps);
+      remakes = unmoved _ _ (remakes_then f s b r index sw runs cursor keeps);
       replies = unmoved _ _ refl;
       marks = unmoved _ _ refl;
     }
-rows_after_word c s index sw session.Good cursor (before.OfRecord p) sound keeps is =
+
+pub rows_after_good_word : (c : Contents) (s : ℕ) (b r : List ℕ) (index sw : ℕ) (cursor : Cursor) (p : RecordPlace) → IsSound c.facts
+    → IsSoundChange c.facts (change.AddsWord s b r index sw session.Good cursor) → IsPlaceOf c.facts b r p
+    → HaveSameRows (image (record c { facts = changed c.facts (change.AddsWord s b r index sw session.Good cursor) })) (rows_after (writing.AddsLastWord (word_of s index sw cursor) session.Good p) (image c))
+rows_after_good_word c s b r index sw cursor p sound keeps is =
     let f : Facts = c.facts in
     let good = session.Good in
     let x : Session = keeps.before.0 in
     let there = keeps.before.1 in
-    let word = change.AddsWord s index sw good cursor in
-    let stands = stands_then f s index sw good cursor keeps in
+    let word = change.AddsWord s b r index sw good cursor in
+    let stands = stands_then f s b r index sw good cursor keeps in
     let now : record_state (with_word f s sw) x.batch x.rec ≡ rec.Good = touched_stands f word sound keeps.before keeps.after (named x.batch x.rec) rec.Good (record_of_there f s x there) refl in
     let spoiled = spoiled_good f s x (worded sw) there refl refl keeps.before.2 stands in
-    let totals = totals_good f s x (worded sw) there refl refl keeps.before.2 sound (others f s index sw good cursor keeps sound) (ran f s index sw good cursor keeps sound) stands now in
-    subst (λ q. HaveSameRows (image (record c { facts = with_word f s sw })) (rows_after word (before.OfRecord q) (image c))) (sym (own_place f s x there p is))
-    (rows_over f s index sw good cursor keeps sound c.kept c.marks rec.Good _ _ now spoiled totals)
-rows_after_word c s index sw session.Spoiled cursor (before.OfRecord p) sound keeps is =
+    let totals = totals_good f s x (worded sw) there refl refl keeps.before.2 sound (others f s b r index sw good cursor keeps sound) (ran f s b r index sw good cursor keeps sound) stands now in
+    subst (λ q. HaveSameRows (image (record c { facts = with_word f s sw })) (rows_after (writing.AddsLastWord (word_of s index sw cursor) good q) (image c))) (sym (own_placed f s b r index sw good cursor keeps p is))
+    (rows_over f s b r index sw good cursor keeps sound c.kept c.marks rec.Good _ _ now spoiled totals)
+
+pub rows_after_spoiled_word : (c : Contents) (s : ℕ) (b r : List ℕ) (index sw : ℕ) (cursor : Cursor) (p : RecordPlace) → IsSound c.facts
+    → IsSoundChange c.facts (change.AddsWord s b r index sw session.Spoiled cursor) → IsPlaceOf c.facts b r p
+    → HaveSameRows (image (record c { facts = changed c.facts (change.AddsWord s b r index sw session.Spoiled cursor) })) (rows_after (writing.AddsLastWord (word_of s index sw cursor) session.Spoiled p) (image c))
+rows_after_spoiled_word c s b r index sw cursor p sound keeps is =
     let f : Facts = c.facts in
     let over = session.Spoiled in
     let x : Session = keeps.before.0 in
     let there = keeps.before.1 in
-    let word = change.AddsWord s index sw over cursor in
-    let stands = stands_then f s index sw over cursor keeps in
+    let word = change.AddsWord s b r index sw over cursor in
+    let stands = stands_then f s b r index sw over cursor keeps in
     let now : record_state (with_word f s sw) x.batch x.rec ≡ rec.Failed = touched_stands f word sound keeps.before keeps.after (named x.batch x.rec) rec.Failed (record_of_there f s x there) refl in
     let spoiled = spoiled_more f s x (worded sw) there refl refl keeps.before.2 stands in
-    let totals = totals_spoiled f s x (worded sw) there refl refl keeps.before.2 sound (others f s index sw over cursor keeps sound) (ran f s index sw over cursor keeps sound) stands now in
-    subst (λ q. HaveSameRows (image (record c { facts = with_word f s sw })) (rows_after word (before.OfRecord q) (image c))) (sym (own_place f s x there p is))
-    (rows_over f s index sw over cursor keeps sound c.kept c.marks rec.Failed _ _ now spoiled totals)
-rows_after_word c s index sw _ cursor _ sound keeps is = absurd is
+    let totals = totals_spoiled f s x (worded sw) there refl refl keeps.before.2 sound (others f s b r index sw over cursor keeps sound) (ran f s b r index sw over cursor keeps sound) stands now in
+    subst (λ q. HaveSameRows (image (record c { facts = with_word f s sw })) (rows_after (writing.AddsLastWord (word_of s index sw cursor) over q) (image c))) (sym (own_placed f s b r index sw over cursor keeps p is))
+    (rows_over f s b r index sw over cursor keeps sound c.kept c.marks rec.Failed _ _ now spoiled totals)

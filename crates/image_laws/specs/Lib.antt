@@ -1,3 +1,3 @@
 pub mod Image
-pub mod Before
+pub mod WritingOf
 pub mod Decided

@@ -3,9 +3,9 @@ ghost use Rattle.job_facts.specs.declared.change.Change.{Change};
 ghost use Rattle.job_facts.specs.declared.change.Change.TheVariants as change;
 ghost use Rattle.job_facts.specs.Contents.{Contents, Entry, committed};
 ghost use Rattle.job_facts.specs.Sound.{IsSound, IsSoundChange, changed};
-ghost use Rattle.image_laws.specs.Before.{IsBefore};
 ghost use Rattle.image_laws.specs.Image.{image};
-ghost use Rattle.table_rows.specs.declared.before.Before.{Before};
+ghost use Rattle.image_laws.specs.WritingOf.{IsWritingOf};
+ghost use Rattle.table_rows.specs.declared.writing.Writing.{Writing};
 ghost use Rattle.table_rows.specs.After.{rows_after};
 ghost use Rattle.table_rows.specs.Tables.{HaveSameRows, with_reply};
 
@@ -15,10 +15,10 @@ pub fn rows_with_reply()
         (image (committed c change.Nothing entry)) (with_reply entry (image c)) }
 {}
 
-/// The rows after any change, by the change and by how what it touches stood before it.
+/// The rows after any change are those after what is written for it.
 pub fn rows_after_change()
-    ensures { (c : Contents) (change : Change) (told : Before) → IsSound c.facts
-        → IsSoundChange c.facts change → IsBefore c.facts change told
+    ensures { (c : Contents) (change : Change) (w : Writing) → IsSound c.facts
+        → IsSoundChange c.facts change → IsWritingOf c.facts change w
         → HaveSameRows (image (record c { facts = changed c.facts change }))
-        (rows_after change told (image c)) }
+        (rows_after w (image c)) }
 {}

@@ -82,7 +82,8 @@ last_stops_push commands k (w ∷ v ∷ words) sw =
     let e : k + 1 + length (v ∷ words) ≡ k + length (w ∷ v ∷ words) = omega arith in
     last_stops_push commands (k + 1) (v ∷ words) sw ∙ ap (λ n. not (goes_at commands n sw)) e
 
-module _ (f : Facts) (s sw : ℕ) (x : Session) (plan : Plan) (sound : IsSound f) (is : Runs f s x plan) (small : sw < 2 ^ 16) where
+module _ (f : Facts) (s sw : ℕ) (x : Session) (plan : Plan) (b r : List ℕ) (of_batch : x.batch ≡ b) (of_record : x.rec ≡ r) (sound : IsSound f) (is : Runs f s x plan)
+    (small : sw < 2 ^ 16) where
   abbrev k : ℕ
   k = length x.words
 
@@ -116,15 +117,15 @@ module _ (f : Facts) (s sw : ℕ) (x : Session) (plan : Plan) (sound : IsSound f
   row_after = ap (option_map (session_row g)) (word_after f s sw x is.there)
 
   makes : (told : reply.the_data) (stands : SessionState) (c : Cursor) → (take_word f s k sw x).1 ≡ told → session_state g y ≡ stands → session_cursor g y ≡ c
-      → Makes f (take_word f s k sw x) told (change.AddsWord s k sw stands c)
+      → Makes f (take_word f s k sw x) told (change.AddsWord s b r k sw stands c)
   makes told stands c same is_state is_cursor = record {
     step_is = ap (λ r. (g, r)) same;
-    keeps = record { before = (x, is.there, is.runs, refl); sound = sound_word f s sw x sound is.there is.runs small; after = (session_row g y, row_after, is_state, is_cursor) };
+    keeps = record { before = (x, is.there, is.runs, refl, of_batch, of_record); sound = sound_word f s sw x sound is.there is.runs small; after = (session_row g y, row_after, is_state, is_cursor) };
   }
 
   -- a word that does not go
   pub spoiled_word : (c : Cursor) → goes_at (commands_of plan) k sw ≡ false → c ≡ session_cursor f x
-      → Makes f (take_word f s k sw x) (reply.Spoiled s) (change.AddsWord s k sw session.Spoiled c)
+      → Makes f (take_word f s k sw x) (reply.Spoiled s) (change.AddsWord s b r k sw session.Spoiled c)
   spoiled_word c stops same =
       let stopped : last_stops (commands_of plan) y.words ≡ true = stops_after ∙ ap not stops in
       let back : going (commands_of plan) y.words ≡ k = cond-true (last_stops (commands_of plan) y.words) (length y.words - 1) (length y.words) stopped ∙ (omega (arith, more_words)) in
@@ -141,7 +142,7 @@ module _ (f : Facts) (s sw : ℕ) (x : Session) (plan : Plan) (sound : IsSound f
     on = cond-false (last_stops (commands_of plan) y.words) (length y.words - 1) (length y.words) went_on ∙ more_words
 
     -- the last word
-    pub good_word : None ≡ slice_get (sequence plan) (k + 1) → Makes f (take_word f s k sw x) (reply.Good s) (change.AddsWord s k sw session.Good next)
+    pub good_word : None ≡ slice_get (sequence plan) (k + 1) → Makes f (take_word f s k sw x) (reply.Good s) (change.AddsWord s b r k sw session.Good next)
     good_word none =
         let all : k + 1 ≡ length (commands_of plan) = elim (cases_lt (k + 1) (length (commands_of plan))) [
           | inl more ↦ let item = item_there (sequence plan) (k + 1) (omega (arith, length-sequence plan)) in absurd (none-some item.0 (none ∙ item.1))
@@ -155,7 +156,7 @@ module _ (f : Facts) (s sw : ℕ) (x : Session) (plan : Plan) (sound : IsSound f
 
     -- a word before the last
     pub next_word : (command : List ℕ) → Some command ≡ slice_get (sequence plan) (k + 1)
-        → Makes f (take_word f s k sw x) (reply.Next command (k + 1) s) (change.AddsWord s k sw session.Running next)
+        → Makes f (take_word f s k sw x) (reply.Next command (k + 1) s) (change.AddsWord s b r k sw session.Running next)
     next_word command more =
         let within : k + 1 < length (commands_of plan) = omega (arith, length-sequence plan, slice_get_within (sequence plan) (k + 1) command (sym more)) in
         let differ : eqb (k + 1) (length (commands_of plan)) ≡ false = ne_eqb (k + 1) (length (commands_of plan)) (λ e. omega (arith, within, e)) in

@@ -28,9 +28,10 @@ pub(crate) fn change_facts(
             batch,
             product,
             raw,
+            ..
         } => facts.batches.push(KeptBatch {
             name: batch,
-            product,
+            product: product.code,
             raw: copied(alloc, raw)?,
         })?,
         Change::Opens {

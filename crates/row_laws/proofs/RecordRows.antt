@@ -22,7 +22,7 @@ use Rattle.job_facts.proofs.Lists.{mapped}
 use Rattle.step_laws.proofs.BlankSums.{bytes_eq_either}
 use Rattle.table_rows.specs.Keys.{is_batch_named, is_record_at, is_record_named}
 use Rattle.table_rows.specs.Tables.{PassesOnce, StoredBatch, StoredRecord}
-use Rattle.image_laws.specs.Before.{IsPlaceOf}
+use Rattle.image_laws.specs.WritingOf.{IsPlaceOf}
 use Rattle.image_laws.specs.Image.{batch_id, batches_by_id, place_in, placed_records, records_in, stored_batch, stored_batches, stored_record, stored_records}
 use Rattle.row_laws.specs.Telling.{place_of, record_row}
 use Rattle.row_laws.proofs.BatchRows.{batch_at, named_row, own_name, totals_are}

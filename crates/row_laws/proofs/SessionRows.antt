@@ -11,7 +11,7 @@ use Rattle.job_facts.specs.States.{is_running, numbered, records_named, running_
 use Rattle.step_laws.proofs.Numbered.{session_sound}
 use Rattle.table_rows.specs.Keys.{is_batch, is_record_at, is_running_on, is_session}
 use Rattle.table_rows.specs.Tables.{PassesOnce, StoredBatch, StoredRecord, StoredSession}
-use Rattle.image_laws.specs.Before.{IsPlaceOf, IsPlaceOfSession}
+use Rattle.image_laws.specs.WritingOf.{IsPlaceOf, IsPlaceOfSession}
 use Rattle.image_laws.specs.Image.{batch_id, place_in, sessions_by_id, stored_batch, stored_batches, stored_record, stored_records, stored_session, stored_sessions}
 use Rattle.row_laws.specs.Telling.{place_of, session_in, session_of}
 use Rattle.row_laws.proofs.BatchRows.{id_row as batch_row, own_name}

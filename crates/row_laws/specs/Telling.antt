@@ -12,7 +12,7 @@ use Rattle.job_facts.specs.declared.rows.BlankTotals.{BlankTotals}
 use Rattle.job_facts.specs.declared.rows.RecordLine.{RecordLine}
 use Rattle.job_facts.specs.declared.rows.SessionRow.{SessionRow}
 use Rattle.job_facts.specs.States.{product_named}
-use Rattle.table_rows.specs.declared.before.RecordPlace.{RecordPlace}
+use Rattle.table_rows.specs.declared.writing.RecordPlace.{RecordPlace}
 use Rattle.table_rows.specs.Keys.{is_batch, is_batch_named, is_good_of, is_grouping_at, is_grouping_of, is_record_at, is_record_named, is_record_of, is_session, is_waiting_of}
 use Rattle.table_rows.specs.Tables.{StoredBatch, StoredGrouping, StoredLot, StoredRecord, StoredSession, totals_of}
 

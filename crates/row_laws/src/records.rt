@@ -8,7 +8,7 @@ ghost use Rattle.job_facts.specs.Sound.{IsRecord};
 ghost use Rattle.job_facts.specs.States.{batch_named, first_waiting, record_state_of};
 ghost use Rattle.job_facts.specs.States.{records_named};
 ghost use Rattle.row_laws.specs.Telling.{place_of, record_row, waiting_in};
-ghost use Rattle.image_laws.specs.Before.{IsPlaceOf};
+ghost use Rattle.image_laws.specs.WritingOf.{IsPlaceOf};
 ghost use Rattle.image_laws.specs.Image.{batch_id, place_in, stored_batches, stored_record};
 ghost use Rattle.image_laws.specs.Image.{stored_records};
 ghost use Rattle.table_rows.specs.Keys.{is_batch_named, is_record_at, is_record_named};

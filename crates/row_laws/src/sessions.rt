@@ -5,7 +5,7 @@ ghost use Rattle.job_facts.specs.Rows.{session_row_of};
 ghost use Rattle.job_facts.specs.Sound.{IsSound};
 ghost use Rattle.job_facts.specs.States.{running_session, session_numbered};
 ghost use Rattle.row_laws.specs.Telling.{place_of, session_in};
-ghost use Rattle.image_laws.specs.Before.{IsPlaceOfSession};
+ghost use Rattle.image_laws.specs.WritingOf.{IsPlaceOfSession};
 ghost use Rattle.image_laws.specs.Image.{stored_batches, stored_records, stored_session};
 ghost use Rattle.image_laws.specs.Image.{stored_sessions};
 ghost use Rattle.table_rows.specs.Keys.{is_batch, is_record_at, is_running_on, is_session};

@@ -3,7 +3,7 @@ use Rattle.std.proofs.Common.{List, ℕ, true, false, [], ◌∷◌, codes, refl
 use Rattle.sqlite.specs.Listing.{understood}
 use Rattle.sqlite.specs.Term.{col}
 use Rattle.sqlite_tied.specs.Compute.{everything}
-use Rattle.row_reads.specs.CardTexts.{by_batch, by_batch_and_name, by_batch_and_place, by_good_batch, by_id, by_running_machine, by_waiting_batch, good_columns, good_text, grouping_count_text, groupings_text, last_session_text, limit_one, more_grouping_columns, more_record_columns, no_limit, record_at_text, record_columns, record_named_text, records_text, running_columns, running_text, session_columns, session_text, waiting_text}
+use Rattle.row_reads.specs.CardTexts.{by_batch, by_batch_and_name, by_batch_and_place, by_good_batch, by_id, by_running_machine, by_segment, by_waiting_batch, coded_columns, coded_text, good_columns, good_text, grouping_count_text, groupings_text, last_session_text, limit_one, more_grouping_columns, more_record_columns, no_limit, record_at_text, record_columns, record_named_text, records_text, running_columns, running_text, session_columns, session_text, waiting_text}
 use Rattle.row_reads.specs.NameTexts.{by_two_columns}
 use Rattle.row_reads.proofs.Asking.{Asks}
 use Rattle.row_reads.proofs.Sorting.{AsksSorted}
@@ -50,7 +50,11 @@ waiting_asks = record { names = record_names; is = refl; plain = (refl, refl); u
 
 pub groupings_asks : AsksSorted false no_limit groupings_text 10 by_batch_and_place (col 1 2) more_grouping_columns
 unfolding understood everything
-groupings_asks = record { names = codes "line" ∷ codes "aid" ∷ codes "rank" ∷ codes "enc" ∷ codes "tol" ∷ codes "coded" ∷ []; is = refl; plain = (refl, refl); unlisted = refl }
+groupings_asks = record { names = codes "line" ∷ codes "aid" ∷ codes "rank" ∷ codes "enc" ∷ codes "tol" ∷ []; is = refl; plain = (refl, refl); unlisted = refl }
+
+pub coded_asks : AsksSorted false no_limit coded_text 10 by_segment (col 1 2) coded_columns
+unfolding understood everything
+coded_asks = record { names = codes "line" ∷ codes "coded" ∷ []; is = refl; plain = (refl, refl); unlisted = refl }
 
 pub grouping_count_asks : Asks grouping_count_text 10 by_batch (col 1 2 ∷ [])
 unfolding understood everything

@@ -1,8 +1,10 @@
 -- What is answered of records, groupings and sessions, where several rows can be, and of the first and the last of them.
-use Rattle.std.proofs.Common.{◌≡◌, ℕ, ◌==◌, ◌&&◌, true, false, List, [], ◌∷◌, length, map, Option, refl, ap, subst, ◌∙◌}
-use Rattle.std.specs.Prelude.{filter}
+use Rattle.std.proofs.Common.{◌≡◌, ℕ, ◌==◌, ◌&&◌, true, false, List, [], ◌∷◌, length, map, Option, refl, sym, ap, subst, ◌∙◌}
+use Rattle.std.proofs.Math.Bool.{and_assoc}
+use Rattle.std.specs.Prelude.{bytes_eq, filter}
 use Rattle.std.specs.List.Sorted.{IsPermutation}
 use Rattle.sqlite.specs.Collation.TheVariants.{Binary}
+use Rattle.sqlite.specs.declared.types.Value.TheVariants.{Blob}
 use Rattle.sqlite.specs.Ops.{binary, is_true}
 use Rattle.sqlite.specs.Order.{Row}
 use Rattle.sqlite.specs.State.{Shown, State}
@@ -15,20 +17,21 @@ use Rattle.job_facts.specs.declared.facts.SessionState.{SessionState}
 use Rattle.job_facts.specs.declared.facts.SessionState.TheVariants as session
 use Rattle.job_facts.specs.States.{is_good, is_waiting}
 use Rattle.sql_base.proofs.Selecting.{all_pass}
+use Rattle.sql_base.proofs.Tests.{alone, same_blob, same_int}
 use Rattle.table_rows.specs.Keys.{is_good_of, is_grouping_at, is_grouping_of, is_record_of, is_waiting_of}
 use Rattle.table_rows.specs.Tables.{StoredGrouping, StoredRecord, StoredSession, Tables}
 use Rattle.sql_rows.specs.Encoding.{grouping_row, number, record_code, record_row, session_code, session_row}
 use Rattle.sql_rows.specs.Image.{IsImage}
 use Rattle.sql_rows.proofs.OneImage.{enc_back, flag_back}
 use Rattle.row_reads.specs.declared.records.RecordAt.{RecordAt}
-use Rattle.row_reads.specs.CardDecoding.{good_at, good_in, grouping_at, grouping_in, line_of, place_of, record_at, record_in}
-use Rattle.row_reads.specs.CardTexts.{by_batch, by_batch_and_place, by_good_batch, by_waiting_batch, good_columns, good_text, grouping_count_text, groupings_text, last_session_text, limit_one, more_grouping_columns, more_record_columns, no_limit, record_columns, records_text, waiting_text}
+use Rattle.row_reads.specs.CardDecoding.{coded_at, coded_in, coded_line, good_at, good_in, grouping_at, grouping_in, is_of_segment, line_of, place_of, record_at, record_in}
+use Rattle.row_reads.specs.CardTexts.{by_batch, by_batch_and_place, by_good_batch, by_segment, by_waiting_batch, coded_columns, coded_text, good_columns, good_text, grouping_count_text, groupings_text, last_session_text, limit_one, more_grouping_columns, more_record_columns, no_limit, record_columns, records_text, waiting_text}
 use Rattle.row_reads.specs.Decoding.{IsFirst, first_number}
 use Rattle.row_reads.specs.Extremes.{AreSorted, IsGreatest, IsLeastBy}
 use Rattle.row_reads.proofs.Answering.{int_key}
 use Rattle.row_reads.proofs.Asking.{all_found, asked, count_found, tells}
 use Rattle.row_reads.proofs.CardAnswers.{place_key, record_back}
-use Rattle.row_reads.proofs.CardMeanings.{good_asks, grouping_count_asks, groupings_asks, last_session_asks, records_asks, waiting_asks}
+use Rattle.row_reads.proofs.CardMeanings.{coded_asks, good_asks, grouping_count_asks, groupings_asks, last_session_asks, records_asks, waiting_asks}
 use Rattle.row_reads.proofs.Sorting.{asked_sorted, greatest_found, least_found, sorted_found}
 
 -- ---- sessions
@@ -101,6 +104,21 @@ groupings_found batch place old new rows h t image =
     false no_limit groupings_text 10 groupings_asks old new rows h image.ours t.groupings image.each.1.1.1.1.1.0.rows in
     sorted_found (is_grouping_at batch place) (λ g. tells false (col 1 2 ∷ more_grouping_columns) params (grouping_row g)) t.groupings it.0 it.1 it.2 (λ g. refl) grouping_in grouping_at
     (grouping_back params) line_of (λ r. refl) rows it.3
+
+segment_key : (batch place : ℕ) (aid : List ℕ) (rank : ℕ) (g : StoredGrouping)
+    → (is_true (binary (Compare Eq Binary) (number g.batch) (number batch)) && (is_true (binary (Compare Eq Binary) (number g.place) (number place))
+    && (is_true (binary (Compare Eq Binary) (Blob g.aid) (Blob aid)) && (is_true (binary (Compare Eq Binary) (number g.rank) (number rank)) && true)))) ≡ is_of_segment batch place aid rank g
+segment_key batch place aid rank g =
+    rw (same_int g.batch batch, same_int g.place place, same_blob g.aid aid, same_int g.rank rank, alone (g.rank == rank)) (sym (and_assoc (g.batch == batch) (g.place == place) (bytes_eq g.aid aid && (g.rank == rank))))
+
+pub coded_found : (batch place : ℕ) (aid : List ℕ) (rank : ℕ) (old new : State) (rows : List Row) → Shown coded_text (number batch ∷ number place ∷ Blob aid ∷ number rank ∷ []) old new rows
+    → (t : Tables) → IsImage t old.now → AreSorted coded_line (map coded_at (filter (is_of_segment batch place aid rank) t.groupings)) (map coded_in rows)
+coded_found batch place aid rank old new rows h t image =
+    let params = number batch ∷ number place ∷ Blob aid ∷ number rank ∷ [] in
+    let it = asked_sorted false grouping_row by_segment (col 1 2) coded_columns params (is_of_segment batch place aid rank) refl (λ v r. refl) (segment_key batch place aid rank)
+    false no_limit coded_text 10 coded_asks old new rows h image.ours t.groupings image.each.1.1.1.1.1.0.rows in
+    sorted_found (is_of_segment batch place aid rank) (λ g. tells false (col 1 2 ∷ coded_columns) params (grouping_row g)) t.groupings it.0 it.1 it.2 (λ g. refl) coded_in coded_at (λ g. refl)
+    coded_line (λ r. refl) rows it.3
 
 pub groupings_counted : (batch : ℕ) (old new : State) (rows : List Row) → Shown grouping_count_text (number batch ∷ []) old new rows → (t : Tables) → IsImage t old.now
     → length rows ≡ length (filter (is_grouping_of batch) t.groupings)

@@ -1,13 +1,15 @@
 -- What the values of an answered row tell of records, groupings and sessions.
-use Rattle.std.specs.Prelude.{◌<◌, ◌≤◌, ◌^◌, ℕ}
+use Rattle.std.specs.Prelude.{◌<◌, ◌≤◌, ◌^◌, ◌==◌, ◌&&◌, ℕ, Bool, List, bytes_eq}
 use Rattle.sqlite.specs.Order.{Row, column}
 use Rattle.store_data.specs.declared.cursor.Cursor.{Cursor}
 use Rattle.store_data.specs.Cursor.{IsCursor}
 use Rattle.sql_rows.specs.Decoding.{enc_of_code, flag_in, number_in, record_state_of_code, session_state_of_code}
+use Rattle.row_reads.specs.declared.groupings.CodedAt.{CodedAt}
 use Rattle.row_reads.specs.declared.groupings.GroupingAt.{GroupingAt}
 use Rattle.row_reads.specs.declared.records.RecordAt.{RecordAt}
 use Rattle.row_reads.specs.declared.sessions.GoodCard.{GoodCard}
 use Rattle.row_reads.specs.declared.sessions.SessionAt.{SessionAt}
+use Rattle.table_rows.specs.Keys.{is_grouping_at}
 use Rattle.table_rows.specs.Tables.{StoredGrouping, StoredRecord, StoredSession}
 use Rattle.row_reads.specs.Decoding.{blob_in, text_in}
 
@@ -82,12 +84,11 @@ grouping_in row = record {
   rank = number_in (column row 2);
   enc = enc_of_code (number_in (column row 3));
   tol = flag_in (column row 4);
-  coded = blob_in (column row 5);
 }
 
--- what is told of a stored grouping
+-- what is told of a stored grouping, without its bytes
 abbrev pub grouping_at : StoredGrouping → GroupingAt
-grouping_at g = record { line = g.line; aid = g.aid; rank = g.rank; enc = g.enc; tol = g.tol; coded = g.coded }
+grouping_at g = record { line = g.line; aid = g.aid; rank = g.rank; enc = g.enc; tol = g.tol }
 
 abbrev pub line_of : GroupingAt → ℕ
 line_of g = g.line
@@ -97,3 +98,23 @@ pub record IsGroupingAt (g : GroupingAt) : Type 0 where
   pub line : g.line < 2 ^ 63
   pub least_rank : 1 ≤ g.rank
   pub most_rank : g.rank ≤ 999
+
+-- ---- the bytes of groupings
+
+-- a grouping for the record at this place, of this application and rank
+abbrev pub is_of_segment : ℕ → ℕ → List ℕ → ℕ → StoredGrouping → Bool
+is_of_segment batch place aid rank g = is_grouping_at batch place g && (bytes_eq g.aid aid && (g.rank == rank))
+
+abbrev pub coded_in : Row → CodedAt
+coded_in row = record { line = number_in (column row 0); coded = blob_in (column row 1) }
+
+-- the bytes of a stored grouping
+abbrev pub coded_at : StoredGrouping → CodedAt
+coded_at g = record { line = g.line; coded = g.coded }
+
+abbrev pub coded_line : CodedAt → ℕ
+coded_line g = g.line
+
+-- its number is in its range
+abbrev pub IsCodedAt : CodedAt → Type 0
+IsCodedAt g = g.line < 2 ^ 63

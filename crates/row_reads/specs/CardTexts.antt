@@ -75,15 +75,26 @@ by_waiting_batch = is_equal (col 1 1) (col 0 0) ∷ is_equal (col 1 4) (lit (Int
 -- ---- groupings
 
 abbrev pub groupings_text : List ℕ
-groupings_text = codes "SELECT line, aid, rank, enc, tol, coded FROM grouping2 WHERE batch = ?1 AND place = ?2 ORDER BY line"
+groupings_text = codes "SELECT line, aid, rank, enc, tol FROM grouping2 WHERE batch = ?1 AND place = ?2 ORDER BY line"
 
 -- those after the first
 abbrev pub more_grouping_columns : List Term
-more_grouping_columns = col 1 4 ∷ col 1 5 ∷ col 1 6 ∷ col 1 7 ∷ col 1 8 ∷ []
+more_grouping_columns = col 1 4 ∷ col 1 5 ∷ col 1 6 ∷ col 1 7 ∷ []
 
 -- the batch is the first parameter, and the place is the second
 abbrev pub by_batch_and_place : List Term
 by_batch_and_place = is_equal (col 1 1) (col 0 0) ∷ is_equal (col 1 3) (col 0 1) ∷ []
+
+abbrev pub coded_text : List ℕ
+coded_text = codes "SELECT line, coded FROM grouping2 WHERE batch = ?1 AND place = ?2 AND aid = ?3 AND rank = ?4 ORDER BY line"
+
+-- behind the line
+abbrev pub coded_columns : List Term
+coded_columns = col 1 8 ∷ []
+
+-- the batch, the place, the identifier and the rank are the four parameters
+abbrev pub by_segment : List Term
+by_segment = is_equal (col 1 1) (col 0 0) ∷ is_equal (col 1 3) (col 0 1) ∷ is_equal (col 1 4) (col 0 2) ∷ is_equal (col 1 5) (col 0 3) ∷ []
 
 abbrev pub grouping_count_text : List ℕ
 grouping_count_text = codes "SELECT line FROM grouping2 WHERE batch = ?1"

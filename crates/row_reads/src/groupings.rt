@@ -3,8 +3,9 @@ ghost use Rattle.std.specs.Prelude.{◌≡◌, ◌≤◌, ◌<◌, ◌^◌, fals
 ghost use Rattle.std.specs.Prelude.{map};
 ghost use Rattle.sqlite.specs.Held.{state};
 ghost use Rattle.sqlite.specs.Order.{column};
-ghost use Rattle.row_reads.specs.CardDecoding.{IsGroupingAt, grouping_at, grouping_in};
-ghost use Rattle.row_reads.specs.CardDecoding.{line_of};
+ghost use Rattle.row_reads.specs.CardDecoding.{IsCodedAt, IsGroupingAt, coded_at, coded_in};
+ghost use Rattle.row_reads.specs.CardDecoding.{coded_line, grouping_at, grouping_in};
+ghost use Rattle.row_reads.specs.CardDecoding.{is_of_segment, line_of};
 ghost use Rattle.row_reads.specs.Decoding.{blob_in};
 ghost use Rattle.row_reads.specs.Extremes.{AreSorted};
 ghost use Rattle.row_reads.specs.Reads.{Looks, TellsRows};
@@ -18,8 +19,8 @@ use sqlite::types::ValueRef;
 use sqlite::{Alter, Connection, Error, Row};
 use store_data::{Aid, Bytes, Enc};
 
-/// A row of a batch, without the name of its record.
-#[derive(Drop)]
+/// A row of a batch, without the name of its record and without its bytes.
+#[derive(Clone, Copy)]
 pub struct GroupingAt {
     /// The number of the row in the file.
     pub line: u64,
@@ -29,6 +30,13 @@ pub struct GroupingAt {
     pub enc: Enc,
     /// Whether the card may answer 6A88 to the last piece of the row's segment.
     pub tol: bool,
+}
+
+/// The bytes of a row of a batch.
+#[derive(Drop)]
+pub struct CodedAt {
+    /// The number of the row in the file.
+    pub line: u64,
     /// The grouping in its sent form (EMV CPS 1.1).
     pub coded: Bytes,
 }
@@ -90,19 +98,30 @@ impl Answered for GroupingAt {
         let code = number_at(row, 3)?;
         let enc = enc_of(code)?;
         let tol: bool = row.get(4)?;
-        let coded = bytes_at(row, 5)?;
         Ok(GroupingAt {
             line,
             aid,
             rank,
             enc,
             tol,
-            coded,
         })
     }
 }
 
-/// The rows of the record at this place of the batch with this id, by their numbers.
+impl Answered for CodedAt {
+    ghost value = { coded_in };
+
+    ghost fits = { IsCodedAt };
+
+    fn read(row: &Row) -> Result<CodedAt, Error> {
+        let line = number_at(row, 0)?;
+        let coded = bytes_at(row, 1)?;
+        Ok(CodedAt { line, coded })
+    }
+}
+
+/// The rows of the record at this place of the batch with this id, without their bytes, by their
+/// numbers.
 pub fn groupings_of<S: Alter>(
     conn: &mut Connection<S>,
     batch: u64,
@@ -120,9 +139,42 @@ pub fn groupings_of<S: Alter>(
 {
     let rows = rows_of(
         conn,
-        "SELECT line, aid, rank, enc, tol, coded FROM grouping2 WHERE batch = ?1 AND place = ?2 \
+        "SELECT line, aid, rank, enc, tol FROM grouping2 WHERE batch = ?1 AND place = ?2 \
         ORDER BY line",
         &[int(batch), int(place)],
+    )?;
+    let alloc = *rows.allocator();
+    all(alloc, rows.as_slice())
+}
+
+/// The bytes of the rows of such a record with this identifier and this rank, by their numbers.
+pub fn coded_of<S: Alter>(
+    conn: &mut Connection<S>,
+    batch: u64,
+    place: u64,
+    aid: &Aid,
+    rank: u16,
+) -> Result<Vec<CodedAt>, Error>
+    requires idle { conn.old.in_transaction ≡ false }
+    requires batch { batch < 2 ^ 63 }
+    requires place { place < 2 ^ 63 }
+    ensures found { TellsRows (state S.Store conn.old) (state S.Store conn.new) result
+        (λ t all. AreSorted coded_line
+        (map coded_at (filter (is_of_segment batch place aid.now rank) t.groupings)) all.items) }
+    ensures ranged { IfOk result (λ all. All IsCodedAt all.items) }
+    ensures looks { Looks (state S.Store conn.old) (state S.Store conn.new) }
+    ensures idle { conn.new.in_transaction ≡ false }
+{
+    let rows = rows_of(
+        conn,
+        "SELECT line, coded FROM grouping2 WHERE batch = ?1 AND place = ?2 AND aid = ?3 \
+        AND rank = ?4 ORDER BY line",
+        &[
+            int(batch),
+            int(place),
+            ValueRef::Blob(aid.bytes()),
+            int(u64::from(rank)),
+        ],
     )?;
     let alloc = *rows.allocator();
     all(alloc, rows.as_slice())

@@ -19,7 +19,7 @@ pub use batches::{
     last_batch,
 };
 pub use blanks::is_charged;
-pub use groupings::{GroupingAt, grouping_count, groupings_of};
+pub use groupings::{CodedAt, GroupingAt, coded_of, grouping_count, groupings_of};
 pub use lots::{LotRow, all_lots, lot, lot_count, lot_of, lots_of, overlaps};
 pub use marks::mark;
 pub use products::{product, product_count};

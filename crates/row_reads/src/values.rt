@@ -5,7 +5,7 @@ ghost use Rattle.sql_rows.specs.Decoding.{number_in};
 ghost use Rattle.row_reads.specs.Decoding.{IsAny, IsNumber, blob_in, first_number, has_rows};
 ghost use Rattle.row_reads.specs.Decoding.{id_in, name_in, text_in};
 
-use crate::answered::Answered;
+use crate::answered::{Answered, first};
 use sqlite::types::ValueRef;
 use sqlite::{Error, Row};
 use store_data::{Bytes, Name};
@@ -14,10 +14,7 @@ use store_data::{Bytes, Name};
 fn name_of(text: &[u8]) -> Result<Name, Error>
     ensures { IfOk result (λ name. name ≡ text.now) }
 {
-    match Name::new(text) {
-        Some(name) => Ok(name),
-        None => Err(Error::InvalidQuery),
-    }
+    Name::new(text).ok_or(Error::InvalidQuery)
 }
 
 // The name in this column.
@@ -93,10 +90,7 @@ pub(crate) fn first_number(rows: &[Row]) -> Result<u64, Error>
     ensures value { IfOk result (λ n. n ≡ first_number rows.now) }
     ensures ranged { IfOk result (λ n. n < 2 ^ 63) }
 {
-    match rows.first() {
-        None => Ok(0),
-        Some(row) => number_at(row, 0),
-    }
+    Ok(first::<u64>(rows)?.unwrap_or(0))
 }
 
 // Whether a row is answered.

@@ -17,7 +17,7 @@ use Rattle.sql_tables.proofs.VersionRow.{none_acts}
 use Rattle.table_rows.specs.Tables.{Tables}
 use Rattle.sql_rows.specs.Image.{Filled, IsFilled, IsImage, filled}
 use Rattle.sql_rows.proofs.Filling.{refilled}
-use Rattle.row_writes.proofs.Meanings.{Means}
+use Rattle.row_writes.proofs.Meanings.{Means, read_as}
 
 module _ (text : List ℕ) (values : Row) (at : ℕ) (table : Table) (terms : List Term) (width : ℕ) (means : Means text (Insert at (Values terms width)))
     (listed : slice_get our_schema.tables at ≡ Some table) (uncounted : table.is_counted ≡ false) (unstamped : table.stamps ≡ no_stamps)
@@ -30,5 +30,6 @@ module _ (text : List ℕ) (values : Row) (at : ℕ) (table : Table) (terms : Li
       → map (λ (z : Filled). z.table) (take at (filled t) ++ x ∷ drop (at + 1) (filled t)) ≡ our_schema.tables
       → (Inserted our_schema table row old new → IsFilled x old.now.trees → IsFilled y new.now.trees) → IsImage t old.now → IsImage u new.now
   added is_table is_t is_u are_ours put image =
-      let it = inserted text values old new our_schema image.ours at table terms width means.0 means.1 listed uncounted unstamped row row one cast (none_acts table.tree) count ran in
+      let meant = read_as text (Insert at (Values terms width)) means in
+      let it = inserted text values old new our_schema image.ours at table terms width meant.0 meant.1 listed uncounted unstamped row row one cast (none_acts table.tree) count ran in
       refilled (take at (filled t)) (drop (at + 1) (filled t)) table left right t u old new x y is_table is_t is_u are_ours it.kept it.others (put it) image

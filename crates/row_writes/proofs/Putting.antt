@@ -1,7 +1,6 @@
 -- What each INSERT does to the rows.
-use Rattle.std.proofs.Common.{◌≡◌, ℕ, [], ◌∷◌, map, pos, Ok, refl}
+use Rattle.std.proofs.Common.{ℕ, [], ◌∷◌, map, Ok, refl}
 use Rattle.sqlite.specs.declared.types.Value.TheVariants.{Null, Text}
-use Rattle.sqlite.specs.Cast.{cast_row}
 use Rattle.sqlite.specs.Order.{Row}
 use Rattle.sqlite.specs.State.{Executes, State}
 use Rattle.store_data.specs.declared.row.Product.{Product}
@@ -11,66 +10,48 @@ use Rattle.sql_base.proofs.Values.{cast_int, cast_null}
 use Rattle.sql_tables.specs.Tables.{lot_table, mark_table, product_table, remake_table, reply_table, word_table}
 use Rattle.table_rows.specs.After.{new_lot}
 use Rattle.table_rows.specs.Tables.{StoredRemake, StoredWord, with_lot, with_mark, with_product, with_remake, with_reply, with_word}
-use Rattle.sql_rows.specs.Encoding.{flag, lot_row, mark_row, number, product_row, remake_row, reply_row, word_row}
+use Rattle.sql_rows.specs.Encoding.{lot_row, mark_row, number, product_row, remake_row, reply_row, word_row}
 use Rattle.sql_rows.specs.Image.{Moves, unnumbered}
 use Rattle.sql_rows.proofs.Filling.{row_put}
 use Rattle.row_writes.specs.Texts.{add_lot_terms, add_lot_text, add_mark_terms, add_mark_text, add_remake_terms, add_remake_text, add_product_terms, add_product_text, add_reply_terms, add_reply_text, add_word_terms, add_word_text}
 use Rattle.row_writes.proofs.Adding.{added}
-use Rattle.row_writes.proofs.Meanings.{add_lot_means, add_mark_means, add_remake_means, add_product_means, add_reply_means, add_word_means}
-
-product_cast : (p : Product) → cast_row product_table (Null ∷ product_row p) ≡ Null ∷ product_row p
-product_cast p = rw (cast_null, cast_int (pos p.max), cast_int (pos p.low), cast_int (pos (flag p.check))) refl
+use Rattle.row_writes.proofs.Meanings.{adds_mean}
 
 pub product_added : (old new : State) (p : Product) (count : ℕ) → Executes add_product_text (product_row p) old new (Ok count) → Moves (with_product p) old.now new.now
 product_added old new p count ran t image =
     let rows = map product_row t.products in
-    added add_product_text (product_row p) 1 product_table add_product_terms 5 add_product_means refl refl refl (Null ∷ product_row p) refl (product_cast p) old new count ran t (with_product p t)
+    added add_product_text (product_row p) 1 product_table add_product_terms 5 adds_mean.products refl refl refl (Null ∷ product_row p) refl (simp (cast_int, cast_null)) old new count ran t (with_product p t)
     (unnumbered product_table rows) (unnumbered product_table (product_row p ∷ rows)) refl refl refl refl refl refl (row_put product_table (product_row p) rows old new) image
-
-reply_cast : (e : Entry) → cast_row reply_table (Null ∷ reply_row e) ≡ Null ∷ reply_row e
-reply_cast e = rw (cast_null, cast_int (pos e.number), cast_int (pos e.status)) refl
 
 pub reply_added : (old new : State) (e : Entry) (count : ℕ) → Executes add_reply_text (reply_row e) old new (Ok count) → Moves (with_reply e) old.now new.now
 reply_added old new e count ran t image =
     let rows = map reply_row t.replies in
-    added add_reply_text (reply_row e) 10 reply_table add_reply_terms 6 add_reply_means refl refl refl (Null ∷ reply_row e) refl (reply_cast e) old new count ran t (with_reply e t)
+    added add_reply_text (reply_row e) 10 reply_table add_reply_terms 6 adds_mean.replies refl refl refl (Null ∷ reply_row e) refl (simp (cast_int, cast_null)) old new count ran t (with_reply e t)
     (unnumbered reply_table rows) (unnumbered reply_table (reply_row e ∷ rows)) refl refl refl refl refl refl (row_put reply_table (reply_row e) rows old new) image
-
-word_cast : (w : StoredWord) → cast_row word_table (Null ∷ word_row w) ≡ Null ∷ word_row w
-word_cast w = rw (cast_null, cast_int (pos w.session), cast_int (pos w.place), cast_int (pos w.sw)) refl
 
 pub word_added : (old new : State) (w : StoredWord) (count : ℕ) → Executes add_word_text (word_row w) old new (Ok count) → Moves (with_word w) old.now new.now
 word_added old new w count ran t image =
     let rows = map word_row t.words in
-    added add_word_text (word_row w) 7 word_table add_word_terms 4 add_word_means refl refl refl (Null ∷ word_row w) refl (word_cast w) old new count ran t (with_word w t)
+    added add_word_text (word_row w) 7 word_table add_word_terms 4 adds_mean.words refl refl refl (Null ∷ word_row w) refl (simp (cast_int, cast_null)) old new count ran t (with_word w t)
     (unnumbered word_table rows) (unnumbered word_table (word_row w ∷ rows)) refl refl refl refl refl refl (row_put word_table (word_row w) rows old new) image
 
 abbrev pub lot_values : Lot → Row
 lot_values l = Text l.name ∷ Text l.product ∷ number l.first ∷ number l.count ∷ []
 
-lot_cast : (l : Lot) → cast_row lot_table (Null ∷ lot_row (new_lot l)) ≡ Null ∷ lot_row (new_lot l)
-lot_cast l = rw (cast_null, cast_int (pos l.first), cast_int (pos l.count), cast_int (pos 0)) refl
-
 pub lot_added : (old new : State) (l : Lot) (count : ℕ) → Executes add_lot_text (lot_values l) old new (Ok count) → Moves (with_lot (new_lot l)) old.now new.now
 lot_added old new l count ran t image =
     let rows = map lot_row t.lots in
-    added add_lot_text (lot_values l) 2 lot_table add_lot_terms 6 add_lot_means refl refl refl (Null ∷ lot_row (new_lot l)) refl (lot_cast l) old new count ran t (with_lot (new_lot l) t)
+    added add_lot_text (lot_values l) 2 lot_table add_lot_terms 6 adds_mean.lots refl refl refl (Null ∷ lot_row (new_lot l)) refl (simp (cast_int, cast_null)) old new count ran t (with_lot (new_lot l) t)
     (unnumbered lot_table rows) (unnumbered lot_table (lot_row (new_lot l) ∷ rows)) refl refl refl refl refl refl (row_put lot_table (lot_row (new_lot l)) rows old new) image
-
-remake_cast : (r : StoredRemake) → cast_row remake_table (Null ∷ remake_row r) ≡ Null ∷ remake_row r
-remake_cast r = rw (cast_null, cast_int (pos r.batch), cast_int (pos r.place), cast_int (pos r.turn)) refl
 
 pub remake_added : (old new : State) (r : StoredRemake) (count : ℕ) → Executes add_remake_text (remake_row r) old new (Ok count) → Moves (with_remake r) old.now new.now
 remake_added old new r count ran t image =
     let rows = map remake_row t.remakes in
-    added add_remake_text (remake_row r) 9 remake_table add_remake_terms 4 add_remake_means refl refl refl (Null ∷ remake_row r) refl (remake_cast r) old new count ran t (with_remake r t)
+    added add_remake_text (remake_row r) 9 remake_table add_remake_terms 4 adds_mean.remakes refl refl refl (Null ∷ remake_row r) refl (simp (cast_int, cast_null)) old new count ran t (with_remake r t)
     (unnumbered remake_table rows) (unnumbered remake_table (remake_row r ∷ rows)) refl refl refl refl refl refl (row_put remake_table (remake_row r) rows old new) image
-
-mark_cast : (m : Mark) → cast_row mark_table (Null ∷ mark_row m) ≡ Null ∷ mark_row m
-mark_cast m = rw (cast_null, cast_int (pos m.upto)) refl
 
 pub mark_added : (old new : State) (m : Mark) (count : ℕ) → Executes add_mark_text (mark_row m) old new (Ok count) → Moves (with_mark m) old.now new.now
 mark_added old new m count ran t image =
     let rows = map mark_row t.marks in
-    added add_mark_text (mark_row m) 11 mark_table add_mark_terms 3 add_mark_means refl refl refl (Null ∷ mark_row m) refl (mark_cast m) old new count ran t (with_mark m t)
+    added add_mark_text (mark_row m) 11 mark_table add_mark_terms 3 adds_mean.marks refl refl refl (Null ∷ mark_row m) refl (simp (cast_int, cast_null)) old new count ran t (with_mark m t)
     (unnumbered mark_table rows) (unnumbered mark_table (mark_row m ∷ rows)) refl refl refl refl refl refl (row_put mark_table (mark_row m) rows old new) image

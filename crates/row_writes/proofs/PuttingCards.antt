@@ -1,12 +1,11 @@
 -- What each INSERT of a session or a blank does to the rows.
-use Rattle.std.proofs.Common.{◌≡◌, ℕ, List, [], ◌∷◌, drop, map, pos, Ok, refl}
+use Rattle.std.proofs.Common.{ℕ, List, [], ◌∷◌, drop, map, Ok, refl}
 use Rattle.sqlite.specs.declared.types.Value.TheVariants.{Text}
-use Rattle.sqlite.specs.Cast.{cast_row}
 use Rattle.sqlite.specs.Order.{Row}
 use Rattle.sqlite.specs.State.{Executes, State}
 use Rattle.sql_base.proofs.Values.{cast_int, cast_null}
 use Rattle.sql_tables.specs.Tables.{blank_table, session_table}
-use Rattle.table_rows.specs.declared.before.RecordPlace.{RecordPlace}
+use Rattle.table_rows.specs.declared.writing.RecordPlace.{RecordPlace}
 use Rattle.table_rows.specs.After.{new_session}
 use Rattle.table_rows.specs.Tables.{StoredBlank, with_blank, with_session}
 use Rattle.sql_rows.specs.Encoding.{blank_row, flag, number, session_row}
@@ -14,7 +13,7 @@ use Rattle.sql_rows.specs.Image.{Moves, by_rowid}
 use Rattle.sql_rows.proofs.Filling.{row_put_under}
 use Rattle.row_writes.specs.Texts.{add_blank_terms, add_blank_text, add_session_terms, add_session_text}
 use Rattle.row_writes.proofs.Adding.{added}
-use Rattle.row_writes.proofs.Meanings.{add_blank_means, add_session_means}
+use Rattle.row_writes.proofs.Meanings.{adds_mean}
 
 module _ (id : ℕ) (p : RecordPlace) (machine : List ℕ) (blank : ℕ) where
   abbrev pub session_values : Row
@@ -23,23 +22,17 @@ module _ (id : ℕ) (p : RecordPlace) (machine : List ℕ) (blank : ℕ) where
   abbrev put : Row
   put = session_row (new_session id p machine blank)
 
-  session_cast : cast_row session_table put ≡ put
-  session_cast = rw (cast_null, cast_int (pos id), cast_int (pos p.batch), cast_int (pos p.place), cast_int (pos blank), cast_int (pos 0)) refl
-
   pub session_added : (old new : State) (count : ℕ) → Executes add_session_text session_values old new (Ok count) → Moves (with_session (new_session id p machine blank)) old.now new.now
   session_added old new count ran t image =
       let rows = map session_row t.sessions in
-      added add_session_text session_values 6 session_table add_session_terms 13 add_session_means refl refl refl put refl session_cast old new count ran t (with_session (new_session id p machine blank) t)
+      added add_session_text session_values 6 session_table add_session_terms 13 adds_mean.sessions refl refl refl put refl (simp (cast_int, cast_null)) old new count ran t (with_session (new_session id p machine blank) t)
       (by_rowid session_table rows) (by_rowid session_table (put ∷ rows)) refl refl refl refl refl refl (row_put_under session_table id (drop 1 put) rows old new) image
 
 abbrev pub blank_values : StoredBlank → Row
 blank_values b = number b.serial ∷ Text b.lot ∷ number (flag b.discarded) ∷ []
 
-blank_cast : (b : StoredBlank) → cast_row blank_table (blank_row b) ≡ blank_row b
-blank_cast b = rw (cast_null, cast_int (pos b.serial), cast_int (pos (flag b.discarded))) refl
-
 pub blank_added : (old new : State) (b : StoredBlank) (count : ℕ) → Executes add_blank_text (blank_values b) old new (Ok count) → Moves (with_blank b) old.now new.now
 blank_added old new b count ran t image =
     let rows = map blank_row t.blanks in
-    added add_blank_text (blank_values b) 8 blank_table add_blank_terms 4 add_blank_means refl refl refl (blank_row b) refl (blank_cast b) old new count ran t (with_blank b t)
+    added add_blank_text (blank_values b) 8 blank_table add_blank_terms 4 adds_mean.blanks refl refl refl (blank_row b) refl (simp (cast_int, cast_null)) old new count ran t (with_blank b t)
     (by_rowid blank_table rows) (by_rowid blank_table (blank_row b ∷ rows)) refl refl refl refl refl refl (row_put_under blank_table b.serial (drop 1 (blank_row b)) rows old new) image

@@ -4,18 +4,16 @@ use Rattle.sqlite.specs.declared.types.Value.TheVariants.{Text}
 use Rattle.sqlite.specs.Order.{Row}
 use Rattle.sqlite.specs.State.{Executes, State}
 use Rattle.job_facts.specs.Contents.{Entry, Mark, has_mark}
-use Rattle.sql_base.proofs.Deleting.{deleted}
 use Rattle.sql_base.proofs.Selecting.{passes, shown}
 use Rattle.sql_base.proofs.Tests.{one_test, same_most, same_text, two_tests}
-use Rattle.sql_tables.specs.Tables.{mark_table, our_schema, reply_table}
-use Rattle.sql_tables.proofs.VersionRow.{none_acts}
+use Rattle.sql_tables.specs.Tables.{mark_table, reply_table}
 use Rattle.table_rows.specs.Tables.{is_released, without_mark, without_replies}
 use Rattle.sql_rows.specs.Encoding.{mark_row, number, reply_row}
 use Rattle.sql_rows.specs.Image.{Moves, filled, unnumbered}
 use Rattle.sql_rows.proofs.Changing.{unnumbered_gone}
 use Rattle.sql_rows.proofs.Filling.{refilled}
 use Rattle.row_writes.specs.Changes.{by_client_up_to, by_first_column, drop_mark_text, drop_replies_text, rowid_column}
-use Rattle.row_writes.proofs.ChangeMeanings.{drop_mark_means, drop_replies_means}
+use Rattle.row_writes.proofs.ChangeMeanings.{changes_mean, deletes}
 
 module _ (client : List ℕ) where
   module _ (upto : ℕ) where
@@ -24,7 +22,7 @@ module _ (client : List ℕ) where
 
     pub replies_dropped : (old new : State) (count : ℕ) → Executes drop_replies_text drop_replies_values old new (Ok count) → Moves (without_replies client upto) old.now new.now
     replies_dropped old new count ran t image =
-        let it = deleted drop_replies_text drop_replies_values old new our_schema image.ours 10 reply_table by_client_up_to rowid_column drop_replies_means.0 drop_replies_means.1 refl (none_acts 19) count ran in
+        let it = deletes drop_replies_text drop_replies_values 10 reply_table by_client_up_to rowid_column changes_mean.drop_replies refl old new image.ours count ran in
         let left = filter (λ (e : Entry). not (is_released client upto e)) t.replies in
         let moves = unnumbered_gone reply_table reply_row (passes by_client_up_to drop_replies_values) (shown rowid_column drop_replies_values) (is_released client upto) (λ r n is. is)
         (λ e. two_tests (same_text e.client client) (same_most e.number upto)) (λ v r. refl) t.replies old new it in
@@ -36,7 +34,7 @@ module _ (client : List ℕ) where
 
   pub mark_dropped : (old new : State) (count : ℕ) → Executes drop_mark_text drop_mark_values old new (Ok count) → Moves (without_mark client) old.now new.now
   mark_dropped old new count ran t image =
-      let it = deleted drop_mark_text drop_mark_values old new our_schema image.ours 11 mark_table by_first_column rowid_column drop_mark_means.0 drop_mark_means.1 refl (none_acts 21) count ran in
+      let it = deletes drop_mark_text drop_mark_values 11 mark_table by_first_column rowid_column changes_mean.drop_mark refl old new image.ours count ran in
       let left = filter (λ (m : Mark). not (has_mark client m)) t.marks in
       let moves = unnumbered_gone mark_table mark_row (passes by_first_column drop_mark_values) (shown rowid_column drop_mark_values) (has_mark client) (λ r n is. is)
       (λ m. one_test (same_text m.client client)) (λ v r. refl) t.marks old new it in

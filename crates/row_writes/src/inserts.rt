@@ -14,6 +14,7 @@ use sql_base::int;
 use sqlite::types::ValueRef;
 use sqlite::{Alter, Error, Transaction};
 use store_data::{Name, Product};
+use table_rows::Entry;
 
 /// Adds a product.
 pub fn add_product<S: Alter>(tx: &mut Transaction<'_, S>, product: &Product) -> Result<usize, Error>
@@ -83,18 +84,10 @@ pub fn add_remake<S: Alter>(
 }
 
 /// Keeps a reply under its client's number.
-pub fn add_reply<'x, S: Alter>(
-    tx: &mut Transaction<'_, S>,
-    client: &'x Name,
-    number: u64,
-    ask: &'x [u8],
-    status: u16,
-    body: &'x [u8],
-) -> Result<usize, Error>
-    requires { number < 2 ^ 63 }
+pub fn add_reply<S: Alter>(tx: &mut Transaction<'_, S>, entry: &Entry<'_>) -> Result<usize, Error>
+    requires { entry.now.number < 2 ^ 63 }
     ensures same_reference { tx.new.conn.ghost_name ≡ tx.old.conn.ghost_name }
-    ensures wrote { let entry = kept_reply client.now number ask.now status body.now in
-        WritesRows (with_reply entry) (state S.Store tx.old.conn.now)
+    ensures wrote { WritesRows (with_reply (kept_reply entry.now)) (state S.Store tx.old.conn.now)
         (state S.Store tx.new.conn.now) result }
     ensures survives { Survives (state S.Store tx.old.conn.now) (state S.Store tx.new.conn.now)
         (λ _. ⊥) }
@@ -102,11 +95,11 @@ pub fn add_reply<'x, S: Alter>(
     tx.execute(
         "INSERT INTO reply (client, number, ask, status, body) VALUES (?1, ?2, ?3, ?4, ?5)",
         &[
-            ValueRef::Text(client.bytes()),
-            int(number),
-            ValueRef::Blob(ask),
-            int(u64::from(status)),
-            ValueRef::Blob(body),
+            ValueRef::Text(entry.client.bytes()),
+            int(entry.number),
+            ValueRef::Blob(entry.ask),
+            int(u64::from(entry.status)),
+            ValueRef::Blob(entry.body),
         ],
     )
 }

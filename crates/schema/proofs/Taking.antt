@@ -9,16 +9,15 @@ use Rattle.job_facts.specs.declared.change.Change.{Change}
 use Rattle.job_facts.specs.declared.change.Change.TheVariants as change
 use Rattle.job_facts.specs.Contents.{AreSound, Contents, Entry, IsOwed, IsOwedRelease, committed, released}
 use Rattle.job_facts.specs.Sound.{IsSound, IsSoundChange, changed}
-use Rattle.table_rows.specs.After.{rows_after, rows_after_release}
+use Rattle.table_rows.specs.After.{rows_after, rows_written}
 use Rattle.table_rows.specs.Tables.{HaveSameRows, Tables, with_reply}
-use Rattle.table_rows.specs.declared.before.Before.{Before}
-use Rattle.image_laws.specs.Before.{IsBefore}
+use Rattle.table_rows.specs.declared.writing.Writing.{Writing}
+use Rattle.table_rows.specs.declared.writing.Writing.TheVariants as writing
+use Rattle.image_laws.specs.WritingOf.{IsWritingOf}
 use Rattle.image_laws.specs.Image.{image}
 use Rattle.sql_base.specs.Ends.{Ends, IsKept, IsLeft}
 use Rattle.sql_rows.specs.Image.{IsImage, Moves}
 use Rattle.sql_rows.proofs.SameRows.{same_rows}
-use Rattle.change_writes.specs.Written.{rows_written}
-use Rattle.change_writes.specs.declared.writing.Writing.TheVariants as writing
 use Rattle.schema.specs.Takes.{Takes}
 
 -- one more reply on both sides
@@ -42,29 +41,29 @@ abbrev pub ReplyLaw : Type 0
 ReplyLaw = (c : Contents) (entry : Entry) → HaveSameRows (image (committed c change.Nothing entry)) (with_reply entry (image c))
 
 abbrev pub ChangeLaw : Type 0
-ChangeLaw = (c : Contents) (change : Change) (told : Before) → IsSound c.facts → IsSoundChange c.facts change → IsBefore c.facts change told
-    → HaveSameRows (image (record c { facts = changed c.facts change })) (rows_after change told (image c))
+ChangeLaw = (c : Contents) (change : Change) (w : Writing) → IsSound c.facts → IsSoundChange c.facts change → IsWritingOf c.facts change w
+    → HaveSameRows (image (record c { facts = changed c.facts change })) (rows_after w (image c))
 
 abbrev pub ReleaseLaw : Type 0
 ReleaseLaw = (c : Contents) (upto : ℕ) (entry : Entry) → AreSound c → IsOwedRelease upto entry c
-    → HaveSameRows (image (released c upto entry)) (rows_after_release upto entry (image c))
+    → HaveSameRows (image (released c upto entry)) (rows_written (writing.Releases entry.client upto) entry (image c))
 
--- what a store is told of before a change
-abbrev pub Tells : Change → Before → Entry → Database → Type 0
-Tells change told entry db = (c : Contents) → AreSound c → IsOwed change entry c → IsImage (image c) db → IsBefore c.facts change told
+-- what is written is that of the change
+abbrev pub Tells : Change → Writing → Entry → Database → Type 0
+Tells change w entry db = (c : Contents) → AreSound c → IsOwed change entry c → IsImage (image c) db → IsWritingOf c.facts change w
 
-pub change_taken : ReplyLaw → ChangeLaw → (change : Change) (told : Before) (entry : Entry) (a b : Database) → Tells change told entry a
-    → Moves (λ t. with_reply entry (rows_after change told t)) a b → Takes (IsOwed change entry) (λ c. committed c change entry) a b
-change_taken reply law change told entry a b has moves c sound owed holds =
+pub change_taken : ReplyLaw → ChangeLaw → (change : Change) (w : Writing) (entry : Entry) (a b : Database) → Tells change w entry a
+    → Moves (rows_written w entry) a b → Takes (IsOwed change entry) (λ c. committed c change entry) a b
+change_taken reply law change w entry a b has moves c sound owed holds =
     let next : Contents = record c { facts = changed c.facts change } in
-    let rows = law c change told sound.facts owed.keeps (has c sound owed holds) in
+    let rows = law c change w sound.facts owed.keeps (has c sound owed holds) in
     same_rows (image (committed c change entry)) (with_reply entry (image next)) b (reply next entry)
-    (same_rows (with_reply entry (image next)) (with_reply entry (rows_after change told (image c))) b (same_with_reply entry _ _ rows) (moves (image c) holds))
+    (same_rows (with_reply entry (image next)) (rows_written w entry (image c)) b (same_with_reply entry _ _ rows) (moves (image c) holds))
 
-pub release_taken : ReleaseLaw → (upto : ℕ) (entry : Entry) (a b : Database) → Moves (rows_written (writing.Release upto) entry) a b
+pub release_taken : ReleaseLaw → (upto : ℕ) (entry : Entry) (a b : Database) → Moves (rows_written (writing.Releases entry.client upto) entry) a b
     → Takes (IsOwedRelease upto entry) (λ c. released c upto entry) a b
 release_taken law upto entry a b moves c sound owed holds =
-    same_rows (image (released c upto entry)) (rows_after_release upto entry (image c)) b (law c upto entry sound owed) (moves (image c) holds)
+    same_rows (image (released c upto entry)) (rows_written (writing.Releases entry.client upto) entry (image c)) b (law c upto entry sound owed) (moves (image c) holds)
 
 -- one relation in the place of another
 module _ (P Q : Database → Database → Type 0) (old new : State) (turns : (b : Database) → P old.now b → Q old.now b) where

@@ -7,83 +7,65 @@ ghost use Rattle.sql_base.specs.Ends.{Ends, IsKept, IsLeft};
 ghost use Rattle.schema.specs.Takes.{Takes};
 ghost use Rattle.table_rows.specs.Kept.{kept_reply};
 
-use change_writes::{Writing, commit};
+use change_writes::commit;
 use job_facts::Change;
 use sqlite::{Alter, Connection, Error};
 use std::alloc::Global;
-use store_data::Name;
-use store_reads::before;
+use store_reads::writing_of;
+use table_rows::{Entry, Writing};
 
 /// Makes a change and keeps its reply, or does neither.
-pub(crate) fn keep<'x, S: Alter>(
+pub(crate) fn keep<S: Alter>(
     conn: &mut Connection<S>,
     alloc: Global,
-    client: &'x Name,
-    number: u64,
-    ask: &'x [u8],
-    status: u16,
-    body: &'x [u8],
+    entry: &Entry<'_>,
     change: &Change<'_>,
 ) -> Result<(), Error>
     requires idle { conn.old.in_transaction ≡ false }
-    requires number { number < 2 ^ 63 }
-    ensures ok { let entry = kept_reply client.now number ask.now status body.now in
+    requires number { entry.now.number < 2 ^ 63 }
+    ensures ok { let kept = kept_reply entry.now in
         HasCleanDisk (state S.Store conn.new) → OnOk result
-        (Ends (Takes (IsOwed change.now entry) (λ c. committed c change.now entry))
+        (Ends (Takes (IsOwed change.now kept) (λ c. committed c change.now kept))
         (state S.Store conn.old) (state S.Store conn.new)) }
     ensures err { HasCleanDisk (state S.Store conn.new)
         → OnErr result (IsKept (state S.Store conn.old) (state S.Store conn.new)) }
     ensures idle { conn.new.in_transaction ≡ false }
-    ensures crash { let entry = kept_reply client.now number ask.now status body.now in
+    ensures crash { let kept = kept_reply entry.now in
         Survives (state S.Store conn.old) (state S.Store conn.new)
-        (IsLeft (Takes (IsOwed change.now entry) (λ c. committed c change.now entry))
+        (IsLeft (Takes (IsOwed change.now kept) (λ c. committed c change.now kept))
         (state S.Store conn.old)) }
 {
     image_laws::rows_after_change();
     image_laws::rows_with_reply();
-    let before = before(conn, change)?;
-    let writing = Writing::Change {
-        change,
-        before: &before,
-    };
-    commit(conn, alloc, client, number, ask, status, body, &writing)
+    match writing_of(conn, change) {
+        Ok(writing) => commit(conn, alloc, entry, &writing),
+        Err(error) => Err(error),
+    }
 }
 
 /// Sets a client's mark, drops its replies up to the mark, and keeps the release's reply, or does
 /// nothing.
-pub(crate) fn release<'x, S: Alter>(
+pub(crate) fn release<S: Alter>(
     conn: &mut Connection<S>,
     alloc: Global,
-    client: &'x Name,
-    number: u64,
-    ask: &'x [u8],
-    status: u16,
-    body: &'x [u8],
+    entry: &Entry<'_>,
     upto: u64,
 ) -> Result<(), Error>
     requires idle { conn.old.in_transaction ≡ false }
-    requires number { number < 2 ^ 63 }
-    ensures ok { let entry = kept_reply client.now number ask.now status body.now in
+    requires number { entry.now.number < 2 ^ 63 }
+    ensures ok { let kept = kept_reply entry.now in
         HasCleanDisk (state S.Store conn.new) → OnOk result
-        (Ends (Takes (IsOwedRelease upto entry) (λ c. released c upto entry))
+        (Ends (Takes (IsOwedRelease upto kept) (λ c. released c upto kept))
         (state S.Store conn.old) (state S.Store conn.new)) }
     ensures err { HasCleanDisk (state S.Store conn.new)
         → OnErr result (IsKept (state S.Store conn.old) (state S.Store conn.new)) }
     ensures idle { conn.new.in_transaction ≡ false }
-    ensures crash { let entry = kept_reply client.now number ask.now status body.now in
+    ensures crash { let kept = kept_reply entry.now in
         Survives (state S.Store conn.old) (state S.Store conn.new)
-        (IsLeft (Takes (IsOwedRelease upto entry) (λ c. released c upto entry))
+        (IsLeft (Takes (IsOwedRelease upto kept) (λ c. released c upto kept))
         (state S.Store conn.old)) }
 {
     image_laws::rows_after_release();
-    commit(
-        conn,
-        alloc,
-        client,
-        number,
-        ask,
-        status,
-        body,
-        &Writing::Release { upto },
-    )
+    let client = *entry.client;
+    commit(conn, alloc, entry, &Writing::Releases { client, upto })
 }

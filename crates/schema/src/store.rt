@@ -13,6 +13,7 @@ use sqlite::{Alter, Connection, Error};
 use std::alloc::Global;
 use store_data::{Name, Product};
 use store_reads as reads;
+use table_rows::Entry;
 
 /// The numbers of SQL end below this.
 const LIMIT: u64 = 1 << 63;
@@ -220,16 +221,14 @@ impl<S: Alter> JobStore for SqlStore<S> {
             return self.counts.told(Err(Error::InvalidQuery));
         }
         image_laws::same_rows_same_contents();
-        let answer = keep(
-            &mut self.conn,
-            self.alloc,
+        let entry = Entry {
             client,
             number,
             ask,
             status,
             body,
-            change,
-        );
+        };
+        let answer = keep(&mut self.conn, self.alloc, &entry, change);
         self.counts.told(answer)
     }
 
@@ -246,16 +245,14 @@ impl<S: Alter> JobStore for SqlStore<S> {
             return self.counts.told(Err(Error::InvalidQuery));
         }
         image_laws::same_rows_same_contents();
-        let answer = release(
-            &mut self.conn,
-            self.alloc,
+        let entry = Entry {
             client,
             number,
             ask,
             status,
             body,
-            mark,
-        );
+        };
+        let answer = release(&mut self.conn, self.alloc, &entry, mark);
         self.counts.told(answer)
     }
 }

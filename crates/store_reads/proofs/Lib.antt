@@ -5,7 +5,8 @@ pub mod Counting
 pub mod Sizes
 pub mod Told
 pub mod Ordered
-pub mod PlanSegments
+pub mod Ranks
+pub mod SegmentHeads
 pub mod SegmentRows
 pub mod Waiting
 pub mod RecordLines

@@ -6,7 +6,7 @@ use Rattle.job_facts.specs.declared.rows.SessionRow.{SessionRow}
 use Rattle.job_facts.specs.Facts.{Facts}
 use Rattle.job_facts.specs.Rows.{session_row, session_row_of}
 use Rattle.job_facts.specs.States.{lot_named, session_numbered}
-use Rattle.table_rows.specs.declared.before.RecordPlace.{RecordPlace}
+use Rattle.table_rows.specs.declared.writing.RecordPlace.{RecordPlace}
 use Rattle.table_rows.specs.Keys.{is_batch_named, is_lot_named, is_record_named}
 use Rattle.table_rows.specs.Tables.{StoredBatch, StoredLot, StoredRecord}
 use Rattle.row_reads.specs.declared.batches.BatchHead.{BatchHead}
@@ -15,7 +15,7 @@ use Rattle.row_reads.specs.declared.records.RecordAt.{RecordAt}
 use Rattle.row_reads.specs.CardDecoding.{record_at}
 use Rattle.row_reads.specs.Telling.{head_of, lot_row_of}
 use Rattle.row_laws.specs.Telling.{place_of}
-use Rattle.image_laws.specs.Before.{IsPlaceOf, IsPlaceOfSession}
+use Rattle.image_laws.specs.WritingOf.{IsPlaceOf, IsPlaceOfSession}
 use Rattle.image_laws.specs.Image.{stored_batches, stored_lots, stored_records}
 use Rattle.step_laws.specs.Sums.{discarded_in}
 use Rattle.store_reads.proofs.Found.{found_some}

@@ -1,7 +1,10 @@
 -- A record's plan by what is read of its batch and of its rows.
-use Rattle.std.proofs.Common.{◌≡◌, ℕ, ◌&&◌, ◌==◌, ◌<◌, Bool, true, false, List, [], ◌∷◌, length, map, Option, Some, None, refl, sym, ap, ◌∙◌, arith}
-use Rattle.std.specs.Prelude.{AllPairs, bytes_eq, filter, find, option_and_then, option_map}
+use Rattle.std.proofs.Common.{◌≡◌, ℕ, ◌&&◌, ◌==◌, ◌<◌, Bool, true, false, List, [], map, Option, Some, None, refl, sym, ap, subst, ◌∙◌, arith}
+use Rattle.std.specs.Prelude.{bytes_eq, filter, find, option_and_then, option_map}
+use Rattle.std.specs.List.{flat_map}
 use Rattle.std.proofs.lemmas.Bool.Decides.{nat_tests}
+use Rattle.std.proofs.lemmas.List.Folds.{flat_map-map}
+use Rattle.std.proofs.lemmas.List.Kept.{AllPairs-filter}
 use Rattle.store_data.specs.declared.row.Product.{Product}
 use Rattle.store_data.specs.declared.row.Row.{Row}
 use Rattle.store_data.specs.Cursor.{segment_at}
@@ -13,21 +16,23 @@ use Rattle.job_facts.specs.Rows.{segment_row, segment_row_of}
 use Rattle.job_facts.specs.States.{plan_for, product_named}
 use Rattle.job_facts.proofs.Lists.{unmapped}
 use Rattle.row_reads.specs.declared.batches.BatchTold.{BatchTold}
+use Rattle.row_reads.specs.declared.groupings.CodedAt.{CodedAt}
 use Rattle.row_reads.specs.declared.groupings.GroupingAt.{GroupingAt}
 use Rattle.row_reads.specs.declared.records.RecordAt.{RecordAt}
-use Rattle.row_reads.specs.CardDecoding.{grouping_at, line_of, record_at}
+use Rattle.row_reads.specs.CardDecoding.{coded_at, coded_line, grouping_at, is_of_segment, line_of, record_at}
 use Rattle.row_reads.specs.Extremes.{AreSorted}
 use Rattle.row_reads.specs.Telling.{told_of}
 use Rattle.image_laws.specs.Image.{stored_batches, stored_groupings, stored_records}
-use Rattle.sql_base.proofs.Selecting.{map_map}
 use Rattle.table_rows.specs.Keys.{is_batch_named, is_grouping_at, is_record_named}
 use Rattle.table_rows.specs.Tables.{StoredBatch, StoredGrouping, StoredRecord}
 use Rattle.table_rows.proofs.Found.{find_passes}
 use Rattle.row_laws.specs.Telling.{groupings_for, plan_in, row_of}
+use Rattle.store_reads.specs.declared.plans.SegmentHead.{SegmentHead}
 use Rattle.store_reads.specs.declared.segments.BatchProduct.{BatchProduct}
-use Rattle.store_reads.specs.Segments.{product_in, product_under, row_told, rows_in}
+use Rattle.store_reads.specs.Segments.{head_at, plan_at, product_in, product_under, row_in_plan}
 use Rattle.store_reads.proofs.Found.{found_some}
-use Rattle.store_reads.proofs.Ordered.{told_in_order}
+use Rattle.store_reads.proofs.Ordered.{Rises, told_in_order}
+use Rattle.store_reads.proofs.SegmentHeads.{bytes_of, filter_both, is_under, segment_by_head, with_bytes}
 
 module _ (f : Facts) (b : List ℕ) where
   pub no_product : None ≡ option_map told_of (find (is_batch_named b) (stored_batches f)) → None ≡ product_in f b
@@ -45,29 +50,30 @@ both_left : (x y : Bool) → (x && y) ≡ true → x ≡ true
 both_left true y both = refl
 both_left false y both = both
 
+-- the rows of the record of this name in the batch with this id, if it is there
+abbrev rows_in : Facts → ℕ → List ℕ → Option (List Row)
+rows_in f id r =
+    option_map (λ (x : StoredRecord). map (row_of r) (filter (is_grouping_at x.batch x.place) (stored_groupings f))) (find (is_record_named id r) (stored_records f))
+
 module _ (f : Facts) (id : ℕ) (r : List ℕ) where
-  pub no_rows : None ≡ option_map record_at (find (is_record_named id r) (stored_records f)) → None ≡ rows_in f id r
+  no_rows : None ≡ option_map record_at (find (is_record_named id r) (stored_records f)) → None ≡ rows_in f id r
   no_rows none = rw (unmapped record_at (find (is_record_named id r) (stored_records f)) (sym none)) refl
 
   same_batch : (x : StoredRecord) → is_record_named id r x ≡ true → x.batch ≡ id
   same_batch x hit = let first : (x.batch == id) ≡ true = both_left (x.batch == id) (bytes_eq x.name r) hit in grind (arith, nat_tests, first)
 
-  pub rows_are : (x : RecordAt) → Some x ≡ option_map record_at (find (is_record_named id r) (stored_records f)) → (all : List GroupingAt)
-      → AllPairs (λ (g h : StoredGrouping). g.line < h.line) (filter (is_grouping_at id x.place) (stored_groupings f))
-      → AreSorted line_of (map grouping_at (filter (is_grouping_at id x.place) (stored_groupings f))) all → Some (map (row_told r) all) ≡ rows_in f id r
-  rows_are x x_is all rising sorted =
-      let own : List StoredGrouping = filter (is_grouping_at id x.place) (stored_groupings f) in
-      let told : all ≡ map grouping_at own = told_in_order grouping_at line_of own rising all sorted in
+  rows_at : (x : RecordAt) → Some x ≡ option_map record_at (find (is_record_named id r) (stored_records f))
+      → Some (map (row_of r) (filter (is_grouping_at id x.place) (stored_groupings f))) ≡ rows_in f id r
+  rows_at x x_is =
       let row = found_some record_at (find (is_record_named id r) (stored_records f)) x x_is in
       let batch : row.0.batch ≡ id = same_batch row.0 (find_passes (is_record_named id r) (stored_records f) row.0 row.1) in
       let place : x.place ≡ row.0.place = ap (λ (y : RecordAt). y.place) row.2 in
-      ap (λ zs. Some (map (row_told r) zs)) told ∙ ap Some (map_map (row_told r) grouping_at own)
-      ∙ ap (λ k. Some (map (row_of r) (filter (is_grouping_at id k) (stored_groupings f)))) place
+      ap (λ k. Some (map (row_of r) (filter (is_grouping_at id k) (stored_groupings f)))) place
       ∙ ap (λ k. Some (map (row_of r) (filter (is_grouping_at k row.0.place) (stored_groupings f)))) (sym batch)
       ∙ sym (ap (option_map (λ (y : StoredRecord). map (row_of r) (filter (is_grouping_at y.batch y.place) (stored_groupings f)))) row.1)
 
 -- rows that there are none of make no application
-pub no_segment : (p : Product) (a q : ℕ) → segment_at (plan_of p []) a q ≡ None
+no_segment : (p : Product) (a q : ℕ) → segment_at (plan_of p []) a q ≡ None
 unfolding applications_of grouped
 no_segment p a q = refl
 
@@ -102,7 +108,7 @@ module _ (f : Facts) (b r : List ℕ) (a q : ℕ) where
       under None = refl
       under (Some p) = ap (λ rows. Some (plan_of p rows)) (rows_same (find (is_record_named row.id r) (stored_records f)))
 
-  pub segment_by : plan_for f b r ≡ plan_in f.products (stored_batches f) (stored_records f) (stored_groupings f) b r
+  segment_by : plan_for f b r ≡ plan_in f.products (stored_batches f) (stored_records f) (stored_groupings f) b r
       → segment_row_of f b r a q ≡ option_and_then (λ (e : BatchProduct). segment_under e.product (rows_in f e.id r) a q) (product_in f b)
   segment_by law =
       ap (option_and_then (λ (plan : Plan). option_map (segment_row plan) (segment_at plan a q))) (law ∙ by_product (find (is_batch_named b) (stored_batches f)))
@@ -117,10 +123,6 @@ module _ (f : Facts) (b r : List ℕ) (a q : ℕ) where
       at None = refl
       at (Some e) = under e.product (rows_in f e.id r)
 
-pub no_segment_row : (p : Product) (rows : List Row) (a q : ℕ) → length rows ≡ 0 → None ≡ option_map (segment_row (plan_of p rows)) (segment_at (plan_of p rows) a q)
-no_segment_row p [] a q none = sym (ap (option_map (segment_row (plan_of p []))) (no_segment p a q))
-no_segment_row p (row ∷ rows) a q none = absurd (omega (arith, none))
-
 -- ---- a segment, by what is read
 
 module _ (f : Facts) (b r : List ℕ) (a q : ℕ) (law : plan_for f b r ≡ plan_in f.products (stored_batches f) (stored_records f) (stored_groupings f) b r) where
@@ -130,9 +132,46 @@ module _ (f : Facts) (b r : List ℕ) (a q : ℕ) (law : plan_for f b r ≡ plan
   pub segment_without_product : None ≡ product_in f b → None ≡ segment_row_of f b r a q
   segment_without_product none = ap under_product none ∙ sym (segment_by f b r a q law)
 
-  pub segment_without_rows : (e : BatchProduct) → Some e ≡ product_in f b → None ≡ rows_in f e.id r → None ≡ segment_row_of f b r a q
-  segment_without_rows e is none = ap (λ rows. segment_under e.product rows a q) none ∙ ap under_product is ∙ sym (segment_by f b r a q law)
+  module _ (e : BatchProduct) (e_is : Some e ≡ product_in f b) where
+    pub segment_without_record : None ≡ option_map record_at (find (is_record_named e.id r) (stored_records f)) → None ≡ segment_row_of f b r a q
+    segment_without_record none = ap (λ rows. segment_under e.product rows a q) (no_rows f e.id r none) ∙ ap under_product e_is ∙ sym (segment_by f b r a q law)
 
-  pub segment_told : (e : BatchProduct) → Some e ≡ product_in f b → (rows : List Row) → Some rows ≡ rows_in f e.id r → (found : Option SegmentRow)
-      → found ≡ option_map (segment_row (plan_of e.product rows)) (segment_at (plan_of e.product rows) a q) → found ≡ segment_row_of f b r a q
-  segment_told e is rows rows_is found found_is = found_is ∙ ap (λ o. segment_under e.product o a q) rows_is ∙ ap under_product is ∙ sym (segment_by f b r a q law)
+    pub segment_told : (x : RecordAt) → Some x ≡ option_map record_at (find (is_record_named e.id r) (stored_records f)) → (found : Option SegmentRow)
+        → found ≡ row_in_plan (plan_at f e x.place r) a q → found ≡ segment_row_of f b r a q
+    segment_told x x_is found found_is = found_is ∙ ap (λ o. segment_under e.product o a q) (rows_at f e.id r x x_is) ∙ ap under_product e_is ∙ sym (segment_by f b r a q law)
+
+-- ---- a segment of a record, by its groupings
+
+abbrev pub row_of_head : BatchProduct → SegmentHead → List ℕ → SegmentRow
+row_of_head e h bytes = record { aid = h.aid; bytes = bytes; enc = h.enc; tol = h.tol; last = h.last; max = e.product.max; low = e.product.low }
+
+module _ (f : Facts) (e : BatchProduct) (place a q : ℕ) (r : List ℕ) where
+  abbrev own : List StoredGrouping
+  own = filter (is_grouping_at e.id place) (stored_groupings f)
+
+  heads_are : Rises grouping_at line_of own → (gs : List GroupingAt) → AreSorted line_of (map grouping_at own) gs → gs ≡ map grouping_at own
+  heads_are rising gs sorted = told_in_order grouping_at line_of own rising gs sorted
+
+  bytes_are : Rises grouping_at line_of own → (h : SegmentHead) (cs : List CodedAt) → AreSorted coded_line (map coded_at (filter (is_of_segment e.id place h.aid h.rank) (stored_groupings f))) cs
+      → flat_map (λ (g : CodedAt). g.coded) cs ≡ bytes_of (filter (is_under h) own)
+  bytes_are rising h cs sorted =
+      let those : filter (is_of_segment e.id place h.aid h.rank) (stored_groupings f) ≡ filter (is_under h) own = filter_both (is_grouping_at e.id place) (is_under h) (stored_groupings f) in
+      let rises : Rises coded_at coded_line (filter (is_under h) own) = AllPairs-filter (λ (x y : StoredGrouping). x.line < y.line) (is_under h) own rising in
+      let told : cs ≡ map coded_at (filter (is_under h) own) =
+      told_in_order coded_at coded_line (filter (is_under h) own) rises cs (subst (λ xs. AreSorted coded_line (map coded_at xs) cs) those sorted) in
+      ap (flat_map (λ (g : CodedAt). g.coded)) told ∙ flat_map-map (λ (g : CodedAt). g.coded) coded_at (filter (is_under h) own)
+
+  row_by_head : row_in_plan (plan_at f e place r) a q ≡ option_map (segment_row (plan_at f e place r)) (option_map (with_bytes own) (head_at (map grouping_at own) a q))
+  row_by_head = ap (option_map (segment_row (plan_at f e place r))) (segment_by_head r own e.product a q)
+
+  module _ (rising : Rises grouping_at line_of own) (gs : List GroupingAt) (sorted : AreSorted line_of (map grouping_at own) gs) where
+    pub row_without_head : None ≡ head_at gs a q → None ≡ row_in_plan (plan_at f e place r) a q
+    row_without_head none =
+        ap (λ o. option_map (segment_row (plan_at f e place r)) (option_map (with_bytes own) o)) (none ∙ ap (λ xs. head_at xs a q) (heads_are rising gs sorted)) ∙ sym row_by_head
+
+    pub row_with_head : (h : SegmentHead) → Some h ≡ head_at gs a q
+        → (cs : List CodedAt) → AreSorted coded_line (map coded_at (filter (is_of_segment e.id place h.aid h.rank) (stored_groupings f))) cs
+        → Some (row_of_head e h (flat_map (λ (g : CodedAt). g.coded) cs)) ≡ row_in_plan (plan_at f e place r) a q
+    row_with_head h h_is cs coded =
+        ap (λ bytes. Some (row_of_head e h bytes)) (bytes_are rising h cs coded)
+        ∙ ap (λ o. option_map (segment_row (plan_at f e place r)) (option_map (with_bytes own) o)) (h_is ∙ ap (λ xs. head_at xs a q) (heads_are rising gs sorted)) ∙ sym row_by_head

@@ -49,12 +49,24 @@ shown_then a b c P Q R one two first second law clean =
     let q = second clean in
     (p.0, λ d sound is. law d sound (p.1 d sound is) (q.1 d sound (subst (IsImage (image d)) (sym ((one.kept early).now_is q.0)) is)))
 
+-- both by what is shown of rows
+pub both_shown : (a b c : State) (Q T : Tables → Type 0) (P : Contents → Type 0) → Looks a b → Looks b c → (HasCleanDisk b → ShowsRows a Q) → (HasCleanDisk c → ShowsRows b T)
+    → ((d : Contents) → AreSound d → Q (image d) → T (image d) → P d) → HasCleanDisk c → Shows a P
+both_shown a b c Q T P one two first second =
+    shown_then a b c (λ d. Q (image d)) (λ d. T (image d)) P one two (shown a b Q (λ d. Q (image d)) first (λ d sound is. is)) (shown b c T (λ d. T (image d)) second (λ d sound is. is))
+
 -- and what a third shows
-pub shown_third : (a b c d : State) (P Q R T : Contents → Type 0) → Looks a b → Looks b c → Looks c d → (HasCleanDisk b → Shows a P) → (HasCleanDisk c → Shows b Q) → (HasCleanDisk d → Shows c R)
+shown_third : (a b c d : State) (P Q R T : Contents → Type 0) → Looks a b → Looks b c → Looks c d → (HasCleanDisk b → Shows a P) → (HasCleanDisk c → Shows b Q) → (HasCleanDisk d → Shows c R)
     → ((x : Contents) → AreSound x → P x → Q x → R x → T x) → HasCleanDisk d → Shows a T
 shown_third a b c d P Q R T one two three first second third law =
     shown_then a c d (λ x. P x × Q x) R T (looks_then a b c one two) three (shown_then a b c P Q (λ x. P x × Q x) one two first second (λ x sound p q. (p, q))) third
     (λ x sound both r. law x sound both.0 both.1 r)
+
+pub three_shown : (a b c d : State) (Q T U : Tables → Type 0) (P : Contents → Type 0) → Looks a b → Looks b c → Looks c d → (HasCleanDisk b → ShowsRows a Q) → (HasCleanDisk c → ShowsRows b T) → (HasCleanDisk d → ShowsRows c U)
+    → ((x : Contents) → AreSound x → Q (image x) → T (image x) → U (image x) → P x) → HasCleanDisk d → Shows a P
+three_shown a b c d Q T U P one two three first second third =
+    shown_third a b c d (λ x. Q (image x)) (λ x. T (image x)) (λ x. U (image x)) P one two three
+    (shown a b Q (λ x. Q (image x)) first (λ x sound is. is)) (shown b c T (λ x. T (image x)) second (λ x sound is. is)) (shown c d U (λ x. U (image x)) third (λ x sound is. is))
 
 -- a read that tells all that is asked
 pub tells : {T : Type 0} (a b : State) (r : Result T Error) (Q : Tables → T → Type 0) (P : Contents → T → Type 0) → (HasCleanDisk b → IfOk r (λ x. ShowsRows a (λ t. Q t x)))
@@ -67,3 +79,8 @@ pub tells_then : {T : Type 0} (a b c : State) (r : Result T Error) (P : Contents
     → ((d : Contents) → AreSound d → (x : T) → P d → Q d x → R d x) → Tells a c r R
 tells_then a b c (Ok x) P Q R one two first second law = shown_then a b c P (λ d. Q d x) (λ d. R d x) one two first second (λ d sound. law d sound x)
 tells_then a b c (Err e) P Q R one two first second law = λ clean. tt
+
+-- and so what follows of it
+pub if_ok : {T : Type 0} (r : Result T Error) (P Q : T → Type 0) → ((x : T) → P x → Q x) → IfOk r P → IfOk r Q
+if_ok (Ok x) P Q then told = then x told
+if_ok (Err e) P Q then told = tt

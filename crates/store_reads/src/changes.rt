@@ -1,27 +1,22 @@
-//! What is told of before a change.
-ghost use Rattle.std.specs.Prelude.{◌≡◌, ◌+◌, length, false, IfOk, Some};
+//! What is written for a change.
+ghost use Rattle.std.specs.Prelude.{◌≡◌, false, IfOk};
 ghost use Rattle.sqlite.specs.Held.{state};
 ghost use Rattle.sqlite.specs.State.{HasCleanDisk};
-ghost use Rattle.job_facts.specs.declared.facts.Lot.{Lot};
 ghost use Rattle.job_facts.specs.Contents.{AreSound, Contents};
 ghost use Rattle.job_facts.specs.Sound.{IsSoundChange};
-ghost use Rattle.job_facts.specs.States.{lot_named, product_named};
-ghost use Rattle.image_laws.specs.Before.{IsBefore, IsBeforeWord, IsPlaceOf, IsPlaceOfSession};
 ghost use Rattle.image_laws.specs.Image.{image};
+ghost use Rattle.image_laws.specs.WritingOf.{AreDiscardedOf, IsPlaceOf, IsPlaceOfSession};
+ghost use Rattle.image_laws.specs.WritingOf.{IsOfWord, IsWritingOf};
 ghost use Rattle.sql_rows.specs.Image.{IsImage};
-ghost use Rattle.step_laws.specs.Sums.{discarded_in};
 ghost use Rattle.row_reads.specs.Reads.{Looks};
 ghost use Rattle.store_reads.specs.Tells.{Tells};
 
-use crate::counts::{batch_count, session_count};
-use crate::names;
-use crate::numbers::END;
 use crate::sessions::session;
 use job_facts::{Change, SessionState};
 use row_reads::{batch_head, record_named};
 use sqlite::{Alter, Connection, Error};
-use store_data::{Name, Product};
-use table_rows::{Before, RecordPlace};
+use store_data::Name;
+use table_rows::{NewBatch, NewSession, NewWord, RecordPlace, Writing};
 
 // ---- records
 
@@ -70,49 +65,11 @@ fn place_of_session<S: Alter>(conn: &mut Connection<S>, number: u64) -> Result<R
 
 // ---- one change
 
-// The id of a new batch, and the product that its file is read under.
-fn import<S: Alter>(conn: &mut Connection<S>, product: &Name) -> Result<(u64, Product), Error>
-    requires { conn.old.in_transaction ≡ false }
-    ensures value { Tells (state S.Store conn.old) (state S.Store conn.new) result
-        (λ c it. (it.0 ≡ length c.facts.batches + 1)
-        × (product_named c.facts.products product.now ≡ Some it.1)) }
-    ensures looks { Looks (state S.Store conn.old) (state S.Store conn.new) }
-    ensures idle { conn.new.in_transaction ≡ false }
-{
-    let count = batch_count(conn)?;
-    if count >= END {
-        return Err(Error::InvalidQuery);
-    }
-    let Some(found) = names::product(conn, product)? else {
-        return Err(Error::InvalidQuery);
-    };
-    Ok((count + 1, found))
-}
-
-// The id of a new session, and where its record stands.
-fn opening<S: Alter>(
-    conn: &mut Connection<S>,
-    batch: &Name,
-    rec: &Name,
-) -> Result<(u64, RecordPlace), Error>
-    requires { conn.old.in_transaction ≡ false }
-    ensures value { Tells (state S.Store conn.old) (state S.Store conn.new) result
-        (λ c it. (it.0 ≡ length c.facts.sessions + 1)
-        × IsPlaceOf c.facts batch.now rec.now it.1) }
-    ensures looks { Looks (state S.Store conn.old) (state S.Store conn.new) }
-    ensures idle { conn.new.in_transaction ≡ false }
-{
-    let count = session_count(conn)?;
-    let place = place_of(conn, batch, rec)?;
-    Ok((count + 1, place))
-}
-
 // How many blanks of a lot are discarded.
 fn discarded<S: Alter>(conn: &mut Connection<S>, lot: &Name) -> Result<u64, Error>
     requires { conn.old.in_transaction ≡ false }
     ensures value { Tells (state S.Store conn.old) (state S.Store conn.new) result
-        (λ c n. (l : Lot) × (lot_named c.facts.lots lot.now ≡ Some l)
-        × (n ≡ discarded_in c.facts l)) }
+        (λ c n. AreDiscardedOf c.facts lot.now n) }
     ensures looks { Looks (state S.Store conn.old) (state S.Store conn.new) }
     ensures idle { conn.new.in_transaction ≡ false }
 {
@@ -123,71 +80,121 @@ fn discarded<S: Alter>(conn: &mut Connection<S>, lot: &Name) -> Result<u64, Erro
     Ok(row.discarded)
 }
 
-// What is told before a word after which its session stands so.
-fn word<S: Alter>(
+// What is written for a word after which its session, of this record, stands so.
+fn word_writing<'a, S: Alter>(
     conn: &mut Connection<S>,
-    session: u64,
+    batch: &Name,
+    rec: &Name,
+    word: NewWord,
     stands: SessionState,
-) -> Result<Before, Error>
+) -> Result<Writing<'a>, Error>
     requires { conn.old.in_transaction ≡ false }
-    ensures value { HasCleanDisk (state S.Store conn.new) → IfOk result (λ told. (c : Contents)
+    ensures value { HasCleanDisk (state S.Store conn.new) → IfOk result (λ w. (c : Contents)
         → AreSound c → IsImage (image c) (state S.Store conn.old).now
-        → IsBeforeWord c.facts session stands told) }
+        → IsOfWord c.facts batch.now rec.now word stands w) }
     ensures looks { Looks (state S.Store conn.old) (state S.Store conn.new) }
     ensures idle { conn.new.in_transaction ≡ false }
 {
     match stands {
-        SessionState::Running => Ok(Before::Nothing),
-        _ => {
-            let place = place_of_session(conn, session)?;
-            Ok(Before::OfRecord { place })
+        SessionState::Running => Ok(Writing::AddsWord { word }),
+        SessionState::Good | SessionState::Spoiled => {
+            let place = place_of(conn, batch, rec)?;
+            Ok(Writing::AddsLastWord {
+                word,
+                stands,
+                place,
+            })
         }
     }
 }
 
-/// How what a change touches stands before it. A change that needs no more than itself is read
-/// nothing for.
-pub fn before<S: Alter>(conn: &mut Connection<S>, change: &Change<'_>) -> Result<Before, Error>
+/// What is written for a change, with how what it touches stands before it. A change that needs no
+/// more than itself is read nothing for.
+pub fn writing_of<'a, S: Alter>(
+    conn: &mut Connection<S>,
+    change: &Change<'a>,
+) -> Result<Writing<'a>, Error>
     requires { conn.old.in_transaction ≡ false }
-    ensures value { HasCleanDisk (state S.Store conn.new) → IfOk result (λ told. (c : Contents)
+    ensures value { HasCleanDisk (state S.Store conn.new) → IfOk result (λ w. (c : Contents)
         → AreSound c → IsImage (image c) (state S.Store conn.old).now
-        → IsSoundChange c.facts change.now → IsBefore c.facts change.now told) }
+        → IsSoundChange c.facts change.now → IsWritingOf c.facts change.now w) }
     ensures looks { Looks (state S.Store conn.old) (state S.Store conn.new) }
     ensures idle { conn.new.in_transaction ≡ false }
 {
     match *change {
-        Change::Nothing
-        | Change::AddsProduct { .. }
-        | Change::AddsLot { .. }
-        | Change::Closes { .. } => Ok(Before::Nothing),
-        Change::AddsBatch { product, .. } => {
-            let (id, product) = import(conn, &product)?;
-            Ok(Before::Import { id, product })
-        }
-        Change::Opens { batch, rec, .. } => {
-            let (id, place) = opening(conn, &batch, &rec)?;
-            Ok(Before::Opening { id, place })
+        Change::Nothing => Ok(Writing::Nothing),
+        Change::AddsProduct { product } => Ok(Writing::AddsProduct { product }),
+        Change::AddsLot { lot } => Ok(Writing::AddsLot { lot }),
+        Change::AddsBatch {
+            number: id,
+            batch: name,
+            product,
+            records,
+            raw,
+        } => Ok(Writing::AddsBatch {
+            batch: NewBatch {
+                id,
+                name,
+                product,
+                records,
+                raw,
+            },
+        }),
+        Change::Opens {
+            session: id,
+            machine,
+            batch,
+            rec,
+            blank,
+            lot,
+        } => {
+            let place = place_of(conn, &batch, &rec)?;
+            let session = NewSession {
+                id,
+                machine,
+                blank,
+                lot,
+                place,
+            };
+            Ok(Writing::Opens { session })
         }
         Change::AddsWord {
             session,
+            batch,
+            rec,
+            index,
+            sw,
             stands,
-            ..
-        } => word(conn, session, stands),
+            cursor,
+        } => {
+            let word = NewWord {
+                session,
+                index,
+                sw,
+                cursor,
+            };
+            word_writing(conn, &batch, &rec, word, stands)
+        }
         Change::Ends { session } => {
             let place = place_of_session(conn, session)?;
-            Ok(Before::OfRecord { place })
+            Ok(Writing::Ends { session, place })
         }
-        Change::Discards { lot, .. } => {
+        Change::Discards { blank, lot } => {
             let discarded = discarded(conn, &lot)?;
-            Ok(Before::OfLot { discarded })
+            Ok(Writing::Discards {
+                blank,
+                lot,
+                discarded,
+            })
         }
         Change::Remakes { batch, rec } => {
             let place = place_of(conn, &batch, &rec)?;
-            Ok(Before::OfRecord { place })
+            Ok(Writing::Remakes { place })
         }
-        Change::Withdraws { batch, rec, .. } => {
+        Change::Withdraws { batch, rec, was } => {
             let place = place_of(conn, &batch, &rec)?;
-            Ok(Before::OfRecord { place })
+            Ok(Writing::Withdraws { was, place })
         }
+        Change::Closes { batch } => Ok(Writing::Closes { batch }),
     }
 }

@@ -17,7 +17,7 @@ mod sessions;
 mod sums;
 
 pub use batches::{batch, batch_has, batch_size, batch_totals, is_finished};
-pub use changes::before;
+pub use changes::writing_of;
 pub use counts::{batch_count, lot_count, product_count, session_count};
 pub use lots::{is_charged, lot, lot_of, overlaps};
 pub use names::product;

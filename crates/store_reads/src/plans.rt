@@ -1,109 +1,129 @@
-//! The plan of a record's rows, and its segments.
-ghost use Rattle.std.specs.Prelude.{◌≡◌, ◌≤◌, All, IfOk, IfSome, IsTrue, map, option_map};
-ghost use Rattle.dgi.specs.Coding.{IsSent};
-ghost use Rattle.store_data.specs.Cursor.{segment_at};
-ghost use Rattle.store_data.specs.Sequence.{IsProduct, IsRow, plan_of};
-ghost use Rattle.job_facts.specs.declared.rows.SegmentRow.{SegmentRow as SegmentRowValue};
-ghost use Rattle.job_facts.specs.Rows.{segment_row};
+//! The segments of a record's plan, by its groupings without their bytes.
+ghost use Rattle.std.specs.Prelude.{◌≡◌, ◌==◌, All, IfOk, find, option_copied};
+ghost use Rattle.std.specs.List.{flat_map};
 ghost use Rattle.row_reads.specs.CardDecoding.{IsGroupingAt};
-ghost use Rattle.store_reads.specs.Segments.{row_told};
+ghost use Rattle.row_reads.specs.declared.groupings.CodedAt.{CodedAt as CodedAtValue};
+ghost use Rattle.row_reads.specs.declared.groupings.GroupingAt.{GroupingAt as GroupingAtValue};
+ghost use Rattle.store_reads.specs.Segments.{application_at, head_at, head_of, of_application};
+ghost use Rattle.store_reads.specs.Segments.{ranks_of};
 
-use dgi::{coded_len, read_whole};
-use job_facts::SegmentRow;
-use row_reads::GroupingAt;
-use sqlite::{Error, ErrorCode};
-use std::alloc::Global;
-use store_data::{Aid, Bytes, Name, PlanFault, Product, Row, plan};
+use indexmap::IndexSet;
+use row_reads::{CodedAt, GroupingAt};
+use std::alloc::{AllocError, Global};
+use store_data::{Aid, Bytes, Enc};
 
-/// The most rows that a batch has.
-const MAX_ROWS: usize = 4096;
-
-// Whether the bytes are the sent form of a grouping (EMV CPS 1.1).
-fn is_sent(bytes: &[u8]) -> bool
-    ensures { IsTrue result → IsSent bytes.now }
-{
-    match read_whole(bytes) {
-        Ok(grouping) => coded_len(&grouping) == bytes.len(),
-        Err(_) => false,
-    }
+/// A segment of a plan without its bytes: whose it is, and the marks of its groupings.
+#[derive(Clone, Copy)]
+pub(crate) struct SegmentHead {
+    pub(crate) aid: Aid,
+    pub(crate) rank: u16,
+    pub(crate) enc: Enc,
+    pub(crate) tol: bool,
+    /// Whether it is its application's last.
+    pub(crate) last: bool,
 }
 
-// The row of a batch file, for the record of this name.
-fn row_told(rec: &Name, g: GroupingAt) -> Result<Row, Error>
-    requires { IsGroupingAt g }
-    ensures value { IfOk result (λ row. row ≡ row_told rec.now g) }
-    ensures ranged { IfOk result IsRow }
-{
-    if !is_sent(g.coded.as_slice()) {
-        return Err(Error::InvalidQuery);
-    }
-    Ok(Row {
-        rec: *rec,
-        aid: Aid::new(g.aid.bytes()),
-        rank: g.rank,
-        enc: g.enc,
-        tol: g.tol,
-        coded: g.coded,
-    })
-}
-
-/// The rows of a batch file, for the record of this name.
-pub(crate) fn rows_told(
+// The identifier of application `app` of a record with these groupings.
+fn application_at(
     alloc: Global,
-    rec: &Name,
-    groupings: Vec<GroupingAt>,
-) -> Result<Vec<Row>, Error>
-    requires { All IsGroupingAt groupings.items }
-    ensures value { IfOk result (λ rows. rows.items ≡ map (row_told rec.now) groupings.items) }
-    ensures ranged { IfOk result (λ rows. All IsRow rows.items) }
-{
-    let mut rows = Vec::new(alloc);
-    for g in groupings {
-        rows.push(row_told(rec, g)?)?;
-    }
-    Ok(rows)
-}
-
-// What is told of rows without a plan.
-fn refused(fault: PlanFault) -> Error {
-    match fault {
-        PlanFault::Memory => Error::SqliteFailure(ErrorCode::OutOfMemory),
-        _ => Error::InvalidQuery,
-    }
-}
-
-/// A segment of the plan of these rows, if it has it.
-pub(crate) fn segment_in(
-    alloc: Global,
-    rows: &[Row],
-    product: &Product,
+    groupings: &[GroupingAt],
     app: u16,
-    segment: u16,
-) -> Result<Option<SegmentRow>, Error>
-    requires product { IsProduct product.now }
-    requires rows { All IsRow rows.now }
-    ensures value { IfOk result (λ row. row
-        ≡ option_map (segment_row (plan_of product.now rows.now))
-        (segment_at (plan_of product.now rows.now) app segment)) }
-    ensures ranged { IfOk result (λ row. IfSome row (λ (row : SegmentRowValue). row.low ≤ 31)) }
+) -> Result<Option<Aid>, AllocError>
+    ensures { IfOk result (λ aid. aid ≡ application_at groupings.now app) }
 {
-    if rows.is_empty() {
-        return Ok(None);
+    let mut seen = IndexSet::new(alloc);
+    for g in groupings {
+        seen.insert(g.aid)?;
     }
-    if rows.len() > MAX_ROWS {
-        return Err(Error::InvalidQuery);
+    Ok(seen.get_index(usize::from(app)).copied())
+}
+
+// Those of these groupings that have this identifier.
+fn of_application(mut groupings: Vec<GroupingAt>, aid: &Aid) -> Vec<GroupingAt>
+    ensures { result.items ≡ of_application groupings.items aid.now }
+{
+    groupings.retain(|g| g.aid == *aid);
+    groupings
+}
+
+/// One more than the greatest rank.
+const RANKS: usize = 1000;
+
+// The ranks of these groupings, each once, rising.
+fn ranks_of(alloc: Global, groupings: &[GroupingAt]) -> Result<Vec<u16>, AllocError>
+    requires { All IsGroupingAt groupings.now }
+    ensures { IfOk result (λ ranks. ranks.items ≡ ranks_of groupings.now) }
+{
+    let mut has = [false; RANKS];
+    for g in groupings {
+        has[usize::from(g.rank)] = true;
     }
-    let plan = plan(alloc, rows, product).map_err(refused)?;
-    let Some(view) = plan.segment(app, segment) else {
+    let mut ranks = Vec::new(alloc);
+    for rank in 1..1000u16 {
+        if has[usize::from(rank)] {
+            ranks.push(rank)?;
+        }
+    }
+    Ok(ranks)
+}
+
+// The first of these groupings that has this rank.
+fn first_of(groupings: &[GroupingAt], rank: u16) -> Option<&GroupingAt>
+    ensures { option_copied result ≡ find (λ (g : GroupingAtValue). g.rank == rank) groupings.now }
+{
+    groupings.iter().find(|g| g.rank == rank)
+}
+
+// Segment `segment` of the application with these groupings, without its bytes.
+fn head_of(
+    alloc: Global,
+    groupings: &[GroupingAt],
+    segment: u16,
+) -> Result<Option<SegmentHead>, AllocError>
+    requires { All IsGroupingAt groupings.now }
+    ensures { IfOk result (λ head. head ≡ head_of groupings.now segment) }
+{
+    let ranks = ranks_of(alloc, groupings)?;
+    let place = usize::from(segment);
+    let Some(rank) = ranks.get(place).copied() else {
         return Ok(None);
     };
-    Ok(Some(SegmentRow {
-        aid: Aid::new(view.aid),
-        bytes: Bytes::from_vec(view.bytes.to_vec(alloc)?),
-        enc: view.enc,
-        tol: view.tol,
-        last: view.last,
-        max: plan.max(),
-        low: plan.low(),
+    let last = place + 1 == ranks.len();
+    let first = first_of(groupings, rank).copied();
+    Ok(first.map(|first| SegmentHead {
+        aid: first.aid,
+        rank,
+        enc: first.enc,
+        tol: first.tol,
+        last,
     }))
+}
+
+/// Segment `segment` of application `app` of a record with these groupings, without its bytes.
+pub(crate) fn head_at(
+    alloc: Global,
+    groupings: Vec<GroupingAt>,
+    app: u16,
+    segment: u16,
+) -> Result<Option<SegmentHead>, AllocError>
+    requires { All IsGroupingAt groupings.items }
+    ensures { IfOk result (λ head. head ≡ head_at groupings.items app segment) }
+{
+    let Some(aid) = application_at(alloc, groupings.as_slice(), app)? else {
+        return Ok(None);
+    };
+    let own = of_application(groupings, &aid);
+    head_of(alloc, own.as_slice(), segment)
+}
+
+/// The bytes of groupings, joined.
+pub(crate) fn joined(alloc: Global, groupings: &[CodedAt]) -> Result<Bytes, AllocError>
+    ensures { IfOk result
+        (λ bytes. bytes ≡ flat_map (λ (g : CodedAtValue). g.coded) groupings.now) }
+{
+    let mut bytes = Vec::new(alloc);
+    for g in groupings {
+        bytes.extend_from_slice(g.coded.as_slice())?;
+    }
+    Ok(Bytes::from_vec(bytes))
 }

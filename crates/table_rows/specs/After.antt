@@ -1,12 +1,10 @@
--- The rows after a change, by the change and by how what it touches stood before it.
-use Rattle.std.specs.Prelude.{◌+◌, ◌-◌, ℕ, true, false, List, ◌++◌, length, map, bytes_eq}
+-- The rows after what is written with a reply.
+use Rattle.std.specs.Prelude.{◌+◌, ◌-◌, ℕ, true, false, List, ◌++◌, map, bytes_eq}
 use Rattle.std.specs.List.{enumerate_from, position_or_len}
 use Rattle.store_data.specs.Cursor.{select_cursor}
 use Rattle.store_data.specs.Groups.{first_appearances}
 use Rattle.store_data.specs.declared.row.Row.{Row}
-use Rattle.batch_import.specs.Batch.{batch_of}
-use Rattle.job_facts.specs.declared.change.Change.{Change}
-use Rattle.job_facts.specs.declared.change.Change.TheVariants as change
+use Rattle.batch_import.specs.Batch.{coming_of}
 use Rattle.job_facts.specs.declared.facts.Lot.{Lot}
 use Rattle.job_facts.specs.declared.facts.RecordState.{RecordState}
 use Rattle.job_facts.specs.declared.facts.RecordState.TheVariants as rec
@@ -14,10 +12,11 @@ use Rattle.job_facts.specs.declared.facts.SessionState.{SessionState}
 use Rattle.job_facts.specs.declared.facts.SessionState.TheVariants as session
 use Rattle.job_facts.specs.declared.rows.BatchTotals.{BatchTotals}
 use Rattle.job_facts.specs.Contents.{Entry}
-use Rattle.job_facts.specs.States.{rows_or_none}
-use Rattle.table_rows.specs.declared.before.Before.{Before}
-use Rattle.table_rows.specs.declared.before.Before.TheVariants as before
-use Rattle.table_rows.specs.declared.before.RecordPlace.{RecordPlace}
+use Rattle.table_rows.specs.declared.writing.NewSession.{NewSession}
+use Rattle.table_rows.specs.declared.writing.NewWord.{NewWord}
+use Rattle.table_rows.specs.declared.writing.RecordPlace.{RecordPlace}
+use Rattle.table_rows.specs.declared.writing.Writing.{Writing}
+use Rattle.table_rows.specs.declared.writing.Writing.TheVariants as writing
 use Rattle.table_rows.specs.Tables.{StoredBatch, StoredGrouping, StoredLot, StoredRecord, StoredSession, Tables, with_batch, with_blank, with_closed_set, with_end_set, with_lot, with_lot_set, with_mark, with_product, with_record_set, with_remake, with_reply, with_session, with_session_set, with_totals_set, with_word, without_mark, without_replies}
 
 -- ---- counters
@@ -101,11 +100,11 @@ new_grouping batch names row = record {
   coded = row.1.coded;
 }
 
--- a batch, its records and its groupings; row 1 of its file is the header
-abbrev pub batch_rows_after : ℕ → List ℕ → List ℕ → List ℕ → List Row → Tables → Tables
-batch_rows_after id name product raw rows t =
+-- a batch with so many records, its records and its groupings; row 1 of its file is the header
+abbrev pub batch_rows_after : ℕ → List ℕ → List ℕ → List ℕ → ℕ → List Row → Tables → Tables
+batch_rows_after id name product raw records rows t =
     let names = first_appearances (map (λ (row : Row). row.rec) rows) in
-    with_batch (new_batch id name product raw (length names)) (record t {
+    with_batch (new_batch id name product raw records) (record t {
       records = map (new_record id) (enumerate_from 0 names) ++ t.records;
       groupings = map (new_grouping id names) (enumerate_from 2 rows) ++ t.groupings;
     })
@@ -124,31 +123,38 @@ new_session id p machine blank = record {
   cursor = select_cursor 0;
 }
 
--- ---- all changes
-
--- where what is told of before is not of the change, nothing
-abbrev pub rows_after : Change → Before → Tables → Tables
-rows_after (change.AddsProduct p) before.Nothing t = with_product p t
-rows_after (change.AddsLot l) before.Nothing t = with_lot (new_lot l) t
-rows_after (change.AddsBatch b p raw) (before.Import id product) t = batch_rows_after id b p raw.now (rows_or_none (batch_of product raw.now)) t
-rows_after (change.Opens machine b r blank lot) (before.Opening id p) t =
+-- a session on a blank of its own, whose record no longer waits
+abbrev pub session_rows_after : NewSession → Tables → Tables
+session_rows_after s t =
+    let p = s.place in
     record_after p rec.Running p.spoiled p.remakes (one_opened (more rec.Running (less rec.Waiting p.totals)))
-    (with_blank (record { serial = blank; lot = lot; discarded = false }) (with_session (new_session id p machine blank) t))
-rows_after (change.AddsWord s index sw stands cursor) before.Nothing t =
-    with_session_set s session.Running (index + 1) cursor (with_word (record { session = s; place = index; sw = sw }) t)
-rows_after (change.AddsWord s index sw stands cursor) (before.OfRecord p) t =
-    stopped p stands (with_session_set s stands (index + 1) cursor (with_word (record { session = s; place = index; sw = sw }) t))
-rows_after (change.Ends s) (before.OfRecord p) t = stopped p session.Spoiled (with_end_set s t)
-rows_after (change.Discards blank lot) (before.OfLot discarded) t =
-    with_lot_set lot (discarded + 1) (with_blank (record { serial = blank; lot = lot; discarded = true }) t)
-rows_after (change.Remakes b r) (before.OfRecord p) t =
+    (with_blank (record { serial = s.blank; lot = s.lot; discarded = false }) (with_session (new_session s.id p s.machine s.blank) t))
+
+-- a word after which its session stands so
+abbrev pub word_rows_after : NewWord → SessionState → Tables → Tables
+word_rows_after w stands t =
+    with_session_set w.session stands (w.index + 1) w.cursor (with_word (record { session = w.session; place = w.index; sw = w.sw }) t)
+
+-- ---- all that is written
+
+-- but for the reply; a batch file without a fault has the rows that come of it, and no others
+abbrev pub rows_after : Writing → Tables → Tables
+rows_after writing.Nothing t = t
+rows_after (writing.AddsProduct p) t = with_product p t
+rows_after (writing.AddsLot l) t = with_lot (new_lot l) t
+rows_after (writing.AddsBatch b) t = batch_rows_after b.id b.name b.product.code b.raw.now b.records (coming_of b.product.check b.raw.now).rows t
+rows_after (writing.Opens s) t = session_rows_after s t
+rows_after (writing.AddsWord w) t = word_rows_after w session.Running t
+rows_after (writing.AddsLastWord w stands p) t = stopped p stands (word_rows_after w stands t)
+rows_after (writing.Ends s p) t = stopped p session.Spoiled (with_end_set s t)
+rows_after (writing.Discards blank lot discarded) t = with_lot_set lot (discarded + 1) (with_blank (record { serial = blank; lot = lot; discarded = true }) t)
+rows_after (writing.Remakes p) t =
     record_after p rec.Waiting p.spoiled (p.remakes + 1) (more rec.Waiting (less rec.Failed p.totals))
     (with_remake (record { batch = p.batch; place = p.place; turn = p.remakes + 1 }) t)
-rows_after (change.Withdraws b r was) (before.OfRecord p) t = passed p was rec.Withdrawn t
-rows_after (change.Closes b) before.Nothing t = with_closed_set b t
-rows_after _ _ t = t
+rows_after (writing.Withdraws was p) t = passed p was rec.Withdrawn t
+rows_after (writing.Closes b) t = with_closed_set b t
+rows_after (writing.Releases client upto) t = with_mark (record { client = client; upto = upto }) (without_mark client (without_replies client upto t))
 
--- the client's numbers are released up to this one, by this reply
-abbrev pub rows_after_release : ℕ → Entry → Tables → Tables
-rows_after_release upto entry t =
-    with_reply entry (with_mark (record { client = entry.client; upto = upto }) (without_mark entry.client (without_replies entry.client upto t)))
+-- and with it
+abbrev pub rows_written : Writing → Entry → Tables → Tables
+rows_written w entry t = with_reply entry (rows_after w t)

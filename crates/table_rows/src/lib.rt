@@ -1,11 +1,14 @@
-//! The rows of the store's tables, as they are read whole: what a damaged file may have too.
+//! The rows of the store's tables, as they are read whole: what a damaged file may have too. And
+//! what is written of them.
 #![tactic(auto)]
 
-pub mod before;
+pub mod entry;
 mod rows;
+pub mod writing;
 
-pub use before::{Before, RecordPlace};
+pub use entry::Entry;
 pub use rows::{
     StoredBatch, StoredBlank, StoredGrouping, StoredLot, StoredMark, StoredProduct, StoredRecord,
     StoredRemake, StoredReply, StoredSession, StoredWord, Tables,
 };
+pub use writing::{NewBatch, NewSession, NewWord, RecordPlace, Writing};

@@ -52,8 +52,10 @@ pub(crate) fn stocked(alloc: Global) -> Result<ListStore, Fail> {
         count: 3,
     };
     let batch = Change::AddsBatch {
+        number: 1,
         batch,
-        product: code,
+        product,
+        records: 1,
         raw: b"record,aid,rank,enc,tol,dgi\nR1,F00000000101,1,0,0,0101027000\n",
     };
     let (product, lot) = (Change::AddsProduct { product }, Change::AddsLot { lot });

@@ -1,5 +1,5 @@
 //! The decisions on products, lots and batches.
-ghost use Rattle.std.specs.Prelude.{◌≡◌, ◌<◌, None, Some, IfErr, IfOk, IfSome, length};
+ghost use Rattle.std.specs.Prelude.{◌≡◌, ◌<◌, ◌+◌, None, Some, IfErr, IfOk, IfSome, length};
 ghost use Rattle.store_data.specs.Sequence.{IsProduct};
 ghost use Rattle.batch_import.specs.Batch.{batch_of};
 ghost use Rattle.job_facts.specs.Facts.{Facts};
@@ -159,6 +159,7 @@ fn new_lot(lot: &Lot, product: Option<Product>, overlaps: bool, lots: u64) -> De
 }
 
 /// The decision on a batch file.
+#[tactic(auto, unfolding(job_facts::specs::Steps::step))]
 pub(crate) fn import<'a, S: JobStore>(
     alloc: Global,
     store: &mut S,
@@ -177,7 +178,7 @@ pub(crate) fn import<'a, S: JobStore>(
         None => {
             let under = store.product(product)?;
             let batches = store.batch_count()?;
-            import_new(alloc, client, batch, product, raw, under, batches)
+            new_batch(alloc, batch, product, raw, under, batches)
         }
         Some(kept) => {
             let same = store.batch_has(batch, raw)?;
@@ -216,27 +217,6 @@ fn import_known(
     }
 }
 
-// By the product, and how many batches there are.
-#[tactic(auto, unfolding(job_facts::specs::Steps::step))]
-fn import_new<'a>(
-    alloc: Global,
-    client: &Name,
-    batch: &Name,
-    product: &Name,
-    raw: &'a [u8],
-    under: Option<Product>,
-    batches: u64,
-) -> Result<Decision<'a>, StoreFault>
-    requires { IfSome under IsProduct }
-    ensures value { (f : Facts) → IsSound f → batch_row_of f batch.now ≡ None
-        → under ≡ product_named f.products product.now → batches ≡ length f.batches
-        → IfOk result (λ answer. Decides f client.now (request.Import batch.now product.now raw.now)
-        answer.0 answer.1) }
-    ensures cause { IfErr result (λ fault. fault ≡ Memory) }
-{
-    new_batch(alloc, batch, product, raw, under, batches)
-}
-
 // A batch under a new name.
 fn new_batch<'a>(
     alloc: Global,
@@ -257,30 +237,30 @@ fn new_batch<'a>(
     match under {
         None => Ok(refused(Refusal::ProductUnknown)),
         Some(_) if batches >= MOST_BATCHES => Ok(refused(Refusal::Limit)),
-        Some(under) => taken_in(alloc, batch, product, raw, &under),
+        Some(under) => taken_in(alloc, batch, raw, under, batches + 1),
     }
 }
 
-// By the totals of the batch file, or its first fault.
+// By the totals of the batch file, or its first fault. The batch would have this number.
 fn taken_in<'a>(
     alloc: Global,
     batch: &Name,
-    product: &Name,
     raw: &'a [u8],
-    under: &Product,
+    product: Product,
+    number: u64,
 ) -> Result<Decision<'a>, StoreFault>
-    requires { IsProduct under.now }
+    requires { IsProduct product }
     ensures value { (f : Facts) → IsSound f → batch_named f.batches batch.now ≡ None
-        → product_named f.products product.now ≡ Some under.now
-        → length f.batches < 4096
+        → product_named f.products product.code ≡ Some product
+        → length f.batches < 4096 → number ≡ length f.batches + 1
         → IfOk result (λ answer.
-        Makes f (taken_in f batch.now product.now raw.now (batch_of under.now raw.now))
+        Makes f (taken_in f batch.now product.code raw.now (batch_of product raw.now))
         answer.0 answer.1) }
     ensures cause { IfErr result (λ fault. fault ≡ Memory) }
 {
     laws::is_a_name(batch);
-    let (batch, product) = (*batch, *product);
-    match check_batch(alloc, raw, under) {
+    let batch = *batch;
+    match check_batch(alloc, raw, &product) {
         Ok(totals) => Ok((
             Reply::Import {
                 batch,
@@ -289,8 +269,10 @@ fn taken_in<'a>(
                 rows: totals.rows,
             },
             Change::AddsBatch {
+                number,
                 batch,
                 product,
+                records: totals.records,
                 raw,
             },
         )),

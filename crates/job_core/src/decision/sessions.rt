@@ -10,7 +10,7 @@ ghost use Rattle.job_facts.specs.Rows.{session_row, session_row_of};
 ghost use Rattle.store_data.specs.declared.cursor.Cursor.{Cursor as CursorValue};
 ghost use Rattle.job_facts.specs.Sound.{Decides, IsSound, Makes};
 ghost use Rattle.job_facts.specs.States.{first_waiting, is_charged, lot_of, plan_for};
-ghost use Rattle.job_facts.specs.States.{running_session, session_cursor};
+ghost use Rattle.job_facts.specs.States.{running_session};
 ghost use Rattle.job_facts.specs.Steps.{opened, take_word};
 ghost use Rattle.job_facts.specs.Store.{CountsFaults, Reads, Stays};
 ghost use Rattle.job_facts.specs.declared.change.Change.TheVariants.{AddsWord};
@@ -209,6 +209,7 @@ fn opened(
         session,
     };
     let change = Change::Opens {
+        session,
         machine,
         batch,
         rec,
@@ -273,7 +274,7 @@ fn taking_word<S: JobStore>(
     let segment = store.segment(&row.batch, &row.rec, row.cursor.app, row.cursor.segment)?;
     let next = after_word(&row.cursor, &segment, sw);
     let command = next_command(alloc, store, row, &segment, &next)?;
-    Ok(took_word(session, index, sw, row.cursor, next, command))
+    Ok(took_word(session, row, index, sw, next, command))
 }
 
 // The command at the next cursor, if there is one. The segment of the last command is at hand.
@@ -331,60 +332,54 @@ fn after_word(cursor: &Cursor, segment: &Option<SegmentRow>, sw: u16) -> Option<
 // A word is added: the session is spoiled, goes on with its next command, or is good.
 fn took_word(
     session: u64,
+    row: &SessionRow,
     index: u32,
     sw: u16,
-    cursor: Cursor,
     next: Option<Cursor>,
     command: Option<Bytes>,
 ) -> Decision<'static>
     ensures { (f : Facts) (x : Session) (plan : Plan) → IsSound f → Runs f session x plan
-        → index ≡ length x.words → cursor ≡ session_cursor f x
+        → row.now ≡ session_row f x → index ≡ length x.words
         → Went plan index sw next → Hands plan index next command
         → Makes f (take_word f session index sw x) result.0 result.1 }
 {
     let Some(next) = next else {
+        let reply = Reply::Spoiled { session };
         let stands = SessionState::Spoiled;
-        return word(
-            session,
-            index,
-            sw,
-            Reply::Spoiled { session },
-            stands,
-            cursor,
-        );
+        return word(session, row, index, sw, reply, stands, row.cursor);
     };
     match command {
-        None => word(
-            session,
-            index,
-            sw,
-            Reply::Good { session },
-            SessionState::Good,
-            next,
-        ),
+        None => {
+            let reply = Reply::Good { session };
+            word(session, row, index, sw, reply, SessionState::Good, next)
+        }
         Some(command) => {
             let reply = Reply::Next {
                 command,
                 index: u64::from(index) + 1,
                 session,
             };
-            word(session, index, sw, reply, SessionState::Running, next)
+            word(session, row, index, sw, reply, SessionState::Running, next)
         }
     }
 }
 
 fn word(
     session: u64,
+    row: &SessionRow,
     index: u32,
     sw: u16,
     reply: Reply,
     stands: SessionState,
     cursor: Cursor,
 ) -> Decision<'static>
-    ensures { result ≡ (reply, AddsWord session index sw stands cursor) }
+    ensures { result
+        ≡ (reply, AddsWord session row.now.batch row.now.rec index sw stands cursor) }
 {
     let change = Change::AddsWord {
         session,
+        batch: row.batch,
+        rec: row.rec,
         index,
         sw,
         stands,

@@ -13,9 +13,10 @@ use Rattle.change_writes.proofs.cards.write_opened.Goals as goal
 pub returns-clause-wrote : goal.returns-clause-wrote
 returns-clause-wrote g c clean =
     let v = c.args in
-    let p = v.place.now in
-    let charged : StoredBlank = record { serial = v.blank; lot = v.lot.now; discarded = false } in
-    let opened = with_session (new_session v.id p v.machine.now v.blank) in
+    let s = v.session.now in
+    let p = s.place in
+    let charged : StoredBlank = record { serial = s.blank; lot = s.lot; discarded = false } in
+    let opened = with_session (new_session s.id p s.machine s.blank) in
     let both = λ (t : Tables). with_blank charged (opened t) in
     let after = record_after p rec.Running p.spoiled p.remakes (one_opened (more rec.Running (less rec.Waiting p.totals))) in
     let a = state g.S.Store v.tx.now.conn.now in

@@ -7,9 +7,9 @@ use Rattle.change_writes.proofs.cards.write_word.Goals as goal
 
 pub returns-clause-wrote : goal.returns-clause-wrote
 returns-clause-wrote g c clean =
-    let v = c.args in
-    let word : StoredWord = record { session = v.session; place = v.index; sw = v.sw } in
-    let set = with_session_set v.session v.stands (v.index + 1) v.cursor.now in
+    let w = c.args.word.now in
+    let word : StoredWord = record { session = w.session; place = w.index; sw = w.sw } in
+    let set = with_session_set w.session c.args.stands (w.index + 1) w.cursor in
     let one = c.in_ok-add_word.ensures.wrote (omega (arith, c.set_session.ensures.survives.clean)) in
     wrote_then (Moves (with_word word)) (Moves set) (Moves (λ t. set (with_word word t))) _ _ _ c.set_session.result
     (moved_on (with_word word) set _ _ _) one.well one.kept (rw c.from-words.ensures at (c.set_session.ensures.wrote clean))

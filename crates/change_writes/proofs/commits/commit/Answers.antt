@@ -3,14 +3,14 @@ use Rattle.sqlite.specs.State.{HasCleanDisk, Survives}
 use Rattle.sqlite.specs.Held.{state}
 use Rattle.sql_base.specs.Ends.{Ends, IsKept, IsLeft}
 use Rattle.sql_rows.specs.Image.{Moves}
-use Rattle.change_writes.specs.Written.{rows_written}
+use Rattle.table_rows.specs.After.{rows_written}
 use Rattle.sql_base.proofs.Ending.{crash_of, ok_of, err_of, dropped, crash_undone}
 use Rattle.table_rows.specs.Kept.{kept_reply}
 use Rattle.change_writes.proofs.commits.commit.Goals as goal
 
 pub returns-clause-ok : goal.returns-clause-ok
 returns-clause-ok g c clean =
-    let taken = Moves (rows_written c.args.writing.now (kept_reply c.args.client.now c.args.number c.args.ask.now c.args.status c.args.body.now)) in
+    let taken = Moves (rows_written c.args.writing.now (kept_reply c.args.entry.now)) in
     let old = c.args.conn.now in
     let mid = c.write_all.new.tx.conn.now in
     let end = c.commit.new.self.0 in
@@ -22,7 +22,7 @@ returns-clause-ok g c clean =
 
 pub returns-clause-err : goal.returns-clause-err
 returns-clause-err g c clean =
-    let taken = Moves (rows_written c.args.writing.now (kept_reply c.args.client.now c.args.number c.args.ask.now c.args.status c.args.body.now)) in
+    let taken = Moves (rows_written c.args.writing.now (kept_reply c.args.entry.now)) in
     let old = c.args.conn.now in
     let mid = c.write_all.new.tx.conn.now in
     let end = c.commit.new.self.0 in
@@ -35,7 +35,7 @@ returns-clause-err g c clean =
 
 pub returns-clause-crash : goal.returns-clause-crash
 returns-clause-crash g c =
-    let taken = Moves (rows_written c.args.writing.now (kept_reply c.args.client.now c.args.number c.args.ask.now c.args.status c.args.body.now)) in
+    let taken = Moves (rows_written c.args.writing.now (kept_reply c.args.entry.now)) in
     let old = c.args.conn.now in
     let mid = c.write_all.new.tx.conn.now in
     let end = c.commit.new.self.0 in
@@ -45,7 +45,7 @@ returns-clause-crash g c =
 
 pub returns-in_err-write_all-clause-err : goal.returns-in_err-write_all-clause-err
 returns-in_err-write_all-clause-err g c clean =
-    let taken = Moves (rows_written c.args.writing.now (kept_reply c.args.client.now c.args.number c.args.ask.now c.args.status c.args.body.now)) in
+    let taken = Moves (rows_written c.args.writing.now (kept_reply c.args.entry.now)) in
     let old = c.args.conn.now in
     let mid = c.write_all.new.tx.conn.now in
     let end = c.drop-tx.new.self.0 in
@@ -58,7 +58,7 @@ returns-in_err-write_all-clause-err g c clean =
 
 pub returns-in_err-write_all-clause-crash : goal.returns-in_err-write_all-clause-crash
 returns-in_err-write_all-clause-crash g c =
-    let taken = Moves (rows_written c.args.writing.now (kept_reply c.args.client.now c.args.number c.args.ask.now c.args.status c.args.body.now)) in
+    let taken = Moves (rows_written c.args.writing.now (kept_reply c.args.entry.now)) in
     let old = c.args.conn.now in
     let mid = c.write_all.new.tx.conn.now in
     let end = c.drop-tx.new.self.0 in

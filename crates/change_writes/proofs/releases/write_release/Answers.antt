@@ -5,9 +5,7 @@ use Rattle.sqlite.proofs.InsideLemmas.{keeps_then}
 use Rattle.job_facts.specs.Contents.{Mark}
 use Rattle.sql_base.proofs.Ending.{inside_then, wrote_then}
 use Rattle.sql_rows.specs.Image.{Moves}
-use Rattle.table_rows.specs.After.{rows_after_release}
-use Rattle.table_rows.specs.Kept.{kept_reply}
-use Rattle.table_rows.specs.Tables.{Tables, with_mark, with_reply, without_mark, without_replies}
+use Rattle.table_rows.specs.Tables.{Tables, with_mark, without_mark, without_replies}
 use Rattle.change_writes.proofs.Parts.{moved_on}
 use Rattle.change_writes.proofs.releases.write_release.Goals as goal
 
@@ -15,20 +13,14 @@ pub returns-clause-wrote : goal.returns-clause-wrote
 returns-clause-wrote g c clean =
     let v = c.args in
     let client = v.client.now in
-    let entry = kept_reply client v.number v.ask.now v.status v.body.now in
     let mark : Mark = record { client = client; upto = v.upto } in
     let gone = λ (t : Tables). without_mark client (without_replies client v.upto t) in
-    let marked = λ (t : Tables). with_mark mark (gone t) in
     let a = state g.S.Store v.tx.now.conn.now in
     let b = state g.S.Store c.drop_replies.new.tx.conn.now in
     let d = state g.S.Store c.drop_mark.new.tx.conn.now in
-    let e = state g.S.Store c.add_mark.new.tx.conn.now in
-    let clean_e : HasCleanDisk e = omega (arith, c.add_reply.ensures.survives.clean) in
     let clean_d : HasCleanDisk d = omega (arith, c.add_mark.ensures.survives.clean) in
     let one = c.in_ok-drop_replies.ensures.wrote (omega (arith, c.drop_mark.ensures.survives.clean)) in
     let two = c.in_ok-drop_mark.ensures.wrote clean_d in
-    let three = c.in_ok-add_mark.ensures.wrote clean_e in
     let first = inside_then (Moves (without_replies client v.upto)) (Moves (without_mark client)) (Moves gone) a b d (moved_on (without_replies client v.upto) (without_mark client) _ _ _) one.well two.well in
-    let second = inside_then (Moves gone) (Moves (with_mark mark)) (Moves marked) a d e (moved_on gone (with_mark mark) _ _ _) first three.well in
-    wrote_then (Moves marked) (Moves (with_reply entry)) (Moves (rows_after_release v.upto entry)) a e _ c.add_reply.result
-    (moved_on marked (with_reply entry) _ _ _) second (keeps_then a d e (keeps_then a b d one.kept two.kept) three.kept) (c.add_reply.ensures.wrote clean)
+    wrote_then (Moves gone) (Moves (with_mark mark)) (Moves (λ t. with_mark mark (gone t))) a d _ c.add_mark.result
+    (moved_on gone (with_mark mark) _ _ _) first (keeps_then a b d one.kept two.kept) (c.add_mark.ensures.wrote clean)

@@ -7,6 +7,6 @@ use Rattle.row_writes.proofs.inserts.add_reply.Goals as goal
 
 pub returns-clause-wrote : goal.returns-clause-wrote
 returns-clause-wrote g c clean =
-    let e = kept_reply c.args.client.now c.args.number c.args.ask.now c.args.status c.args.body.now in
+    let e = kept_reply c.args.entry.now in
     wrote g.S.Store (Moves (with_reply e)) c.args.tx.now.conn.now c.execute.new.self.conn.now _ _ _ (λ count. reply_added _ _ e count) c.execute.result c.execute.ensures.ended
     (rw (c.int.ensures, c.int-2.ensures, c.from.ensures, c.bytes.ensures.value) at (c.execute.ensures.runs clean))

@@ -4,7 +4,7 @@ use Rattle.sqlite.specs.Held.{state}
 use Rattle.table_rows.specs.Keys.{is_batch_named}
 use Rattle.image_laws.specs.Image.{stored_batches, stored_groupings}
 use Rattle.store_reads.proofs.Sizes.{no_size, size_told}
-use Rattle.store_reads.proofs.Telling.{shown, shown_then}
+use Rattle.store_reads.proofs.Telling.{both_shown, shown}
 use Rattle.store_reads.proofs.batches.batch_size.Goals as goal
 
 pub returns-in_default-clause-value : goal.returns-in_default-clause-value
@@ -18,12 +18,8 @@ returns-in_default-clause-value g c =
 pub returns-clause-value : goal.returns-clause-value
 returns-clause-value g c =
     let n = c.args.name.now in
-    let old = state g.S.Store c.args.conn.now in
-    let mid = state g.S.Store c.batch_head.new.conn in
-    let new = state g.S.Store c.grouping_count.new.conn in
-    shown_then old mid new _ _ _ c.batch_head.ensures.looks c.grouping_count.ensures.looks
-    (shown old mid _ _ (rw c.in-Some.is at c.in_ok-head.ensures.found) (λ d sound is. is (c.batches_by_name.ensures.once d.facts n sound.facts)))
-    (shown mid new _ _ c.in_ok-rows.ensures.found (λ d sound is. is))
+    both_shown (state g.S.Store c.args.conn.now) (state g.S.Store c.batch_head.new.conn) (state g.S.Store c.grouping_count.new.conn) _ _ _
+    c.batch_head.ensures.looks c.grouping_count.ensures.looks (rw c.in-Some.is at c.in_ok-head.ensures.found) c.in_ok-rows.ensures.found
     (λ d sound one two.
-    size_told (stored_groupings d.facts) (find (is_batch_named n) (stored_batches d.facts)) c.in-Some.head c.in_ok-rows.rows one two
+    size_told (stored_groupings d.facts) (find (is_batch_named n) (stored_batches d.facts)) c.in-Some.head c.in_ok-rows.rows (one (c.batches_by_name.ensures.once d.facts n sound.facts)) two
     ∙ sym (c.batches_by_rows.ensures.size d.facts n))

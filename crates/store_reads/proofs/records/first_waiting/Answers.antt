@@ -1,7 +1,7 @@
 use Rattle.std.proofs.Common.{rules, sym, ◌∙◌}
 use Rattle.sqlite.specs.Held.{state}
 use Rattle.image_laws.specs.Image.{stored_batches, stored_records}
-use Rattle.store_reads.proofs.Telling.{shown, shown_then}
+use Rattle.store_reads.proofs.Telling.{both_shown, shown}
 use Rattle.store_reads.proofs.Waiting.{none_waits, waiting_told}
 use Rattle.store_reads.proofs.records.first_waiting.Goals as goal
 
@@ -16,12 +16,8 @@ returns-in_default-clause-value g c =
 pub returns-clause-value : goal.returns-clause-value
 returns-clause-value g c =
     let b = c.args.batch.now in
-    let old = state g.S.Store c.args.conn.now in
-    let mid = state g.S.Store c.batch_id.new.conn in
-    let new = state g.S.Store c.first_waiting.new.conn in
-    shown_then old mid new _ _ _ c.batch_id.ensures.looks c.first_waiting.ensures.looks
-    (shown old mid _ _ (rw c.in-Some.is at c.in_ok-id.ensures.found) (λ d sound is. is (c.batches_by_name.ensures.once d.facts b sound.facts)))
-    (shown mid new _ _ c.in_ok-found.ensures.found (λ d sound is. is))
+    both_shown (state g.S.Store c.args.conn.now) (state g.S.Store c.batch_id.new.conn) (state g.S.Store c.first_waiting.new.conn) _ _ _
+    c.batch_id.ensures.looks c.first_waiting.ensures.looks (rw c.in-Some.is at c.in_ok-id.ensures.found) c.in_ok-found.ensures.found
     (λ d sound one two.
-    search rules ∙ waiting_told (stored_batches d.facts) (stored_records d.facts) b c.in-Some.id one (c.records_of_batches.ensures.waiting_rising d.facts c.in-Some.id) c.in_ok-found.found two
-    ∙ sym (c.records_of_batches.ensures.waiting d.facts b))
+    search rules ∙ waiting_told (stored_batches d.facts) (stored_records d.facts) b c.in-Some.id (one (c.batches_by_name.ensures.once d.facts b sound.facts))
+    (c.records_of_batches.ensures.waiting_rising d.facts c.in-Some.id) c.in_ok-found.found two ∙ sym (c.records_of_batches.ensures.waiting d.facts b))

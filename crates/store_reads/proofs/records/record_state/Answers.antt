@@ -2,7 +2,7 @@ use Rattle.std.proofs.Common.{rules, sym, ◌∙◌}
 use Rattle.sqlite.specs.Held.{state}
 use Rattle.image_laws.specs.Image.{stored_batches, stored_records}
 use Rattle.store_reads.proofs.Found.{no_batch_of, state_told}
-use Rattle.store_reads.proofs.Telling.{shown, shown_then}
+use Rattle.store_reads.proofs.Telling.{both_shown, shown}
 use Rattle.store_reads.proofs.records.record_state.Goals as goal
 
 pub returns-in_default-clause-value : goal.returns-in_default-clause-value
@@ -17,12 +17,8 @@ pub returns-clause-value : goal.returns-clause-value
 returns-clause-value g c =
     let b = c.args.batch.now in
     let r = c.args.rec.now in
-    let old = state g.S.Store c.args.conn.now in
-    let mid = state g.S.Store c.batch_id.new.conn in
-    let new = state g.S.Store c.record_named.new.conn in
-    shown_then old mid new _ _ _ c.batch_id.ensures.looks c.record_named.ensures.looks
-    (shown old mid _ _ (rw c.in-Some.is at c.in_ok-id.ensures.found) (λ d sound is. is (c.batches_by_name.ensures.once d.facts b sound.facts)))
-    (shown mid new _ _ c.in_ok-found.ensures.found (λ d sound is. is (c.records_by_name.ensures.once d.facts c.in-Some.id r)))
+    both_shown (state g.S.Store c.args.conn.now) (state g.S.Store c.batch_id.new.conn) (state g.S.Store c.record_named.new.conn) _ _ _
+    c.batch_id.ensures.looks c.record_named.ensures.looks (rw c.in-Some.is at c.in_ok-id.ensures.found) c.in_ok-found.ensures.found
     (λ d sound one two.
-    search rules ∙ state_told (stored_batches d.facts) (stored_records d.facts) b r c.in-Some.id one c.in_ok-found.found two
-    ∙ sym (c.records_by_name.ensures.state d.facts b r))
+    search rules ∙ state_told (stored_batches d.facts) (stored_records d.facts) b r c.in-Some.id (one (c.batches_by_name.ensures.once d.facts b sound.facts)) c.in_ok-found.found
+    (two (c.records_by_name.ensures.once d.facts c.in-Some.id r)) ∙ sym (c.records_by_name.ensures.state d.facts b r))

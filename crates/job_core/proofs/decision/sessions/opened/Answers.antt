@@ -17,7 +17,7 @@ returns c = λ f plan sound may session there command.
       step_is = ap (λ bs. (with_session f (new_session machine b r blank), reply.Opened b blank bs r (length f.sessions + 1))) bytes
           ∙ ap (λ n. (with_session f (new_session machine b r blank), reply.Opened b blank c.bytes_or_none-command.result r n)) (sym session);
       keeps = record {
-        before = (waiting_state f b r may.waits, (may.lot, may.lot_is, may.lot_named));
+        before = (waiting_state f b r may.waits, (may.lot, may.lot_is, may.lot_named), session);
         sound = sound_open f machine b r blank may.batch may.lot sound c.is_a_name.ensures may.there may.more may.idle may.lot_is may.product may.free may.waits;
         after = tt;
       };

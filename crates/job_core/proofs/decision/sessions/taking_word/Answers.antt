@@ -21,6 +21,6 @@ returns-clause-value g c = λ honest c' held x plan runs row index.
     let segment = c.in_ok-segment.ensures.value early c' held ∙ segment_of_plan f own.batch own.rec plan own.cursor.app own.cursor.segment there in
     let went = c.after_word-next.ensures plan (length x.words) runs.is at runs.before segment in
     let hands = c.in_ok-command.ensures.value honest c' still plan (length x.words) there runs.is (c.in_ok-segment.ensures.value early c' held) (went_next plan (length x.words) sw c.after_word-next.result went) in
-    c.took_word.ensures f x plan sound runs index (ap (λ (r : SessionRow). r.cursor) row)
+    c.took_word.ensures f x plan sound runs row index
     (subst (λ n. Went plan n sw c.after_word-next.result) (sym index) went)
     (subst (λ n. Hands plan n c.after_word-next.result c.in_ok-command.command) (sym index) hands)

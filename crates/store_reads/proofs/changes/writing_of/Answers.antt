@@ -1,0 +1,21 @@
+use Rattle.std.proofs.Common.{refl}
+use Rattle.store_reads.proofs.Telling.{if_ok}
+use Rattle.store_reads.proofs.changes.writing_of.Goals as goal
+
+pub returns-in-AddsWord-clause-value : goal.returns-in-AddsWord-clause-value
+returns-in-AddsWord-clause-value g c clean = rw c.in-AddsWord.is (if_ok c.word_writing.result _ _ (λ w told d sound is owed. told d sound is) (c.word_writing.ensures.value clean))
+
+pub returns-in_ok-place-in-Opens-clause-value : goal.returns-in_ok-place-in-Opens-clause-value
+returns-in_ok-place-in-Opens-clause-value g c clean d sound is owed = rw c.in-Opens.is (c.in_ok-place-in-Opens.place, (c.in_ok-place-in-Opens.ensures.value clean).1 d sound is, refl)
+
+pub returns-in_ok-place-in-Ends-clause-value : goal.returns-in_ok-place-in-Ends-clause-value
+returns-in_ok-place-in-Ends-clause-value g c clean d sound is owed = rw c.in-Ends.is (c.in_ok-place-in-Ends.place, (c.in_ok-place-in-Ends.ensures.value clean).1 d sound is, refl)
+
+pub returns-in_ok-place-in-Remakes-clause-value : goal.returns-in_ok-place-in-Remakes-clause-value
+returns-in_ok-place-in-Remakes-clause-value g c clean d sound is owed = rw c.in-Remakes.is (c.in_ok-place-in-Remakes.place, (c.in_ok-place-in-Remakes.ensures.value clean).1 d sound is, refl)
+
+pub returns-in_ok-place-in-Withdraws-clause-value : goal.returns-in_ok-place-in-Withdraws-clause-value
+returns-in_ok-place-in-Withdraws-clause-value g c clean d sound is owed = rw c.in-Withdraws.is (c.in_ok-place-in-Withdraws.place, (c.in_ok-place-in-Withdraws.ensures.value clean).1 d sound is, refl)
+
+pub returns-in_ok-discarded-in-Discards-clause-value : goal.returns-in_ok-discarded-in-Discards-clause-value
+returns-in_ok-discarded-in-Discards-clause-value g c clean d sound is owed = rw c.in-Discards.is (c.in_ok-discarded-in-Discards.discarded, (c.in_ok-discarded-in-Discards.ensures.value clean).1 d sound is, refl)
