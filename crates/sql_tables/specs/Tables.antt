@@ -183,13 +183,13 @@ reply_table = reply_at 19
 abbrev pub mark_table : Table
 mark_table = mark_at 21
 
--- which session of a machine runs, which rows a record has, how the sessions of a batch stand, and what a batch tells without its
+-- which session of a machine runs, which rows a record has and their marks, how the sessions of a batch stand, and what a batch tells without its
 -- bytes: no rule, but speed
 abbrev pub session_running_at : ℕ → Index
 session_running_at tree = record { name = codes "session_running"; tree = tree; table = 12; columns = 2 ∷ 6 ∷ []; order = plain; is_unique = false }
 
 abbrev pub grouping_place_at : ℕ → Index
-grouping_place_at tree = record { name = codes "grouping_place"; tree = tree; table = 10; columns = 1 ∷ 3 ∷ []; order = plain; is_unique = false }
+grouping_place_at tree = record { name = codes "grouping_place"; tree = tree; table = 10; columns = 1 ∷ 3 ∷ 4 ∷ 5 ∷ 2 ∷ 6 ∷ 7 ∷ []; order = plain; is_unique = false }
 
 abbrev pub session_stands_at : ℕ → Index
 session_stands_at tree = record { name = codes "session_stands"; tree = tree; table = 12; columns = 3 ∷ 6 ∷ []; order = plain; is_unique = false }

@@ -52,7 +52,7 @@ abbrev pub session_running_text : List ℕ
 session_running_text = codes "CREATE INDEX session_running ON session (machine, state)"
 
 abbrev pub grouping_place_text : List ℕ
-grouping_place_text = codes "CREATE INDEX grouping_place ON grouping2 (batch, place)"
+grouping_place_text = codes "CREATE INDEX grouping_place ON grouping2 (batch, place, aid, rank, line, enc, tol)"
 
 abbrev pub session_stands_text : List ℕ
 session_stands_text = codes "CREATE INDEX session_stands ON session (batch, state)"

@@ -88,7 +88,9 @@ const MARK: &str =
 // The indices are no rule, but speed.
 const SESSION_RUNNING: &str = "CREATE INDEX session_running ON session (machine, state)";
 
-const GROUPING_PLACE: &str = "CREATE INDEX grouping_place ON grouping2 (batch, place)";
+// The marks of a record's groupings are read of it alone, and those of one segment are found by it.
+const GROUPING_PLACE: &str =
+    "CREATE INDEX grouping_place ON grouping2 (batch, place, aid, rank, line, enc, tol)";
 
 const SESSION_STANDS: &str = "CREATE INDEX session_stands ON session (batch, state)";
 
