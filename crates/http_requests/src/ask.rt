@@ -11,7 +11,7 @@ ghost use Rattle.http_requests.specs.Routes.{Import, Job};
 ghost use Rattle.http_messages.specs.declared.fixed.FixedReply.TheVariants.{Malformed};
 
 use crate::request::call_of;
-use crate::route::{Route, route_of};
+use crate::route::{Route, Routes};
 use http_messages::{FixedReply, Message, Method};
 use job_facts::{Arrival, Call, Request};
 use std::alloc::{AllocError, Global};
@@ -94,12 +94,25 @@ pub fn to_ask(alloc: Global, message: Message) -> Result<Asked, AskFault>
     ensures asked { IsAsked (asked_of (as_parts message)) result }
     ensures ranged { IfOk result IsInRange }
 {
+    to_ask_by(&mut Routes::new(), alloc, message)
+}
+
+/// The same, where one router serves many messages.
+pub(crate) fn to_ask_by(
+    routes: &mut Routes,
+    alloc: Global,
+    message: Message,
+) -> Result<Asked, AskFault>
+    ensures asked { IsAsked (asked_of (as_parts message)) result }
+    ensures ranged { IfOk result IsInRange }
+{
     let Message {
         method,
         target,
         body,
     } = message;
-    let route = route_of(alloc, target.as_slice())?.ok_or(FixedReply::NoRoute)?;
+    let found = routes.find(alloc, target.as_slice())?;
+    let route = found.ok_or(FixedReply::NoRoute)?;
     if !has_method(method.as_slice(), route.method()) {
         return Err(AskFault::Refused(FixedReply::OnlyMethod(route.method())));
     }

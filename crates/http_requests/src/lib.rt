@@ -11,3 +11,4 @@ mod route;
 pub use ask::{AskFault, Asked, Wanted, push_import_tail, to_ask};
 pub use meaning::{Meaning, read_meaning};
 pub use post::{import_text, job_text};
+pub use route::Routes;

@@ -4,7 +4,8 @@ ghost use Rattle.http_messages.specs.Messages.{Tells, as_parts};
 ghost use Rattle.http_requests.specs.Asks.{asked_of};
 ghost use Rattle.http_requests.specs.Meant.{IsMeant, IsMeantBy, meant_by};
 
-use crate::ask::{AskFault, Asked, to_ask};
+use crate::ask::{AskFault, Asked, to_ask_by};
+use crate::route::Routes;
 use http_messages::{ByteSource, FixedReply, Message, Reading, read_message};
 use std::alloc::Global;
 
@@ -22,21 +23,21 @@ pub enum Meaning {
 }
 
 /// Reads one message, and what it asks. Bytes behind it are ignored.
-pub fn read_meaning<I: ByteSource>(alloc: Global, incoming: &mut I) -> Meaning
+pub fn read_meaning<I: ByteSource>(routes: &mut Routes, alloc: Global, incoming: &mut I) -> Meaning
     ensures { (bytes : List ℕ) × Tells (I.brings incoming.old) bytes × IsMeant bytes result }
 {
     match read_message(alloc, incoming) {
-        Reading::Message(message) => meaning_of(alloc, message),
+        Reading::Message(message) => meaning_of(routes, alloc, message),
         Reading::Broken => Meaning::Broken,
         Reading::Refused(why) => Meaning::Refused(why),
         Reading::Memory => Meaning::Memory,
     }
 }
 
-fn meaning_of(alloc: Global, message: Message) -> Meaning
+fn meaning_of(routes: &mut Routes, alloc: Global, message: Message) -> Meaning
     ensures { IsMeantBy (meant_by (asked_of (as_parts message))) result }
 {
-    match to_ask(alloc, message) {
+    match to_ask_by(routes, alloc, message) {
         Ok(asked) => Meaning::Asks(asked),
         Err(AskFault::Refused(why)) => Meaning::Refused(why),
         Err(AskFault::Memory) => Meaning::Memory,

@@ -1,5 +1,6 @@
 //! The targets that are served.
 ghost use Rattle.std.specs.Prelude.{◌≡◌, IfOk, IsUtf8, option_map};
+ghost use Rattle.std.specs.Option.{ForSome};
 ghost use Rattle.matchit.specs.Params.{AllText, named};
 ghost use Rattle.http_requests.specs.RouterRows.{built, forms, shown, taken};
 ghost use Rattle.http_requests.specs.Routes.{method_of, route_in};
@@ -54,27 +55,50 @@ impl Route<'_> {
     }
 }
 
-/// What a target names, if it is served. Errors: memory was refused.
-pub(crate) fn route_of<'a>(alloc: Global, target: &'a [u8]) -> Result<Option<Route<'a>>, AllocError>
-    ensures { IfOk result (λ route. option_map shown route ≡ route_in target.now) }
-{
-    match from_utf8(target) {
-        Ok(path) => route_of_path(alloc, path),
-        Err(_) => Ok(None),
+/// The targets that are served, for many messages: the first one that is asked about builds the
+/// router, and the others find it.
+#[derive(Drop)]
+pub struct Routes {
+    router: Option<Router<Form>>,
+    ghost built: { ForSome router (λ router. router ≡ forms) },
+}
+
+impl Routes {
+    /// Takes no memory yet.
+    pub fn new() -> Routes {
+        Routes { router: None }
+    }
+
+    /// What a target names, if it is served. Errors: memory was refused.
+    pub(crate) fn find<'a>(
+        &mut self,
+        alloc: Global,
+        target: &'a [u8],
+    ) -> Result<Option<Route<'a>>, AllocError>
+        ensures { IfOk result (λ route. option_map shown route ≡ route_in target.now) }
+    {
+        let Ok(path) = from_utf8(target) else {
+            return Ok(None);
+        };
+        let router = match self.router.take() {
+            Some(router) => router,
+            None => router(alloc).map_err(|_| AllocError)?,
+        };
+        let route = route_at(&router, path);
+        self.router = Some(router);
+        Ok(route)
     }
 }
 
-// By a router, which is built for each message.
-fn route_of_path<'a>(alloc: Global, path: &'a str) -> Result<Option<Route<'a>>, AllocError>
-    requires { IsUtf8 path.now }
-    ensures { IfOk result (λ route. option_map shown route ≡ route_in path.now) }
+// What a path names, by the router.
+fn route_at<'a>(router: &Router<Form>, path: &'a str) -> Option<Route<'a>>
+    requires forms { router.now ≡ forms }
+    requires text { IsUtf8 path.now }
+    ensures { option_map shown result ≡ route_in path.now }
 {
-    let Ok(router) = router(alloc) else {
-        return Err(AllocError);
-    };
     match router.at(path) {
-        Ok(found) => Ok(route_by(*found.value, &found.params)),
-        Err(_) => Ok(None),
+        Ok(found) => route_by(*found.value, &found.params),
+        Err(_) => None,
     }
 }
 

@@ -3,7 +3,8 @@ ghost use Rattle.std.specs.Prelude.{◌≡◌, List, OnOk, OnErr, IfErr, length,
 ghost use Rattle.server.specs.Exchanges.{Exchange, Moves, ServesAll};
 
 use crate::connections::{Connections, NextFault};
-use crate::one::serve_one;
+use crate::one::serve_by;
+use http_requests::Routes;
 use job_facts::JobStore;
 use std::alloc::Global;
 
@@ -22,10 +23,11 @@ pub fn serve_all<S: JobStore, C: Connections>(
     ensures cause { IfErr result (λ fault. C.refuses connections.new fault) }
 {
     reply_store::laws::left_in_turn::<S>();
+    let mut routes = Routes::new();
     let mut turn = 0;
     while turn < turns {
         let (mut incoming, mut writer) = connections.next()?;
-        let served = serve_one(alloc, store, &mut incoming, &mut writer);
+        let served = serve_by(&mut routes, alloc, store, &mut incoming, &mut writer);
         connections.back(incoming, writer, served);
         turn += 1;
     }

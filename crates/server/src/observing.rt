@@ -9,8 +9,9 @@ ghost use Rattle.server.specs.Observations.{IsObservationOf};
 
 use crate::kept::{KeepingReader, KeepingWriter, Start};
 use crate::observation::Observation;
-use crate::one::serve_one;
+use crate::one::serve_by;
 use http_messages::ByteSource;
+use http_requests::Routes;
 use job_facts::ServerStore;
 use std::alloc::Global;
 use std::io::Write;
@@ -19,6 +20,7 @@ use std::marker::Brand;
 /// Serves one connection, and gives it back with what was observed of it. Observing takes no
 /// memory.
 pub fn serve_observed<S: ServerStore, I: ByteSource, W: Write>(
+    routes: &mut Routes,
     alloc: Global,
     store: &mut S,
     incoming: I,
@@ -31,11 +33,12 @@ pub fn serve_observed<S: ServerStore, I: ByteSource, W: Write>(
     ensures before { result.2.before ≡ counts_of (S.state store.old) }
     ensures after { result.2.after ≡ counts_of (S.state store.new) }
 {
-    serve_from::<S, I, W, Brand>(alloc, store, incoming, writer)
+    serve_from::<S, I, W, Brand>(routes, alloc, store, incoming, writer)
 }
 
 // The same, where it is known at which bytes the connection begins.
 fn serve_from<S: ServerStore, I: ByteSource, W: Write, K: Start>(
+    routes: &mut Routes,
     alloc: Global,
     store: &mut S,
     incoming: I,
@@ -55,7 +58,7 @@ fn serve_from<S: ServerStore, I: ByteSource, W: Write, K: Start>(
     let before = store.fault_counts();
     let mut incoming = KeepingReader::<I, K>::new(incoming);
     let mut writer = KeepingWriter::<W, K>::new(writer);
-    let served = serve_one(alloc, store, &mut incoming, &mut writer);
+    let served = serve_by(routes, alloc, store, &mut incoming, &mut writer);
     let (incoming, request) = incoming.into_parts();
     let (writer, reply) = writer.into_parts(served.end);
     let observation = Observation {

@@ -20,7 +20,7 @@ use crate::account::account_answer;
 use crate::reply::{refuse, tell};
 use crate::served::{End, Served};
 use http_messages::{ByteSource, Content, FixedReply};
-use http_requests::{Asked, Meaning, Wanted, read_meaning};
+use http_requests::{Asked, Meaning, Routes, Wanted, read_meaning};
 use job_facts::{Arrival, JobStore, StoreFault};
 use reply_store::{Kept, handle};
 use std::alloc::Global;
@@ -38,7 +38,22 @@ pub fn serve_one<S: JobStore, I: ByteSource, W: Write>(
         × Appends (W.contents writer.old) (W.contents writer.new) e.written
         × (e.served ≡ result) × Serves (S.state store.old) (S.state store.new) e }
 {
-    match read_meaning(alloc, incoming) {
+    serve_by(&mut Routes::new(), alloc, store, incoming, writer)
+}
+
+/// The same, where one router serves many connections.
+pub(crate) fn serve_by<S: JobStore, I: ByteSource, W: Write>(
+    routes: &mut Routes,
+    alloc: Global,
+    store: &mut S,
+    incoming: &mut I,
+    writer: &mut W,
+) -> Served
+    ensures { (e : Exchange) × Tells (I.brings incoming.old) e.input
+        × Appends (W.contents writer.old) (W.contents writer.new) e.written
+        × (e.served ≡ result) × Serves (S.state store.old) (S.state store.new) e }
+{
+    match read_meaning(routes, alloc, incoming) {
         Meaning::Asks(asked) => serve_asked(alloc, store, asked, writer),
         Meaning::Broken => Served {
             end: End::Broken,

@@ -11,6 +11,7 @@ use crate::noted::note_connection;
 use crate::observing::serve_observed;
 use crate::stopping::ServeStop;
 use event_lines::EventLog;
+use http_requests::Routes;
 use job_facts::ServerStore;
 use std::alloc::Global;
 use std::io::Write;
@@ -41,6 +42,7 @@ pub(crate) fn serve_connections<S: ServerStore, C: Connections, E: Write + Drop>
     ensures level { events.new.level ≡ events.old.level }
 {
     reply_store::laws::left_in_turn::<S>();
+    let mut routes = Routes::new();
     let mut is_failing = false;
     let mut count = 0;
     while count < turns {
@@ -51,7 +53,13 @@ pub(crate) fn serve_connections<S: ServerStore, C: Connections, E: Write + Drop>
                 return Run { count, outcome };
             }
         };
-        let (incoming, writer, observation) = serve_observed(alloc, store, incoming, writer);
+        let (incoming, writer, observation) = serve_observed(
+            &mut routes,
+            alloc,
+            store,
+            incoming,
+            writer,
+        );
         connections.back(incoming, writer, observation.served);
         is_failing = note_connection(alloc, events, is_failing, &observation);
         count += 1;

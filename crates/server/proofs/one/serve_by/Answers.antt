@@ -5,7 +5,7 @@ use Rattle.server.specs.declared.served.End.TheVariants as ended
 use Rattle.server.specs.declared.served.Served.{Served}
 use Rattle.server.specs.Exchanges.{Exchange}
 use Rattle.server.proofs.Stays.{serves_behind, stays_same, unavailable}
-use Rattle.server.proofs.one.serve_one.Goals as goal
+use Rattle.server.proofs.one.serve_by.Goals as goal
 
 pub returns-in-Asks : goal.returns-in-Asks
 returns-in-Asks g c =
