@@ -10,6 +10,9 @@ ghost use Rattle.batch_import.specs.WideRows.{IsWideAt, ends_of, state_of, wide_
 /// More commas than a sound batch has: five in its header and in each of 4,096 rows.
 const MOST_COMMAS: usize = 5 * 4097;
 
+/// Bytes of a text that are counted in one byte: a multiple of those that are compared at once.
+const PART: usize = 224;
+
 // Where the next byte stands (RFC 4180).
 #[derive(Clone, Copy)]
 enum Place {
@@ -60,7 +63,7 @@ fn without_mark(raw: &[u8]) -> &[u8]
 
 fn commas(text: &[u8]) -> usize {
     let mut commas = 0usize;
-    for part in text.chunks(255) {
+    for part in text.chunks(PART) {
         commas = commas.saturating_add(usize::from(commas_of(part)));
     }
     commas
