@@ -1,6 +1,7 @@
 pub mod Selecting
 pub mod Shapes
 pub mod Telling
+pub mod WholeTables
 pub mod Meanings
 pub mod Found
 pub mod Alone

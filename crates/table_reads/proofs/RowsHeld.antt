@@ -7,13 +7,15 @@ use Rattle.sqlite.specs.Table.{Table}
 use Rattle.store_data.specs.declared.row.Product.{Product}
 use Rattle.job_facts.specs.Contents.{Entry, Mark}
 use Rattle.sql_tables.specs.Tables.{batch_at, blank_at, grouping_at, lot_at, mark_at, product_at, record_at, remake_at, reply_at, session_at, word_at}
+use Rattle.sql_tables.specs.Alike.{HasJust}
 use Rattle.sql_tables.specs.Finds.{Finds}
-use Rattle.sql_tables.specs.Versions.{unmixed_grouping_at}
+use Rattle.sql_tables.specs.Ours.{Stands}
+use Rattle.sql_tables.specs.Versions.{schema_of, unmixed_grouping_at}
 use Rattle.sql_tables.specs.declared.versions.Version.{Version}
 use Rattle.sql_tables.specs.declared.versions.Version.TheVariants.{One, Two, Three}
 use Rattle.table_rows.specs.Tables.{StoredBatch, StoredBlank, StoredGrouping, StoredLot, StoredRecord, StoredRemake, StoredSession, StoredWord, Tables}
-use Rattle.table_reads.specs.Holding.{Holds}
-use Rattle.sql_rows.specs.Encoding.{batch_row, blank_row, lot_row, product_row, record_row, remake_row, reply_row, session_row, word_row}
+use Rattle.table_reads.specs.Holding.{Holds, HoldsMarks, HoldsRows, SaysVersion, groupings_at}
+use Rattle.sql_rows.specs.Encoding.{batch_row, blank_row, grouping_row, lot_row, product_row, record_row, remake_row, reply_row, session_row, word_row}
 use Rattle.table_reads.specs.Reading.{Has, HasGroupings, HasMarks, HasRows, HoldsNoneOf, items, tables_of}
 use Rattle.table_reads.proofs.Together.{last_found, then_found}
 use Rattle.table_reads.proofs.TableReads.{IsRead}
@@ -35,52 +37,38 @@ pub record HasAll (v : Version) (t : Tables) (db : Database) : Type 0 where
   pub replies : Has reply_at false (map reply_row t.replies) db
   pub marks : HasMarks v t.marks db
 
+module _ (v : Version) (db : Database) (t : Tables) (all : HasAll v t db) where
+  -- under the numbers at which the tables stand
+  rows_numbered : {p l b r s w k m e : ℕ} → HasJust db.schema (schema_of v) → SaysVersion v db
+      → Stands db.schema (product_at p) → Stands db.schema (lot_at l) → Stands db.schema (batch_at b) → Stands db.schema (record_at r) → Stands db.schema (session_at s) → Stands db.schema (word_at w)
+      → Stands db.schema (blank_at k) → Stands db.schema (remake_at m) → Stands db.schema (reply_at e)
+      → Holds (groupings_at v) false (map grouping_row t.groupings) db → HoldsMarks v t.marks db → HoldsRows v t db
+  rows_numbered just says product lot batch of_record session word blank remake reply groupings marks = record {
+    just = just;
+    version = says;
+    products = at product_at false _ db product.number product.finds all.products;
+    lots = at lot_at false _ db lot.number lot.finds all.lots;
+    batches = at batch_at true _ db batch.number batch.finds all.batches;
+    records = at record_at false _ db of_record.number of_record.finds all.records;
+    groupings = groupings;
+    sessions = at session_at true _ db session.number session.finds all.sessions;
+    words = at word_at false _ db word.number word.finds all.words;
+    blanks = at blank_at true _ db blank.number blank.finds all.blanks;
+    remakes = at remake_at false _ db remake.number remake.finds all.remakes;
+    replies = at reply_at false _ db reply.number reply.finds all.replies;
+    marks = marks;
+  }
+
 pub rows_held : (v : Version) (db : Database) (t : Tables) → HasAll v t db → HasRows v db t
-rows_held One db t all just there says = record {
-  just = just;
-  version = says;
-  products = at product_at false _ db there.0.number there.0.finds all.products;
-  lots = at lot_at false _ db there.1.0.number there.1.0.finds all.lots;
-  batches = at batch_at true _ db there.1.1.0.number there.1.1.0.finds all.batches;
-  records = at record_at false _ db there.1.1.1.0.number there.1.1.1.0.finds all.records;
-  groupings = at unmixed_grouping_at false _ db there.1.1.1.1.1.1.1.1.1.0.number there.1.1.1.1.1.1.1.1.1.0.finds all.groupings;
-  sessions = at session_at true _ db there.1.1.1.1.0.number there.1.1.1.1.0.finds all.sessions;
-  words = at word_at false _ db there.1.1.1.1.1.0.number there.1.1.1.1.1.0.finds all.words;
-  blanks = at blank_at true _ db there.1.1.1.1.1.1.0.number there.1.1.1.1.1.1.0.finds all.blanks;
-  remakes = at remake_at false _ db there.1.1.1.1.1.1.1.0.number there.1.1.1.1.1.1.1.0.finds all.remakes;
-  replies = at reply_at false _ db there.1.1.1.1.1.1.1.1.0.number there.1.1.1.1.1.1.1.1.0.finds all.replies;
-  marks = all.marks;
-}
-rows_held Two db t all just there says = record {
-  just = just;
-  version = says;
-  products = at product_at false _ db there.0.number there.0.finds all.products;
-  lots = at lot_at false _ db there.1.0.number there.1.0.finds all.lots;
-  batches = at batch_at true _ db there.1.1.0.number there.1.1.0.finds all.batches;
-  records = at record_at false _ db there.1.1.1.0.number there.1.1.1.0.finds all.records;
-  groupings = at unmixed_grouping_at false _ db there.1.1.1.1.1.1.1.1.1.0.number there.1.1.1.1.1.1.1.1.1.0.finds all.groupings;
-  sessions = at session_at true _ db there.1.1.1.1.0.number there.1.1.1.1.0.finds all.sessions;
-  words = at word_at false _ db there.1.1.1.1.1.0.number there.1.1.1.1.1.0.finds all.words;
-  blanks = at blank_at true _ db there.1.1.1.1.1.1.0.number there.1.1.1.1.1.1.0.finds all.blanks;
-  remakes = at remake_at false _ db there.1.1.1.1.1.1.1.0.number there.1.1.1.1.1.1.1.0.finds all.remakes;
-  replies = at reply_at false _ db there.1.1.1.1.1.1.1.1.0.number there.1.1.1.1.1.1.1.1.0.finds all.replies;
-  marks = at mark_at false _ db there.1.1.1.1.1.1.1.1.1.1.0.number there.1.1.1.1.1.1.1.1.1.1.0.finds all.marks;
-}
-rows_held Three db t all just there says = record {
-  just = just;
-  version = says;
-  products = at product_at false _ db there.1.0.number there.1.0.finds all.products;
-  lots = at lot_at false _ db there.1.1.0.number there.1.1.0.finds all.lots;
-  batches = at batch_at true _ db there.1.1.1.0.number there.1.1.1.0.finds all.batches;
-  records = at record_at false _ db there.1.1.1.1.0.number there.1.1.1.1.0.finds all.records;
-  groupings = at grouping_at false _ db there.1.1.1.1.1.0.number there.1.1.1.1.1.0.finds all.groupings;
-  sessions = at session_at true _ db there.1.1.1.1.1.1.0.number there.1.1.1.1.1.1.0.finds all.sessions;
-  words = at word_at false _ db there.1.1.1.1.1.1.1.0.number there.1.1.1.1.1.1.1.0.finds all.words;
-  blanks = at blank_at true _ db there.1.1.1.1.1.1.1.1.0.number there.1.1.1.1.1.1.1.1.0.finds all.blanks;
-  remakes = at remake_at false _ db there.1.1.1.1.1.1.1.1.1.0.number there.1.1.1.1.1.1.1.1.1.0.finds all.remakes;
-  replies = at reply_at false _ db there.1.1.1.1.1.1.1.1.1.1.0.number there.1.1.1.1.1.1.1.1.1.1.0.finds all.replies;
-  marks = at mark_at false _ db there.1.1.1.1.1.1.1.1.1.1.1.0.number there.1.1.1.1.1.1.1.1.1.1.1.0.finds all.marks;
-}
+rows_held One db t all just there says =
+    rows_numbered One db t all just says there.0 there.1.0 there.1.1.0 there.1.1.1.0 there.1.1.1.1.0 there.1.1.1.1.1.0 there.1.1.1.1.1.1.0 there.1.1.1.1.1.1.1.0 there.1.1.1.1.1.1.1.1.0
+    (at unmixed_grouping_at false _ db there.1.1.1.1.1.1.1.1.1.0.number there.1.1.1.1.1.1.1.1.1.0.finds all.groupings) all.marks
+rows_held Two db t all just there says =
+    rows_numbered Two db t all just says there.0 there.1.0 there.1.1.0 there.1.1.1.0 there.1.1.1.1.0 there.1.1.1.1.1.0 there.1.1.1.1.1.1.0 there.1.1.1.1.1.1.1.0 there.1.1.1.1.1.1.1.1.0
+    (at unmixed_grouping_at false _ db there.1.1.1.1.1.1.1.1.1.0.number there.1.1.1.1.1.1.1.1.1.0.finds all.groupings) (at mark_at false _ db there.1.1.1.1.1.1.1.1.1.1.0.number there.1.1.1.1.1.1.1.1.1.1.0.finds all.marks)
+rows_held Three db t all just there says =
+    rows_numbered Three db t all just says there.1.0 there.1.1.0 there.1.1.1.0 there.1.1.1.1.0 there.1.1.1.1.1.1.0 there.1.1.1.1.1.1.1.0 there.1.1.1.1.1.1.1.1.0 there.1.1.1.1.1.1.1.1.1.0 there.1.1.1.1.1.1.1.1.1.1.0
+    (at grouping_at false _ db there.1.1.1.1.1.0.number there.1.1.1.1.1.0.finds all.groupings) (at mark_at false _ db there.1.1.1.1.1.1.1.1.1.1.1.0.number there.1.1.1.1.1.1.1.1.1.1.1.0.finds all.marks)
 
 -- all of them, where each was read
 pub all_read : (v : Version) (db : Database) (products : Option (Vec Product Global)) (lots : Option (Vec StoredLot Global)) (batches : Option (Vec StoredBatch Global)) (records : Option (Vec StoredRecord Global)) (groupings : Option (Vec StoredGrouping Global)) (sessions : Option (Vec StoredSession Global)) (words : Option (Vec StoredWord Global)) (blanks : Option (Vec StoredBlank Global)) (remakes : Option (Vec StoredRemake Global)) (replies : Option (Vec Entry Global)) (marks : Option (Vec Mark Global))

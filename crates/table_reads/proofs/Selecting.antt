@@ -48,13 +48,13 @@ source_of name = roll-Source (record { is_left = false; origin = origin.Table na
 abbrev core_of : Name → Core
 core_of name = roll-Core (record { distinct = false; shown = All ∷ []; from = source_of name ∷ []; filter = None; group = []; having = None })
 
-abbrev select_of : Name → Select
+abbrev pub select_of : Name → Select
 select_of name = roll-Select (record { with = []; first = core_of name; others = []; order = []; limit = None; offset = None })
 
 abbrev bound_of : Name → ℕ → Bound
 bound_of name at = record { name = name; table = at; slot = 1; shared = [] }
 
-abbrev outputs_of : Table → Name → ℕ → List Output
+abbrev pub outputs_of : Table → Name → ℕ → List Output
 outputs_of t name at = columns_from None t (bound_of name at) 0 [] t.columns
 
 abbrev begun : State
@@ -63,7 +63,7 @@ begun = fresh 1 max_budget
 abbrev later : State
 later = fresh 2 max_budget
 
-abbrev read_from : ℕ → List Output → Draft
+abbrev pub read_from : ℕ → List Output → Draft
 read_from tree outs = ungrouped (Inner tree ∷ []) [] outs false [] (lit (Int (negsuc 0))) (lit (Int (pos 0)))
 
 module _ (s : Schema) (name : Name) (at : ℕ) (t : Table) (finds : table_named s name ≡ Some at) (there : slice_get s.tables at ≡ Some t) (few : nat_lt 2000 (length (outputs_of t name at)) ≡ false)

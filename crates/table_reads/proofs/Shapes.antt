@@ -1,5 +1,5 @@
 -- A row of a STRICT table with NOT NULL everywhere has just its columns.
-use Rattle.std.proofs.Common.{◌≡◌, ◌+◌, ◌&&◌, ◌||◌, ℕ, zero, suc, Bool, true, false, not, List, [], ◌∷◌, Option, None, Some, length, drop, refl, sym, ap, ap₂, ◌∙◌, arith}
+use Rattle.std.proofs.Common.{◌≡◌, ◌+◌, ◌&&◌, ◌||◌, ℕ, zero, suc, Bool, true, false, not, List, [], ◌∷◌, Option, Some, length, drop, refl, sym, ap, ap₂, ◌∙◌, arith}
 use Rattle.sqlite.specs.Ops.{is_null}
 use Rattle.sqlite.specs.Order.{Row, column}
 use Rattle.sqlite.specs.declared.types.Value.{Value}
@@ -53,7 +53,7 @@ is_not true h = absurd (cc)
 is_not false h = refl
 
 module _ (key : Option ℕ) where
-  filled : (cs : List Column) (at : ℕ) (r vs : Row) → drop (at + 1) r ≡ vs → are_plain key at cs ≡ true → are_typed key at cs vs ≡ true → are_present key at cs r ≡ true → vs ≡ spread at cs r
+  pub filled : (cs : List Column) (at : ℕ) (r vs : Row) → drop (at + 1) r ≡ vs → are_plain key at cs ≡ true → are_typed key at cs vs ≡ true → are_present key at cs r ≡ true → vs ≡ spread at cs r
   filled [] at r [] e plain typed present = refl
   filled [] at r (v ∷ vs) e plain typed present = absurd (cc)
   filled (c ∷ cs) at r [] e plain typed present =
@@ -66,11 +66,6 @@ module _ (key : Option ℕ) where
       let one : at + 1 + 1 ≡ suc (at + 1) = omega arith in
       let more : drop (at + 1 + 1) r ≡ vs = ap (λ k. drop k r) one ∙ tail_at (at + 1) r v vs e in
       ap₂ ◌∷◌ (sym (head_at (at + 1) r v vs e)) (filled cs (at + 1) r vs more (second_of_both _ _ (second_of_both _ _ plain)) (second_of_both _ _ typed) (second_of_both (is_key key at || not c.not_null || not (is_null (column r (at + 1)))) (are_present key (at + 1) cs r) present))
-
--- ---- a table whose rowid is no column
-
-pub unkeyed : (cs : List Column) (r : Row) → are_plain None 0 cs ≡ true → are_typed None 0 cs (drop 1 r) ≡ true → are_present None 0 cs r ≡ true → drop 1 r ≡ spread 0 cs r
-unkeyed cs r = filled None cs 0 r (drop 1 r) refl
 
 -- ---- a table whose first column is its rowid
 

@@ -1,8 +1,8 @@
 -- What the rows of a whole table tell of those that are stored.
-use Rattle.std.proofs.Common.{◌≡◌, ◌<◌, ◌+◌, ◌++◌, get_or, take, ℕ, zero, suc, Bool, true, false, List, [], ◌∷◌, map, filter, length, Option, Some, None, Vec, Global, MatchOption, All, refl, sym, ap, ap₂, subst, ◌∙◌, arith}
+use Rattle.std.proofs.Common.{◌≡◌, ◌+◌, ◌++◌, ℕ, zero, suc, Bool, true, false, List, [], ◌∷◌, map, filter, Option, Some, None, Vec, Global, MatchOption, All, refl, sym, ap, ap₂, subst, ◌∙◌, arith}
 use Rattle.std.specs.List.{AllByRecursion}
 use Rattle.std.specs.List.Sorted.{IsPermutation}
-use Rattle.std.proofs.lemmas.List.{map-append, map_more}
+use Rattle.std.proofs.lemmas.List.{map-append}
 use Rattle.std.proofs.lemmas.List.Sorted.{All-permutation, IsPermutation-map, IsPermutation-sym, IsPermutation-trans}
 use Rattle.sqlite.specs.Effect.{IsDatabase}
 use Rattle.sqlite.specs.Order.{Row}
@@ -85,7 +85,7 @@ tells encode fits by_rowid IsShaped law rows stored is (Some all) h = subst (λ 
 tells encode fits by_rowid IsShaped law rows stored is None h = λ xs all same. h (shaped encode fits by_rowid IsShaped law rows stored is xs all same)
 
 -- one more row is decoded
-pub further : {X : Type 0} (encode : X → Row) (f : Row → Row) (rows : List Row) (at : ℕ) (row : Row) → at < length rows → row ≡ get_or rows at row → (x : X) → encode x ≡ f row
-    → (xs ys : List X) → map encode xs ≡ map f (take at rows) → ys ≡ xs ++ x ∷ [] → map encode ys ≡ map f (take (at + 1) rows)
-further encode f rows at row within read x is xs ys before pushed =
-    ap (map encode) pushed ∙ map-append encode xs (x ∷ []) ∙ ap (λ zs. zs ++ encode x ∷ []) before ∙ ap (λ z. map f (take at rows) ++ z ∷ []) (is ∙ ap f read) ∙ sym (map_more f rows at row within)
+pub further : {X : Type 0} (encode : X → Row) (f : Row → Row) (rows : List Row) (row : Row) (x : X) → encode x ≡ f row
+    → (xs ys : List X) → map encode xs ≡ map f rows → ys ≡ xs ++ x ∷ [] → map encode ys ≡ map f (rows ++ row ∷ [])
+further encode f rows row x is xs ys before pushed =
+    ap (map encode) pushed ∙ map-append encode xs (x ∷ []) ∙ ap₂ ◌++◌ before (ap (λ y. y ∷ []) is) ∙ sym (map-append f rows (row ∷ []))

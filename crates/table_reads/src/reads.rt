@@ -53,5 +53,5 @@ pub fn whole<T: Stored, S: Alter>(
 {
     let rows = whole_rows(conn, sql)?;
     let alloc = *rows.allocator();
-    all_in(alloc, rows.as_slice())
+    all_in(alloc, rows)
 }

@@ -48,14 +48,15 @@ fn one_in<T: Stored>(alloc: Global, row: &Row) -> Result<Option<T>, Error>
     }
 }
 
-// What the rows of a whole table tell, where each row tells one.
-pub(crate) fn all_in<T: Stored>(alloc: Global, rows: &[Row]) -> Result<Option<Vec<T>>, Error>
-    ensures { IfOk result (λ found. MatchOption found (All T.is_row rows.now → ⊥)
-        (λ all. map T.encode all.items ≡ map (as_stored T.by_rowid) rows.now)) }
+// What the rows of a whole table tell, where each row tells one. A row is let go once it is told, so
+// that memory holds a table once.
+pub(crate) fn all_in<T: Stored>(alloc: Global, rows: Vec<Row>) -> Result<Option<Vec<T>>, Error>
+    ensures { IfOk result (λ found. MatchOption found (All T.is_row rows.items → ⊥)
+        (λ all. map T.encode all.items ≡ map (as_stored T.by_rowid) rows.items)) }
 {
-    let mut all = Vec::new(alloc);
+    let mut all = Vec::with_capacity(alloc, rows.len())?;
     for row in rows {
-        let Some(it) = one_in::<T>(alloc, row)? else {
+        let Some(it) = one_in::<T>(alloc, &row)? else {
             return Ok(None);
         };
         all.push(it)?;

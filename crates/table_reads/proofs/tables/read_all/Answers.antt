@@ -1,10 +1,12 @@
 use Rattle.std.proofs.Common.{MatchOption, subst, sym}
 use Rattle.sqlite.specs.Held.{state}
 use Rattle.sqlite.specs.State.{HasCleanDisk}
+use Rattle.table_reads.specs.Shown.{FitsLot, FitsProduct, FitsWord, IsAny}
 use Rattle.table_reads.proofs.After.{kept_then}
 use Rattle.table_reads.specs.Reading.{HasGroupings, HasMarks, HasRows, HoldsNoneOf}
 use Rattle.table_reads.proofs.RowsHeld.{all_read}
-use Rattle.table_reads.proofs.TableReads.{batches_read, blanks_read, lots_read, products_read, records_read, remakes_read, replies_read, sessions_read, words_read}
+use Rattle.table_reads.proofs.Meanings.{wholes}
+use Rattle.table_reads.proofs.TableReads.{read_of}
 use Rattle.table_reads.proofs.Together.{carried, early, listed, outlives, outlives_four}
 use Rattle.table_reads.proofs.tables.read_all.Goals as goal
 
@@ -72,15 +74,15 @@ returns-clause-told g c clean =
       kept1.was_open first.0,
       subst (λ all. MatchOption all (HoldsNoneOf v s0.now) (HasRows v s0.now)) (sym c.gathered.ensures)
           (all_read v s0.now c.in_ok-products.products c.in_ok-lots.lots c.in_ok-batches.batches c.in_ok-records.records c.in_ok-groupings.groupings c.in_ok-sessions.sessions c.in_ok-words.words c.in_ok-blanks.blanks c.in_ok-remakes.remakes c.in_ok-replies.replies c.in_ok-marks.marks
-          (products_read v s0 s1 kept1 c.in_ok-products.products (c.in_ok-products.ensures.told clean2))
-          (lots_read v s0 s2 kept2 c.in_ok-lots.lots (c.in_ok-lots.ensures.told clean3))
-          (batches_read v s0 s3 kept3 c.in_ok-batches.batches (c.in_ok-batches.ensures.told clean4))
-          (records_read v s0 s4 kept4 c.in_ok-records.records (c.in_ok-records.ensures.told clean5))
+          (read_of _ FitsProduct _ _ v (λ t. t.products) (λ t fit. fit.products) (λ t db held. held.products) _ wholes.products s0 s1 kept1 c.in_ok-products.products (c.in_ok-products.ensures.told clean2))
+          (read_of _ FitsLot _ _ v (λ t. t.lots) (λ t fit. fit.lots) (λ t db held. held.lots) _ wholes.lots s0 s2 kept2 c.in_ok-lots.lots (c.in_ok-lots.ensures.told clean3))
+          (read_of _ IsAny _ _ v (λ t. t.batches) (λ t fit k d low. tt) (λ t db held. held.batches) _ wholes.batches s0 s3 kept3 c.in_ok-batches.batches (c.in_ok-batches.ensures.told clean4))
+          (read_of _ IsAny _ _ v (λ t. t.records) (λ t fit k d low. tt) (λ t db held. held.records) _ wholes.records s0 s4 kept4 c.in_ok-records.records (c.in_ok-records.ensures.told clean5))
           (carried (HoldsNoneOf v) (λ db all. HasGroupings v all db) s0 s5 kept5 c.in_ok-groupings.groupings (c.in_ok-groupings.ensures.told clean6))
-          (sessions_read v s0 s6 kept6 c.in_ok-sessions.sessions (c.in_ok-sessions.ensures.told clean7))
-          (words_read v s0 s7 kept7 c.in_ok-words.words (c.in_ok-words.ensures.told clean8))
-          (blanks_read v s0 s8 kept8 c.in_ok-blanks.blanks (c.in_ok-blanks.ensures.told clean9))
-          (remakes_read v s0 s9 kept9 c.in_ok-remakes.remakes (c.in_ok-remakes.ensures.told clean10))
-          (replies_read v s0 s10 kept10 c.in_ok-replies.replies (c.in_ok-replies.ensures.told clean))
+          (read_of _ IsAny _ _ v (λ t. t.sessions) (λ t fit k d low. tt) (λ t db held. held.sessions) _ wholes.sessions s0 s6 kept6 c.in_ok-sessions.sessions (c.in_ok-sessions.ensures.told clean7))
+          (read_of _ FitsWord _ _ v (λ t. t.words) (λ t fit. fit.words) (λ t db held. held.words) _ wholes.words s0 s7 kept7 c.in_ok-words.words (c.in_ok-words.ensures.told clean8))
+          (read_of _ IsAny _ _ v (λ t. t.blanks) (λ t fit k d low. tt) (λ t db held. held.blanks) _ wholes.blanks s0 s8 kept8 c.in_ok-blanks.blanks (c.in_ok-blanks.ensures.told clean9))
+          (read_of _ IsAny _ _ v (λ t. t.remakes) (λ t fit k d low. tt) (λ t db held. held.remakes) _ wholes.remakes s0 s9 kept9 c.in_ok-remakes.remakes (c.in_ok-remakes.ensures.told clean10))
+          (read_of _ IsAny _ _ v (λ t. t.replies) (λ t fit k d low. tt) (λ t db held. held.replies) _ wholes.replies s0 s10 kept10 c.in_ok-replies.replies (c.in_ok-replies.ensures.told clean))
           (listed (HoldsNoneOf v s0.now) (λ all. HasMarks v all s0.now) c.in_ok-marks.marks (c.in_ok-marks.ensures.told clean1))),
     )
