@@ -7,7 +7,7 @@ use Rattle.clap.proofs.WalkLemmas.{first_value-rows}
 use Rattle.arguments.specs.Words.{FeedsNot, IsNumber, NamesNot, ReadsFeed, ReadsNone, ReadsReport, ReadsServe, ReportsNot}
 use Rattle.arguments.specs.declared.words.Unread.{Unread}
 use Rattle.arguments.specs.declared.words.Unread.TheVariants as lacks
-use Rattle.arguments.specs.declared.words.Words.TheVariants.{Plan, Drill, Serve, Report, Feed}
+use Rattle.arguments.specs.declared.words.Words.TheVariants.{Serve, Report, Feed}
 
 -- a getter of a text reads what the rows have
 pub text_read : (f : Found) (name : Text) (o : Option (Bor Text)) → option_map (λ s. s.now) o ≡ first_value f name → (s : Bor Text) → o ≡ Some s
@@ -35,67 +35,40 @@ name_passes t false o x is some = let bad : Some x ≡ None = sym some ∙ is in
 -- ---- an option of `serve`, `report` or `feed` that isn't there
 
 pub serve_no_db : (rows : List Row) → ((t : Text) → first_of (codes "db") rows ≡ Some t → ⊥) → ReadsNone (ReadsServe rows)
-serve_no_db rows none (Plan max low check) range reads = reads
-serve_no_db rows none Drill range reads = reads
 serve_no_db rows none (Serve db port turns) range reads = none (string_bytes db) reads.0
-serve_no_db rows none (Report db batch) range reads = reads
-serve_no_db rows none (Feed port start) range reads = reads
+serve_no_db rows none _ range reads = reads
 
 pub serve_no_port : (rows : List Row) → ((n : ℕ) → 1 ≤ n → n ≤ 65535 → IsNumber (codes "port") rows n → ⊥) → ReadsNone (ReadsServe rows)
-serve_no_port rows none (Plan max low check) range reads = reads
-serve_no_port rows none Drill range reads = reads
 serve_no_port rows none (Serve db port turns) range reads = none port range.0 range.1 reads.1
-serve_no_port rows none (Report db batch) range reads = reads
-serve_no_port rows none (Feed port start) range reads = reads
+serve_no_port rows none _ range reads = reads
 
 pub serve_no_turns : (rows : List Row) → ((n : ℕ) → 1 ≤ n → n ≤ 1000000 → IsNumber (codes "turns") rows n → ⊥) → ReadsNone (ReadsServe rows)
-serve_no_turns rows none (Plan max low check) range reads = reads
-serve_no_turns rows none Drill range reads = reads
 serve_no_turns rows none (Serve db port turns) range reads = none turns range.2 range.3 reads.2
-serve_no_turns rows none (Report db batch) range reads = reads
-serve_no_turns rows none (Feed port start) range reads = reads
+serve_no_turns rows none _ range reads = reads
 
 pub report_no_db : (rows : List Row) → ((t : Text) → first_of (codes "db") rows ≡ Some t → ⊥) → ReadsNone (ReadsReport rows)
-report_no_db rows none (Plan max low check) range reads = reads
-report_no_db rows none Drill range reads = reads
-report_no_db rows none (Serve db port turns) range reads = reads
 report_no_db rows none (Report db batch) range reads = none (string_bytes db) reads.0
-report_no_db rows none (Feed port start) range reads = reads
+report_no_db rows none _ range reads = reads
 
 pub report_no_batch : (rows : List Row) → ((t : Text) → first_of (codes "batch") rows ≡ Some t → ⊥) → ReadsNone (ReadsReport rows)
-report_no_batch rows none (Plan max low check) range reads = reads
-report_no_batch rows none Drill range reads = reads
-report_no_batch rows none (Serve db port turns) range reads = reads
 report_no_batch rows none (Report db batch) range reads = none batch reads.1.0
-report_no_batch rows none (Feed port start) range reads = reads
+report_no_batch rows none _ range reads = reads
 
 pub feed_no_port : (rows : List Row) → ((n : ℕ) → 1 ≤ n → n ≤ 65535 → IsNumber (codes "port") rows n → ⊥) → ReadsNone (ReadsFeed rows)
-feed_no_port rows none (Plan max low check) range reads = reads
-feed_no_port rows none Drill range reads = reads
-feed_no_port rows none (Serve db port turns) range reads = reads
-feed_no_port rows none (Report db batch) range reads = reads
 feed_no_port rows none (Feed port start) range reads = none port range.0 range.1 reads.0
+feed_no_port rows none _ range reads = reads
 
 pub feed_no_boot : (rows : List Row) → ((n : ℕ) → 1 ≤ n → n ≤ 9999999999 → IsNumber (codes "boot") rows n → ⊥) → ReadsNone (ReadsFeed rows)
-feed_no_boot rows none (Plan max low check) range reads = reads
-feed_no_boot rows none Drill range reads = reads
-feed_no_boot rows none (Serve db port turns) range reads = reads
-feed_no_boot rows none (Report db batch) range reads = reads
 feed_no_boot rows none (Feed port start) range reads = none start.boot range.2.0 range.2.1 reads.2
+feed_no_boot rows none _ range reads = reads
 
 pub feed_no_machine : (rows : List Row) → ((t : Text) → first_of (codes "machine") rows ≡ Some t → ⊥) → ReadsNone (ReadsFeed rows)
-feed_no_machine rows none (Plan max low check) range reads = reads
-feed_no_machine rows none Drill range reads = reads
-feed_no_machine rows none (Serve db port turns) range reads = reads
-feed_no_machine rows none (Report db batch) range reads = reads
 feed_no_machine rows none (Feed port start) range reads = none start.machine reads.1.0
+feed_no_machine rows none _ range reads = reads
 
 pub feed_no_batch : (rows : List Row) → ((t : Text) → first_of (codes "batch") rows ≡ Some t → ⊥) → ReadsNone (ReadsFeed rows)
-feed_no_batch rows none (Plan max low check) range reads = reads
-feed_no_batch rows none Drill range reads = reads
-feed_no_batch rows none (Serve db port turns) range reads = reads
-feed_no_batch rows none (Report db batch) range reads = reads
 feed_no_batch rows none (Feed port start) range reads = none start.batch reads.3.0
+feed_no_batch rows none _ range reads = reads
 
 -- ---- an option that has no name
 

@@ -30,7 +30,7 @@ use Rattle.arrivals.proofs.MeaningLemmas.{decided_by, entry_is, kept_with, mark_
 use Rattle.wire.specs.ReplyText.{IsReply}
 use Rattle.wire.specs.Sending.{ask_of}
 use Rattle.feeder.specs.declared.feeder.Stand.{Stand}
-use Rattle.feeder.specs.declared.feeder.Stand.TheVariants.{Idle, Asks, HasCommand, Stale}
+use Rattle.feeder.specs.declared.feeder.Stand.TheVariants.{Asks, HasCommand}
 use Rattle.feeder.specs.Table.{number_at}
 use Rattle.feeder.specs.World.{Answered, Packet, World, arrival_of, decides, is_name_of}
 use Rattle.step_laws.proofs.Blanks.{uncharged}
@@ -71,51 +71,22 @@ has_later f g cards name card s k later is =
     }
 
 holds_later : (f g : Facts) (cards : Cards) (name : List ℕ) (card : Option ℕ) (stand : Stand) → Later f g → Holds f cards name card stand → Holds g cards name card stand
-holds_later f g cards name card Idle later is = tt
 holds_later f g cards name card (HasCommand s k) later is = has_later f g cards name card s k later is
-holds_later f g cards name card Stale later is = tt
 holds_later f g cards name card (Asks (Job (request.Open b blank))) later is = is
 holds_later f g cards name card (Asks (Job (request.Answer s k sw))) later is = has_later f g cards name card s k later is
-holds_later f g cards name card (Asks (Job (request.Product p))) later is = tt
-holds_later f g cards name card (Asks (Job (request.Lot l))) later is = tt
-holds_later f g cards name card (Asks (Job (request.Import b p raw))) later is = tt
-holds_later f g cards name card (Asks (Job (request.Abort s))) later is = tt
-holds_later f g cards name card (Asks (Job request.Reset)) later is = tt
-holds_later f g cards name card (Asks (Job (request.Discard blank))) later is = tt
-holds_later f g cards name card (Asks (Job (request.Remake b rec))) later is = tt
-holds_later f g cards name card (Asks (Job (request.Withdraw b rec))) later is = tt
-holds_later f g cards name card (Asks (Job (request.Close b))) later is = tt
-holds_later f g cards name card (Asks (Release upto)) later is = tt
+holds_later f g cards name card _ later is = tt
 
 done_later : (f g : Facts) (cards : Cards) (call : Call) → Later f g → HasDone f cards call → HasDone g cards call
 done_later f g cards (Job (request.Answer s k sw)) later is =
     let y = later s is.0 is.1 in
     (y.now, y.there, subst (λ v. k < got cards v) (sym y.blank) is.2)
-done_later f g cards (Job (request.Open b blank)) later is = tt
-done_later f g cards (Job (request.Product p)) later is = tt
-done_later f g cards (Job (request.Lot l)) later is = tt
-done_later f g cards (Job (request.Import b p raw)) later is = tt
-done_later f g cards (Job (request.Abort s)) later is = tt
-done_later f g cards (Job request.Reset) later is = tt
-done_later f g cards (Job (request.Discard blank)) later is = tt
-done_later f g cards (Job (request.Remake b rec)) later is = tt
-done_later f g cards (Job (request.Withdraw b rec)) later is = tt
-done_later f g cards (Job (request.Close b)) later is = tt
-done_later f g cards (Release upto) later is = tt
+done_later f g cards _ later is = tt
 
 fits_later : (f g : Facts) (marks now : List Mark) (m : List ℕ) (call : Call) (r : Reply) → Later f g → ((n : List ℕ) → mark_of marks n ≤ mark_of now n) → Fits f marks m call r → Fits g now m call r
 fits_later f g marks now m (Job (request.Open b blank)) r later grow is = open_later f g m blank r later is
 fits_later f g marks now m (Job (request.Answer s k sw)) r later grow is = answer_later f g m s k r later is
-fits_later f g marks now m (Job (request.Product p)) r later grow is = tt
-fits_later f g marks now m (Job (request.Lot l)) r later grow is = tt
-fits_later f g marks now m (Job (request.Import b p raw)) r later grow is = tt
-fits_later f g marks now m (Job (request.Abort s)) r later grow is = tt
-fits_later f g marks now m (Job request.Reset) r later grow is = tt
-fits_later f g marks now m (Job (request.Discard blank)) r later grow is = tt
-fits_later f g marks now m (Job (request.Remake b rec)) r later grow is = tt
-fits_later f g marks now m (Job (request.Withdraw b rec)) r later grow is = tt
-fits_later f g marks now m (Job (request.Close b)) r later grow is = tt
 fits_later f g marks now m (Release upto) r later grow is = λ ok. omega (arith, is ok, grow m)
+fits_later f g marks now m _ r later grow is = tt
 
 told_later : (f g : Facts) (marks now : List Mark) (cards : Cards) (machines : Machines) (packets : List Packet) (client : List ℕ) (number : ℕ) (told : Told)
     → Later f g → ((n : List ℕ) → mark_of marks n ≤ mark_of now n) → IsTold f marks cards machines packets client number told → IsTold g now cards machines packets client number told
@@ -204,31 +175,12 @@ number_apart b p c q few less same = (omega (arith, same), omega (arith, same))
 -- a reply that says nothing fits, and takes nothing for granted
 gone_fits : (f : Facts) (marks : List Mark) (m : List ℕ) (call : Call) (mark : ℕ) → Fits f marks m call (reply.NumberReleased mark)
 gone_fits f marks m (Job (request.Open b blank)) mark = tt
-gone_fits f marks m (Job (request.Answer s k sw)) mark = tt
-gone_fits f marks m (Job (request.Product p)) mark = tt
-gone_fits f marks m (Job (request.Lot l)) mark = tt
-gone_fits f marks m (Job (request.Import b p raw)) mark = tt
-gone_fits f marks m (Job (request.Abort s)) mark = tt
-gone_fits f marks m (Job request.Reset) mark = tt
-gone_fits f marks m (Job (request.Discard blank)) mark = tt
-gone_fits f marks m (Job (request.Remake b rec)) mark = tt
-gone_fits f marks m (Job (request.Withdraw b rec)) mark = tt
-gone_fits f marks m (Job (request.Close b)) mark = tt
 gone_fits f marks m (Release upto) mark = λ ok. absurd (omega (arith, ok))
+gone_fits f marks m _ mark = tt
 
 gone_fresh : (cards : Cards) (call : Call) (mark : ℕ) → Fresh cards call (reply.NumberReleased mark)
 gone_fresh cards (Job (request.Open b blank)) mark = tt
-gone_fresh cards (Job (request.Answer s k sw)) mark = tt
-gone_fresh cards (Job (request.Product p)) mark = tt
-gone_fresh cards (Job (request.Lot l)) mark = tt
-gone_fresh cards (Job (request.Import b p raw)) mark = tt
-gone_fresh cards (Job (request.Abort s)) mark = tt
-gone_fresh cards (Job request.Reset) mark = tt
-gone_fresh cards (Job (request.Discard blank)) mark = tt
-gone_fresh cards (Job (request.Remake b rec)) mark = tt
-gone_fresh cards (Job (request.Withdraw b rec)) mark = tt
-gone_fresh cards (Job (request.Close b)) mark = tt
-gone_fresh cards (Release upto) mark = tt
+gone_fresh cards _ mark = tt
 
 -- ---- what the first of a number does
 
@@ -251,38 +203,13 @@ first_marks marks client number (Release upto) m ranged low = mark_below marks c
 opens_fresh : (f : Facts) (cards : Cards) (blank : ℕ) (r : Reply) → IsFineCard f blank (cards blank).received → OpensFree f blank r → OpensFresh cards blank r
 opens_fresh f cards blank (reply.Opened c n command rec s) (inl none) free = none
 opens_fresh f cards blank (reply.Opened c n command rec s) (inr is) free = absurd (uncharged f blank is.1.number is.0 free is.1.there is.1.blank)
-opens_fresh f cards blank (reply.Product p made) card free = tt
-opens_fresh f cards blank (reply.Lot l made) card free = tt
-opens_fresh f cards blank (reply.Import c records made rows) card free = tt
-opens_fresh f cards blank (reply.Next command k s) card free = tt
-opens_fresh f cards blank (reply.Good s) card free = tt
-opens_fresh f cards blank (reply.Spoiled s) card free = tt
-opens_fresh f cards blank (reply.Reset s) card free = tt
-opens_fresh f cards blank (reply.Discarded c) card free = tt
-opens_fresh f cards blank (reply.Waiting c r) card free = tt
-opens_fresh f cards blank (reply.Withdrawn c r) card free = tt
-opens_fresh f cards blank (reply.Closed c) card free = tt
-opens_fresh f cards blank (reply.Refused why) card free = tt
-opens_fresh f cards blank (reply.Busy s) card free = tt
-opens_fresh f cards blank (reply.Released mark) card free = tt
-opens_fresh f cards blank (reply.NumberReleased mark) card free = tt
-opens_fresh f cards blank (reply.Faulty fault) card free = tt
+opens_fresh f cards blank _ card free = tt
 
 first_fresh : (f : Facts) (marks : List Mark) (cards : Cards) (client : List ℕ) (number : ℕ) (call : Call) → IsSound f → ((serial : ℕ) → IsFineCard f serial (cards serial).received) → Fresh cards call (reply_by f marks client number call)
 first_fresh f marks cards client number (Job (request.Open b blank)) sound fine =
     let o = step f client (request.Open b blank) in
     opens_fresh f cards blank o.1 (fine blank) (opens_free f o.0 client b blank o.1 (step_may f client (request.Open b blank)) (step_says f client (request.Open b blank) sound))
-first_fresh f marks cards client number (Job (request.Answer s k sw)) sound fine = tt
-first_fresh f marks cards client number (Job (request.Product p)) sound fine = tt
-first_fresh f marks cards client number (Job (request.Lot l)) sound fine = tt
-first_fresh f marks cards client number (Job (request.Import b p raw)) sound fine = tt
-first_fresh f marks cards client number (Job (request.Abort s)) sound fine = tt
-first_fresh f marks cards client number (Job request.Reset) sound fine = tt
-first_fresh f marks cards client number (Job (request.Discard blank)) sound fine = tt
-first_fresh f marks cards client number (Job (request.Remake b rec)) sound fine = tt
-first_fresh f marks cards client number (Job (request.Withdraw b rec)) sound fine = tt
-first_fresh f marks cards client number (Job (request.Close b)) sound fine = tt
-first_fresh f marks cards client number (Release upto) sound fine = tt
+first_fresh f marks cards client number _ sound fine = tt
 
 release_fits : (marks : List Mark) (client : List ℕ) (number upto : ℕ) → status_of (if nat_le number upto then reply.Refused ReleaseTooFar else reply.Released (mark_by marks client upto)) ≡ 200 → upto ≤ mark_of (marks_by marks client number (Release upto)) client
 release_fits marks client number upto = at (nat_le number upto)
@@ -299,16 +226,8 @@ first_fits f marks client number (Job (request.Open b blank)) sound name ranged 
 first_fits f marks client number (Job (request.Answer s k sw)) sound name ranged =
     let o = step f client (request.Answer s k sw) in
     answer_says f o.0 client s k sw o.1 (step_sound f client (request.Answer s k sw) sound name ranged) (step_may f client (request.Answer s k sw)) (step_says f client (request.Answer s k sw) sound)
-first_fits f marks client number (Job (request.Product p)) sound name ranged = tt
-first_fits f marks client number (Job (request.Lot l)) sound name ranged = tt
-first_fits f marks client number (Job (request.Import b p raw)) sound name ranged = tt
-first_fits f marks client number (Job (request.Abort s)) sound name ranged = tt
-first_fits f marks client number (Job request.Reset) sound name ranged = tt
-first_fits f marks client number (Job (request.Discard blank)) sound name ranged = tt
-first_fits f marks client number (Job (request.Remake b rec)) sound name ranged = tt
-first_fits f marks client number (Job (request.Withdraw b rec)) sound name ranged = tt
-first_fits f marks client number (Job (request.Close b)) sound name ranged = tt
 first_fits f marks client number (Release upto) sound name ranged = release_fits marks client number upto
+first_fits f marks client number _ sound name ranged = tt
 
 -- the first of a number is answered by a reply in its ranges
 first_reply : (f : Facts) (marks : List Mark) (client : List ℕ) (number : ℕ) (call : Call) → IsSound f → IsRangedCall call → ((n : List ℕ) → mark_of marks n < 10 ^ 18)

@@ -13,14 +13,7 @@ call_sends boot place (Release upto) least most is = (omega (arith, is.1, least)
 call_sends boot place (Job request.Reset) least most is = tt
 call_sends boot place (Job (request.Open b blank)) least most is = is.1
 call_sends boot place (Job (request.Answer s k sw)) least most is = is
-call_sends boot place (Job (request.Product p)) least most is = absurd is
-call_sends boot place (Job (request.Lot l)) least most is = absurd is
-call_sends boot place (Job (request.Import b p raw)) least most is = absurd is
-call_sends boot place (Job (request.Abort s)) least most is = absurd is
-call_sends boot place (Job (request.Discard blank)) least most is = absurd is
-call_sends boot place (Job (request.Remake b r)) least most is = absurd is
-call_sends boot place (Job (request.Withdraw b r)) least most is = absurd is
-call_sends boot place (Job (request.Close b)) least most is = absurd is
+call_sends boot place _ least most is = absurd is
 
 pub pending_sends : (f : FeederState) (call : Call) → IsFeeder f → f.stand ≡ Asks call → CanBeSent (number_at f.boot f.place, call)
 pending_sends f call is stands = (

@@ -90,40 +90,12 @@ module _ (names : List (List ℕ)) (w : World) (name : List ℕ) (x : Machine) (
   release_goes : (upto : ℕ) (r : Reply) → IsAsked x.feeder.boot x.feeder.place (Release upto) → GoesBy (release_row r)
   release_goes upto (reply.Released mark) asked = makes_goes (Job request.Reset) Wait tt (put_wait f x.card) (omega (arith, asked.0)) (omega (arith, asked.0)) tt
   release_goes upto (reply.NumberReleased mark) asked = stale_goes Wait tt (put_wait f x.card)
-  release_goes upto (reply.Product p made) asked = no_row_goes
-  release_goes upto (reply.Lot l made) asked = no_row_goes
-  release_goes upto (reply.Import b records made rows) asked = no_row_goes
-  release_goes upto (reply.Opened b blank command rec s) asked = no_row_goes
-  release_goes upto (reply.Next command k s) asked = no_row_goes
-  release_goes upto (reply.Good s) asked = no_row_goes
-  release_goes upto (reply.Spoiled s) asked = no_row_goes
-  release_goes upto (reply.Reset s) asked = no_row_goes
-  release_goes upto (reply.Discarded b) asked = no_row_goes
-  release_goes upto (reply.Waiting b r) asked = no_row_goes
-  release_goes upto (reply.Withdrawn b r) asked = no_row_goes
-  release_goes upto (reply.Closed b) asked = no_row_goes
-  release_goes upto (reply.Refused why) asked = no_row_goes
-  release_goes upto (reply.Busy s) asked = no_row_goes
-  release_goes upto (reply.Faulty fault) asked = no_row_goes
+  release_goes upto _ asked = no_row_goes
 
   reset_goes : (r : Reply) → GoesBy (reset_row r)
   reset_goes (reply.Reset s) = idle_goes Wait tt (put_wait f x.card)
   reset_goes (reply.NumberReleased mark) = stale_goes Wait tt (put_wait f x.card)
-  reset_goes (reply.Product p made) = no_row_goes
-  reset_goes (reply.Lot l made) = no_row_goes
-  reset_goes (reply.Import b records made rows) = no_row_goes
-  reset_goes (reply.Opened b blank command rec s) = no_row_goes
-  reset_goes (reply.Next command k s) = no_row_goes
-  reset_goes (reply.Good s) = no_row_goes
-  reset_goes (reply.Spoiled s) = no_row_goes
-  reset_goes (reply.Discarded b) = no_row_goes
-  reset_goes (reply.Waiting b r) = no_row_goes
-  reset_goes (reply.Withdrawn b r) = no_row_goes
-  reset_goes (reply.Closed b) = no_row_goes
-  reset_goes (reply.Refused why) = no_row_goes
-  reset_goes (reply.Busy s) = no_row_goes
-  reset_goes (reply.Released mark) = no_row_goes
-  reset_goes (reply.Faulty fault) = no_row_goes
+  reset_goes _ = no_row_goes
 
   open_goes : (b : List ℕ) (blank : ℕ) (r : Reply) → IsAsked x.feeder.boot x.feeder.place (Job (request.Open b blank)) → x.card ≡ Some blank
       → Fits f w.contents.marks name (Job (request.Open b blank)) r → Fresh w.cards (Job (request.Open b blank)) r → GoesBy (open_row r)
@@ -133,18 +105,7 @@ module _ (names : List (List ℕ)) (w : World) (name : List ℕ) (x : Machine) (
   open_goes b blank (reply.NumberReleased mark) asked card fits fresh = stale_goes (Eject false) tt (put_bad f x.card)
   open_goes b blank (reply.Refused why) asked card fits fresh = idle_goes (Eject false) tt (put_bad f x.card)
   open_goes b blank (reply.Faulty fault) asked card fits fresh = idle_goes (Eject false) tt (put_bad f x.card)
-  open_goes b blank (reply.Product p made) asked card fits fresh = no_row_goes
-  open_goes b blank (reply.Lot l made) asked card fits fresh = no_row_goes
-  open_goes b blank (reply.Import b1 records made rows) asked card fits fresh = no_row_goes
-  open_goes b blank (reply.Next command k s) asked card fits fresh = no_row_goes
-  open_goes b blank (reply.Good s) asked card fits fresh = no_row_goes
-  open_goes b blank (reply.Spoiled s) asked card fits fresh = no_row_goes
-  open_goes b blank (reply.Reset s) asked card fits fresh = no_row_goes
-  open_goes b blank (reply.Discarded b1) asked card fits fresh = no_row_goes
-  open_goes b blank (reply.Waiting b1 r1) asked card fits fresh = no_row_goes
-  open_goes b blank (reply.Withdrawn b1 r1) asked card fits fresh = no_row_goes
-  open_goes b blank (reply.Closed b1) asked card fits fresh = no_row_goes
-  open_goes b blank (reply.Released mark) asked card fits fresh = no_row_goes
+  open_goes b blank _ asked card fits fresh = no_row_goes
 
   answer_goes : (s k sw : ℕ) (r : Reply) → HasCard f w.cards name x.card s k → Fits f w.contents.marks name (Job (request.Answer s k sw)) r → GoesBy (answer_row r)
   answer_goes s k sw (reply.Next command index told) has fits =
@@ -159,16 +120,7 @@ module _ (names : List (List ℕ)) (w : World) (name : List ℕ) (x : Machine) (
   answer_goes s k sw (reply.NumberReleased mark) has fits = stale_goes (Eject false) tt (put_bad f x.card)
   answer_goes s k sw (reply.Refused why) has fits = idle_goes (Eject false) tt (put_bad f x.card)
   answer_goes s k sw (reply.Faulty fault) has fits = idle_goes (Eject false) tt (put_bad f x.card)
-  answer_goes s k sw (reply.Product p made) has fits = no_row_goes
-  answer_goes s k sw (reply.Lot l made) has fits = no_row_goes
-  answer_goes s k sw (reply.Import b records made rows) has fits = no_row_goes
-  answer_goes s k sw (reply.Opened b blank command rec t) has fits = no_row_goes
-  answer_goes s k sw (reply.Reset t) has fits = no_row_goes
-  answer_goes s k sw (reply.Discarded b) has fits = no_row_goes
-  answer_goes s k sw (reply.Waiting b r) has fits = no_row_goes
-  answer_goes s k sw (reply.Withdrawn b r) has fits = no_row_goes
-  answer_goes s k sw (reply.Closed b) has fits = no_row_goes
-  answer_goes s k sw (reply.Released mark) has fits = no_row_goes
+  answer_goes s k sw _ has fits = no_row_goes
 
   -- the reply to what is asked
   pub reply_goes : (call : Call) (r : Reply) → x.feeder.stand ≡ Asks call → Fits f w.contents.marks name call r → Fresh w.cards call r → GoesBy (reply_row call r)

@@ -119,17 +119,7 @@ asked_done f cards name card (Job (request.Answer s k sw)) has =
     let long : length (cards has.session.blank).received ≡ length (take (k + 1) (sequence_of f has.session)) = ap (λ (xs : List (List ℕ)). length xs) has.received in
     let within = has.within in
     (has.session, has.there, omega (arith, long, length-take-le (k + 1) (sequence_of f has.session) (omega (arith, within))))
-asked_done f cards name card (Job (request.Open b blank)) has = tt
-asked_done f cards name card (Job (request.Product p)) has = tt
-asked_done f cards name card (Job (request.Lot l)) has = tt
-asked_done f cards name card (Job (request.Import b p raw)) has = tt
-asked_done f cards name card (Job (request.Abort s)) has = tt
-asked_done f cards name card (Job request.Reset) has = tt
-asked_done f cards name card (Job (request.Discard blank)) has = tt
-asked_done f cards name card (Job (request.Remake b rec)) has = tt
-asked_done f cards name card (Job (request.Withdraw b rec)) has = tt
-asked_done f cards name card (Job (request.Close b)) has = tt
-asked_done f cards name card (Release upto) has = tt
+asked_done f cards name card _ has = tt
 
 -- the last of a list and one more
 pub at_push : {X : Type 0} (xs : List X) (y : X) (i : ℕ) (z : X) → slice_get (xs ++ y ∷ []) i ≡ Some z → (slice_get xs i ≡ Some z) ⊎ (y ≡ z)
@@ -226,14 +216,7 @@ asked_ranged boot place (Release upto) least most asked = (omega (arith, asked.1
 asked_ranged boot place (Job request.Reset) least most asked = tt
 asked_ranged boot place (Job (request.Open b blank)) least most asked = (asked.0, asked.1)
 asked_ranged boot place (Job (request.Answer s k sw)) least most asked = asked
-asked_ranged boot place (Job (request.Product p)) least most asked = absurd asked
-asked_ranged boot place (Job (request.Lot l)) least most asked = absurd asked
-asked_ranged boot place (Job (request.Import b p raw)) least most asked = absurd asked
-asked_ranged boot place (Job (request.Abort s)) least most asked = absurd asked
-asked_ranged boot place (Job (request.Discard blank)) least most asked = absurd asked
-asked_ranged boot place (Job (request.Remake b rec)) least most asked = absurd asked
-asked_ranged boot place (Job (request.Withdraw b rec)) least most asked = absurd asked
-asked_ranged boot place (Job (request.Close b)) least most asked = absurd asked
+asked_ranged boot place _ least most asked = absurd asked
 
 pub last_at : {X : Type 0} (xs : List X) (y : X) → slice_get (xs ++ y ∷ []) (length xs) ≡ Some y
 last_at [] y = refl
@@ -276,17 +259,7 @@ arrive_fine names w i stop (Some p) is fine =
 
 office_done : (f : Facts) (cards : Cards) (call : Call) → is_of_machines call ≡ false → HasDone f cards call
 office_done f cards (Job (request.Answer s k sw)) un = absurd (false≢true (sym un))
-office_done f cards (Job (request.Open b blank)) un = tt
-office_done f cards (Job (request.Product p)) un = tt
-office_done f cards (Job (request.Lot l)) un = tt
-office_done f cards (Job (request.Import b p raw)) un = tt
-office_done f cards (Job (request.Abort s)) un = tt
-office_done f cards (Job request.Reset) un = tt
-office_done f cards (Job (request.Discard blank)) un = tt
-office_done f cards (Job (request.Remake b rec)) un = tt
-office_done f cards (Job (request.Withdraw b rec)) un = tt
-office_done f cards (Job (request.Close b)) un = tt
-office_done f cards (Release upto) un = tt
+office_done f cards _ un = tt
 
 -- ---- a reply
 

@@ -8,7 +8,7 @@ use Rattle.std.proofs.lemmas.Option.{get_or_from_slice_get, same_Some, slice_get
 use Rattle.std.proofs.lemmas.Slice.Eq.{bytes_eq-Decides}
 use Rattle.job_facts.specs.declared.reply.Reply.{Reply}
 use Rattle.job_facts.specs.declared.request.Call.{Call}
-use Rattle.job_facts.specs.declared.request.Call.TheVariants.{Job, Release}
+use Rattle.job_facts.specs.declared.request.Call.TheVariants.{Job}
 use Rattle.job_facts.specs.declared.request.Request.TheVariants as request
 use Rattle.job_facts.specs.Facts.{Facts}
 use Rattle.job_facts.specs.Contents.{Mark}
@@ -36,18 +36,8 @@ at_other name v f n is = cond-false (bytes_eq n name) v (f n) is
 
 -- more commands at cards: what was done stays done
 pub done_more : (f : Facts) (cards now : Cards) (call : Call) → ((serial : ℕ) → got cards serial ≤ got now serial) → HasDone f cards call → HasDone f now call
-done_more f cards now (Release upto) more done = tt
 done_more f cards now (Job (request.Answer s k sw)) more done = (done.0, done.1, omega (arith, done.2, more done.0.blank))
-done_more f cards now (Job (request.Product p)) more done = tt
-done_more f cards now (Job (request.Lot l)) more done = tt
-done_more f cards now (Job (request.Import b p raw)) more done = tt
-done_more f cards now (Job (request.Open b blank)) more done = tt
-done_more f cards now (Job (request.Abort s)) more done = tt
-done_more f cards now (Job request.Reset) more done = tt
-done_more f cards now (Job (request.Discard blank)) more done = tt
-done_more f cards now (Job (request.Remake b r)) more done = tt
-done_more f cards now (Job (request.Withdraw b r)) more done = tt
-done_more f cards now (Job (request.Close b)) more done = tt
+done_more f cards now _ more done = tt
 
 -- what is owed of a machine that goes on as y, with these boots, and of the cards afterwards
 pub record Goes (names : List (List ℕ)) (w : World) (name : List ℕ) (y : Machine) (boots : List ℕ → List ℕ) (cards : Cards) : Type 0 where

@@ -49,22 +49,7 @@ pub open_later : (f g : Facts) (client : List ℕ) (blank : ℕ) (r : Reply) →
 open_later f g client blank (reply.Opened batch told command rec s) later fits =
     let y = later s fits.0 fits.1 in
     (y.now, y.there, y.machine ∙ fits.2, y.blank ∙ fits.3, command_later f g fits.0.batch fits.0.rec y.now.batch y.now.rec 0 command y.batch y.rec y.commands fits.4)
-open_later f g client blank (reply.Product p made) later fits = tt
-open_later f g client blank (reply.Lot l made) later fits = tt
-open_later f g client blank (reply.Import b records made rows) later fits = tt
-open_later f g client blank (reply.Next command k s) later fits = tt
-open_later f g client blank (reply.Good s) later fits = tt
-open_later f g client blank (reply.Spoiled s) later fits = tt
-open_later f g client blank (reply.Reset s) later fits = tt
-open_later f g client blank (reply.Discarded other) later fits = tt
-open_later f g client blank (reply.Waiting b rec) later fits = tt
-open_later f g client blank (reply.Withdrawn b rec) later fits = tt
-open_later f g client blank (reply.Closed b) later fits = tt
-open_later f g client blank (reply.Refused why) later fits = tt
-open_later f g client blank (reply.Busy s) later fits = tt
-open_later f g client blank (reply.Released mark) later fits = tt
-open_later f g client blank (reply.NumberReleased mark) later fits = tt
-open_later f g client blank (reply.Faulty fault) later fits = tt
+open_later f g client blank _ later fits = tt
 
 pub answer_later : (f g : Facts) (client : List ℕ) (s k : ℕ) (r : Reply) → Later f g → AnswerFits f client s k r → AnswerFits g client s k r
 answer_later f g client s k (reply.Next command index told) later fits =
@@ -73,21 +58,7 @@ answer_later f g client s k (reply.Next command index told) later fits =
 answer_later f g client s k (reply.Good told) later fits =
     let y = later s fits.1 fits.2 in
     (fits.0, y.now, y.there, good_later f g s fits.1 y fits.3)
-answer_later f g client s k (reply.Product p made) later fits = tt
-answer_later f g client s k (reply.Lot l made) later fits = tt
-answer_later f g client s k (reply.Import b records made rows) later fits = tt
-answer_later f g client s k (reply.Opened b blank command rec told) later fits = tt
-answer_later f g client s k (reply.Spoiled told) later fits = tt
-answer_later f g client s k (reply.Reset told) later fits = tt
-answer_later f g client s k (reply.Discarded blank) later fits = tt
-answer_later f g client s k (reply.Waiting b rec) later fits = tt
-answer_later f g client s k (reply.Withdrawn b rec) later fits = tt
-answer_later f g client s k (reply.Closed b) later fits = tt
-answer_later f g client s k (reply.Refused why) later fits = tt
-answer_later f g client s k (reply.Busy told) later fits = tt
-answer_later f g client s k (reply.Released mark) later fits = tt
-answer_later f g client s k (reply.NumberReleased mark) later fits = tt
-answer_later f g client s k (reply.Faulty fault) later fits = tt
+answer_later f g client s k _ later fits = tt
 
 -- ---- at the step
 
@@ -104,22 +75,7 @@ pub open_says : (f g : Facts) (client b : List ℕ) (blank : ℕ) (r : Reply) �
 open_says f g client b blank (reply.Opened batch told command rec s) sound may says =
     let x : Session = new_session client batch rec told in
     (x, says.1.there, refl, may.1, command_is g s 0 x command sound says.1.there says.1.stands refl says.3)
-open_says f g client b blank (reply.Product p made) sound may says = tt
-open_says f g client b blank (reply.Lot l made) sound may says = tt
-open_says f g client b blank (reply.Import c records made rows) sound may says = tt
-open_says f g client b blank (reply.Next command k s) sound may says = tt
-open_says f g client b blank (reply.Good s) sound may says = tt
-open_says f g client b blank (reply.Spoiled s) sound may says = tt
-open_says f g client b blank (reply.Reset s) sound may says = tt
-open_says f g client b blank (reply.Discarded other) sound may says = tt
-open_says f g client b blank (reply.Waiting c rec) sound may says = tt
-open_says f g client b blank (reply.Withdrawn c rec) sound may says = tt
-open_says f g client b blank (reply.Closed c) sound may says = tt
-open_says f g client b blank (reply.Refused why) sound may says = tt
-open_says f g client b blank (reply.Busy s) sound may says = tt
-open_says f g client b blank (reply.Released mark) sound may says = tt
-open_says f g client b blank (reply.NumberReleased mark) sound may says = tt
-open_says f g client b blank (reply.Faulty fault) sound may says = tt
+open_says f g client b blank _ sound may says = tt
 
 pub answer_says : (f g : Facts) (client : List ℕ) (s k sw : ℕ) (r : Reply) → IsSound g → MayBeTold (request.Answer s k sw) r → Says f g client r → AnswerFits g client s k r
 answer_says f g client s k sw (reply.Next command index told) sound may says =
@@ -129,21 +85,7 @@ answer_says f g client s k sw (reply.Next command index told) sound may says =
 answer_says f g client s k sw (reply.Good told) sound may says =
     let own = says.1 in
     (may, says.0, ap (session_numbered g.sessions) (sym may) ∙ own.there, own.stands)
-answer_says f g client s k sw (reply.Product p made) sound may says = tt
-answer_says f g client s k sw (reply.Lot l made) sound may says = tt
-answer_says f g client s k sw (reply.Import b records made rows) sound may says = tt
-answer_says f g client s k sw (reply.Opened b blank command rec told) sound may says = tt
-answer_says f g client s k sw (reply.Spoiled told) sound may says = tt
-answer_says f g client s k sw (reply.Reset told) sound may says = tt
-answer_says f g client s k sw (reply.Discarded blank) sound may says = tt
-answer_says f g client s k sw (reply.Waiting b rec) sound may says = tt
-answer_says f g client s k sw (reply.Withdrawn b rec) sound may says = tt
-answer_says f g client s k sw (reply.Closed b) sound may says = tt
-answer_says f g client s k sw (reply.Refused why) sound may says = tt
-answer_says f g client s k sw (reply.Busy told) sound may says = tt
-answer_says f g client s k sw (reply.Released mark) sound may says = tt
-answer_says f g client s k sw (reply.NumberReleased mark) sound may says = tt
-answer_says f g client s k sw (reply.Faulty fault) sound may says = tt
+answer_says f g client s k sw _ sound may says = tt
 
 -- what is opened had no charge
 abbrev pub OpensFree : Facts → ℕ → Reply → Type 0
@@ -152,51 +94,18 @@ OpensFree f blank _ = ⊤
 
 pub opens_free : (f g : Facts) (client b : List ℕ) (blank : ℕ) (r : Reply) → MayBeTold (request.Open b blank) r → Says f g client r → OpensFree f blank r
 opens_free f g client b blank (reply.Opened batch told command rec s) may says = ap (is_charged f) (sym may.1) ∙ says.2
-opens_free f g client b blank (reply.Product p made) may says = tt
-opens_free f g client b blank (reply.Lot l made) may says = tt
-opens_free f g client b blank (reply.Import c records made rows) may says = tt
-opens_free f g client b blank (reply.Next command k s) may says = tt
-opens_free f g client b blank (reply.Good s) may says = tt
-opens_free f g client b blank (reply.Spoiled s) may says = tt
-opens_free f g client b blank (reply.Reset s) may says = tt
-opens_free f g client b blank (reply.Discarded other) may says = tt
-opens_free f g client b blank (reply.Waiting c rec) may says = tt
-opens_free f g client b blank (reply.Withdrawn c rec) may says = tt
-opens_free f g client b blank (reply.Closed c) may says = tt
-opens_free f g client b blank (reply.Refused why) may says = tt
-opens_free f g client b blank (reply.Busy s) may says = tt
-opens_free f g client b blank (reply.Released mark) may says = tt
-opens_free f g client b blank (reply.NumberReleased mark) may says = tt
-opens_free f g client b blank (reply.Faulty fault) may says = tt
+opens_free f g client b blank _ may says = tt
 
 -- ---- ranges
 
 -- no request is told of marks
 never_released : (q : Request) (mark : ℕ) → MayBeTold q (reply.Released mark) → ⊥
 never_released (request.Product p) mark may = may
-never_released (request.Lot l) mark may = may
-never_released (request.Import b p raw) mark may = may
-never_released (request.Open b blank) mark may = may
-never_released (request.Answer s k sw) mark may = may
-never_released (request.Abort s) mark may = may
-never_released request.Reset mark may = may
-never_released (request.Discard blank) mark may = may
-never_released (request.Remake b r) mark may = may
-never_released (request.Withdraw b r) mark may = may
-never_released (request.Close b) mark may = may
+never_released _ mark may = may
 
 never_gone : (q : Request) (mark : ℕ) → MayBeTold q (reply.NumberReleased mark) → ⊥
 never_gone (request.Product p) mark may = may
-never_gone (request.Lot l) mark may = may
-never_gone (request.Import b p raw) mark may = may
-never_gone (request.Open b blank) mark may = may
-never_gone (request.Answer s k sw) mark may = may
-never_gone (request.Abort s) mark may = may
-never_gone request.Reset mark may = may
-never_gone (request.Discard blank) mark may = may
-never_gone (request.Remake b r) mark may = may
-never_gone (request.Withdraw b r) mark may = may
-never_gone (request.Close b) mark may = may
+never_gone _ mark may = may
 
 -- what is told in its ranges can be read back
 pub reply_ranged : (q : Request) (r : Reply) → MayBeTold q r → IsRangedReply r → IsReply r
@@ -205,15 +114,10 @@ reply_ranged q (reply.Lot l made) may is = is
 reply_ranged q (reply.Import b records made rows) may is = (is.0, omega (arith, is.1), omega (arith, is.2))
 reply_ranged q (reply.Opened b blank command rec s) may is = (is.0, omega (arith, is.1), is.2, is.3, omega (arith, is.4))
 reply_ranged q (reply.Next command k s) may is = (is.0, omega (arith, is.1), omega (arith, is.2))
-reply_ranged q (reply.Good s) may is = omega (arith, is)
-reply_ranged q (reply.Spoiled s) may is = omega (arith, is)
-reply_ranged q (reply.Reset s) may is = omega (arith, is)
-reply_ranged q (reply.Discarded blank) may is = omega (arith, is)
 reply_ranged q (reply.Waiting b rec) may is = is
 reply_ranged q (reply.Withdrawn b rec) may is = is
 reply_ranged q (reply.Closed b) may is = is
 reply_ranged q (reply.Refused why) may is = tt
-reply_ranged q (reply.Busy s) may is = omega (arith, is)
 reply_ranged q (reply.Released mark) may is = absurd (never_released q mark may)
 reply_ranged q (reply.NumberReleased mark) may is = absurd (never_gone q mark may)
-reply_ranged q (reply.Faulty fault) may is = omega (arith, is)
+reply_ranged q _ may is = omega (arith, is)

@@ -10,7 +10,7 @@ use Rattle.store_data.specs.Sequence.{Command}
 use Rattle.job_facts.specs.declared.reply.Reply.{Reply}
 use Rattle.job_facts.specs.declared.reply.Reply.TheVariants as reply
 use Rattle.job_facts.specs.declared.request.Call.{Call}
-use Rattle.job_facts.specs.declared.request.Call.TheVariants.{Job, Release}
+use Rattle.job_facts.specs.declared.request.Call.TheVariants.{Job}
 use Rattle.job_facts.specs.declared.request.Request.TheVariants as request
 use Rattle.job_facts.specs.Facts.{Facts, Session}
 use Rattle.job_facts.specs.States.{commands_for, session_numbered}
@@ -19,7 +19,7 @@ use Rattle.step_laws.proofs.GoodCards.{one_of_blank}
 use Rattle.arrivals.specs.Commands.{IsCommand}
 use Rattle.feeder.proofs.Replies.{OpenFits}
 use Rattle.feeder.specs.declared.feeder.Stand.{Stand}
-use Rattle.feeder.specs.declared.feeder.Stand.TheVariants.{Idle, Asks, HasCommand, Stale}
+use Rattle.feeder.specs.declared.feeder.Stand.TheVariants.{Asks, HasCommand}
 use Rattle.feeder.specs.Table.{Act, Apply, Eject, FeederState, IsFeeder, Makes, Move, Row, Send, Stands, Stays, Wait, moved}
 use Rattle.feeder.specs.World.{Card, Machine, Packet, World, at_serial, card_left, cards_after, put_out, with_command}
 use Rattle.feeder.specs.ShopFloor.{IsCountedGood, sequence_of}
@@ -70,74 +70,24 @@ SameReceived cards now = (serial : ℕ) → (now serial).received ≡ (cards ser
 
 fresh_opens : (cards now : Cards) (blank : ℕ) (r : Reply) → SameReceived cards now → OpensFresh cards blank r → OpensFresh now blank r
 fresh_opens cards now blank (reply.Opened b n command rec s) same is = same blank ∙ is
-fresh_opens cards now blank (reply.Product p made) same is = tt
-fresh_opens cards now blank (reply.Lot l made) same is = tt
-fresh_opens cards now blank (reply.Import b records made rows) same is = tt
-fresh_opens cards now blank (reply.Next command k s) same is = tt
-fresh_opens cards now blank (reply.Good s) same is = tt
-fresh_opens cards now blank (reply.Spoiled s) same is = tt
-fresh_opens cards now blank (reply.Reset s) same is = tt
-fresh_opens cards now blank (reply.Discarded b) same is = tt
-fresh_opens cards now blank (reply.Waiting b r) same is = tt
-fresh_opens cards now blank (reply.Withdrawn b r) same is = tt
-fresh_opens cards now blank (reply.Closed b) same is = tt
-fresh_opens cards now blank (reply.Refused why) same is = tt
-fresh_opens cards now blank (reply.Busy s) same is = tt
-fresh_opens cards now blank (reply.Released mark) same is = tt
-fresh_opens cards now blank (reply.NumberReleased mark) same is = tt
-fresh_opens cards now blank (reply.Faulty fault) same is = tt
+fresh_opens cards now blank _ same is = tt
 
 pub fresh_same : (cards now : Cards) (call : Call) (r : Reply) → SameReceived cards now → Fresh cards call r → Fresh now call r
 fresh_same cards now (Job (request.Open b blank)) r same is = fresh_opens cards now blank r same is
-fresh_same cards now (Job (request.Answer s k sw)) r same is = tt
-fresh_same cards now (Job (request.Product p)) r same is = tt
-fresh_same cards now (Job (request.Lot l)) r same is = tt
-fresh_same cards now (Job (request.Import b p raw)) r same is = tt
-fresh_same cards now (Job (request.Abort s)) r same is = tt
-fresh_same cards now (Job request.Reset) r same is = tt
-fresh_same cards now (Job (request.Discard blank)) r same is = tt
-fresh_same cards now (Job (request.Remake b rec)) r same is = tt
-fresh_same cards now (Job (request.Withdraw b rec)) r same is = tt
-fresh_same cards now (Job (request.Close b)) r same is = tt
-fresh_same cards now (Release upto) r same is = tt
+fresh_same cards now _ r same is = tt
 
 -- the same, where the card of what was opened receives nothing
 opens_by : (f : Facts) (m : List ℕ) (cards now : Cards) (blank : ℕ) (r : Reply)
     → ((t : ℕ) (z : Session) → session_numbered f.sessions t ≡ Some z → z.machine ≡ m → z.blank ≡ blank → (now blank).received ≡ (cards blank).received)
     → OpenFits f m blank r → OpensFresh cards blank r → OpensFresh now blank r
 opens_by f m cards now blank (reply.Opened b n command rec s) same fits is = same s fits.0 fits.1 fits.2 fits.3 ∙ is
-opens_by f m cards now blank (reply.Product p made) same fits is = tt
-opens_by f m cards now blank (reply.Lot l made) same fits is = tt
-opens_by f m cards now blank (reply.Import b records made rows) same fits is = tt
-opens_by f m cards now blank (reply.Next command k s) same fits is = tt
-opens_by f m cards now blank (reply.Good s) same fits is = tt
-opens_by f m cards now blank (reply.Spoiled s) same fits is = tt
-opens_by f m cards now blank (reply.Reset s) same fits is = tt
-opens_by f m cards now blank (reply.Discarded b) same fits is = tt
-opens_by f m cards now blank (reply.Waiting b r) same fits is = tt
-opens_by f m cards now blank (reply.Withdrawn b r) same fits is = tt
-opens_by f m cards now blank (reply.Closed b) same fits is = tt
-opens_by f m cards now blank (reply.Refused why) same fits is = tt
-opens_by f m cards now blank (reply.Busy s) same fits is = tt
-opens_by f m cards now blank (reply.Released mark) same fits is = tt
-opens_by f m cards now blank (reply.NumberReleased mark) same fits is = tt
-opens_by f m cards now blank (reply.Faulty fault) same fits is = tt
+opens_by f m cards now blank _ same fits is = tt
 
 fresh_by : (f : Facts) (marks : List Mark) (m : List ℕ) (cards now : Cards) (call : Call) (r : Reply)
     → ((t : ℕ) (z : Session) → session_numbered f.sessions t ≡ Some z → z.machine ≡ m → now z.blank ≡ cards z.blank) → Fits f marks m call r → Fresh cards call r → Fresh now call r
 fresh_by f marks m cards now (Job (request.Open b blank)) r same fits is =
     opens_by f m cards now blank r (λ t z at own blank_is. let kept : (now z.blank).received ≡ (cards z.blank).received = ap (λ (c : Card). c.received) (same t z at own) in subst (λ v. (now v).received ≡ (cards v).received) blank_is kept) fits is
-fresh_by f marks m cards now (Job (request.Answer s k sw)) r same fits is = tt
-fresh_by f marks m cards now (Job (request.Product p)) r same fits is = tt
-fresh_by f marks m cards now (Job (request.Lot l)) r same fits is = tt
-fresh_by f marks m cards now (Job (request.Import b p raw)) r same fits is = tt
-fresh_by f marks m cards now (Job (request.Abort s)) r same fits is = tt
-fresh_by f marks m cards now (Job request.Reset) r same fits is = tt
-fresh_by f marks m cards now (Job (request.Discard blank)) r same fits is = tt
-fresh_by f marks m cards now (Job (request.Remake b rec)) r same fits is = tt
-fresh_by f marks m cards now (Job (request.Withdraw b rec)) r same fits is = tt
-fresh_by f marks m cards now (Job (request.Close b)) r same fits is = tt
-fresh_by f marks m cards now (Release upto) r same fits is = tt
+fresh_by f marks m cards now _ r same fits is = tt
 
 has_same : (f : Facts) (cards now : Cards) (name : List ℕ) (card : Option ℕ) (s k : ℕ) → SameReceived cards now → HasCard f cards name card s k → HasCard f now name card s k
 has_same f cards now name card s k same is = record {
@@ -152,21 +102,10 @@ has_same f cards now name card s k same is = record {
 -- a stand that holds no card is of no concern
 holds_by : (f : Facts) (cards now : Cards) (m name : List ℕ) (card : Option ℕ) (stand : Stand)
     → ((s k : ℕ) → HasCard f cards name card s k → HasCard f now m card s k) → Holds f cards name card stand → Holds f now m card stand
-holds_by f cards now m name card Idle has is = tt
 holds_by f cards now m name card (HasCommand s k) has is = has s k is
-holds_by f cards now m name card Stale has is = tt
 holds_by f cards now m name card (Asks (Job (request.Open b blank))) has is = is
 holds_by f cards now m name card (Asks (Job (request.Answer s k sw))) has is = has s k is
-holds_by f cards now m name card (Asks (Job (request.Product p))) has is = tt
-holds_by f cards now m name card (Asks (Job (request.Lot l))) has is = tt
-holds_by f cards now m name card (Asks (Job (request.Import b p raw))) has is = tt
-holds_by f cards now m name card (Asks (Job (request.Abort s))) has is = tt
-holds_by f cards now m name card (Asks (Job request.Reset)) has is = tt
-holds_by f cards now m name card (Asks (Job (request.Discard blank))) has is = tt
-holds_by f cards now m name card (Asks (Job (request.Remake b rec))) has is = tt
-holds_by f cards now m name card (Asks (Job (request.Withdraw b rec))) has is = tt
-holds_by f cards now m name card (Asks (Job (request.Close b))) has is = tt
-holds_by f cards now m name card (Asks (Release upto)) has is = tt
+holds_by f cards now m name card _ has is = tt
 
 pub holds_same : (f : Facts) (cards now : Cards) (name : List ℕ) (card : Option ℕ) (stand : Stand) → SameReceived cards now → Holds f cards name card stand → Holds f now name card stand
 holds_same f cards now name card stand same is = holds_by f cards now name name card stand (λ s k. has_same f cards now name card s k same) is

@@ -20,21 +20,11 @@ AreListed names es = (m : List ℕ) → is_name_of (machines_of es) m ≡ true �
 
 listed_now : (names : List (List ℕ)) (e : Event) (es : List Event) → AreListed names (e ∷ es) → IsListed names e
 listed_now names (event.Power machine boot) es listed = listed machine (or_left (bytes_eq machine machine) (is_name_of (machines_of es) machine) (name_same machine))
-listed_now names (event.Insert machine batch blank) es listed = tt
-listed_now names (event.Send machine) es listed = tt
-listed_now names (event.Arrive packet stop) es listed = tt
-listed_now names (event.Deliver j) es listed = tt
-listed_now names (event.Card machine sw) es listed = tt
-listed_now names (event.Office arrival stop) es listed = tt
+listed_now names _ es listed = tt
 
 listed_then : (names : List (List ℕ)) (e : Event) (es : List Event) → AreListed names (e ∷ es) → AreListed names es
 listed_then names (event.Power machine boot) es listed = λ m is. listed m (or_right (bytes_eq m machine) (is_name_of (machines_of es) m) is)
-listed_then names (event.Insert machine batch blank) es listed = listed
-listed_then names (event.Send machine) es listed = listed
-listed_then names (event.Arrive packet stop) es listed = listed
-listed_then names (event.Deliver j) es listed = listed
-listed_then names (event.Card machine sw) es listed = listed
-listed_then names (event.Office arrival stop) es listed = listed
+listed_then names _ es listed = listed
 
 run_fine : (names : List (List ℕ)) (reads : Told → Option Reply) (es : List Event) (w : World) → ReadsBack reads → All IsEvent es → AreListed names es
     → Fine names w → Fine names (run reads names es w)

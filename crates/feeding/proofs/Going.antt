@@ -57,9 +57,7 @@ goes_then f g h first next = record { feeder = then_later f.feeder g.feeder h.fe
 
 worded_goes : (f g : Feed) (act : Act) → Follows f g → Follows f (worded g act)
 worded_goes f g (Apply command) is = record { feeder = is.feeder; tries = is.tries }
-worded_goes f g (Eject good) is = record { feeder = is.feeder; tries = is.tries }
-worded_goes f g Send is = record { feeder = is.feeder; tries = is.tries }
-worded_goes f g Wait is = record { feeder = is.feeder; tries = is.tries }
+worded_goes f g _ is = record { feeder = is.feeder; tries = is.tries }
 
 acts_goes : (f : Feed) (act : Act) → Follows f (acts f act)
 acts_goes f (Eject good) = record { feeder = same f.feeder; tries = refl }

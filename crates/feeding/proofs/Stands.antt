@@ -45,93 +45,26 @@ command_quiet s k command =
 
 release_quiet : (r : Reply) → IsQuiet (release_row r)
 release_quiet (reply.Product p made) = tt
-release_quiet (reply.Lot l made) = tt
-release_quiet (reply.Import b records made rows) = tt
-release_quiet (reply.Opened b blank command rec s) = tt
-release_quiet (reply.Next command k s) = tt
-release_quiet (reply.Good s) = tt
-release_quiet (reply.Spoiled s) = tt
-release_quiet (reply.Reset s) = tt
-release_quiet (reply.Discarded b) = tt
-release_quiet (reply.Waiting b r) = tt
-release_quiet (reply.Withdrawn b r) = tt
-release_quiet (reply.Closed b) = tt
-release_quiet (reply.Refused why) = tt
-release_quiet (reply.Busy s) = tt
-release_quiet (reply.Released mark) = tt
-release_quiet (reply.NumberReleased mark) = tt
-release_quiet (reply.Faulty fault) = tt
+release_quiet _ = tt
 
 reset_quiet : (r : Reply) → IsQuiet (reset_row r)
 reset_quiet (reply.Product p made) = tt
-reset_quiet (reply.Lot l made) = tt
-reset_quiet (reply.Import b records made rows) = tt
-reset_quiet (reply.Opened b blank command rec s) = tt
-reset_quiet (reply.Next command k s) = tt
-reset_quiet (reply.Good s) = tt
-reset_quiet (reply.Spoiled s) = tt
-reset_quiet (reply.Reset s) = tt
-reset_quiet (reply.Discarded b) = tt
-reset_quiet (reply.Waiting b r) = tt
-reset_quiet (reply.Withdrawn b r) = tt
-reset_quiet (reply.Closed b) = tt
-reset_quiet (reply.Refused why) = tt
-reset_quiet (reply.Busy s) = tt
-reset_quiet (reply.Released mark) = tt
-reset_quiet (reply.NumberReleased mark) = tt
-reset_quiet (reply.Faulty fault) = tt
+reset_quiet _ = tt
 
 open_quiet : (r : Reply) → IsQuiet (open_row r)
-open_quiet (reply.Product p made) = tt
-open_quiet (reply.Lot l made) = tt
-open_quiet (reply.Import b records made rows) = tt
 open_quiet (reply.Opened b blank command rec s) = command_quiet s 0 command
-open_quiet (reply.Next command k s) = tt
-open_quiet (reply.Good s) = tt
-open_quiet (reply.Spoiled s) = tt
-open_quiet (reply.Reset s) = tt
-open_quiet (reply.Discarded b) = tt
-open_quiet (reply.Waiting b r) = tt
-open_quiet (reply.Withdrawn b r) = tt
-open_quiet (reply.Closed b) = tt
-open_quiet (reply.Refused why) = tt
-open_quiet (reply.Busy s) = tt
-open_quiet (reply.Released mark) = tt
-open_quiet (reply.NumberReleased mark) = tt
-open_quiet (reply.Faulty fault) = tt
+open_quiet _ = tt
 
 answer_quiet : (r : Reply) → IsQuiet (answer_row r)
-answer_quiet (reply.Product p made) = tt
-answer_quiet (reply.Lot l made) = tt
-answer_quiet (reply.Import b records made rows) = tt
-answer_quiet (reply.Opened b blank command rec s) = tt
 answer_quiet (reply.Next command k s) = command_quiet s k command
-answer_quiet (reply.Good s) = tt
-answer_quiet (reply.Spoiled s) = tt
-answer_quiet (reply.Reset s) = tt
-answer_quiet (reply.Discarded b) = tt
-answer_quiet (reply.Waiting b r) = tt
-answer_quiet (reply.Withdrawn b r) = tt
-answer_quiet (reply.Closed b) = tt
-answer_quiet (reply.Refused why) = tt
-answer_quiet (reply.Busy s) = tt
-answer_quiet (reply.Released mark) = tt
-answer_quiet (reply.NumberReleased mark) = tt
-answer_quiet (reply.Faulty fault) = tt
+answer_quiet _ = tt
 
 row_quiet : (call : Call) (r : Reply) → IsQuiet (reply_row call r)
 row_quiet (Release upto) r = release_quiet r
 row_quiet (Job request.Reset) r = reset_quiet r
 row_quiet (Job (request.Open b blank)) r = open_quiet r
 row_quiet (Job (request.Answer s k sw)) r = answer_quiet r
-row_quiet (Job (request.Product p)) r = tt
-row_quiet (Job (request.Lot l)) r = tt
-row_quiet (Job (request.Import b p raw)) r = tt
-row_quiet (Job (request.Abort s)) r = tt
-row_quiet (Job (request.Discard blank)) r = tt
-row_quiet (Job (request.Remake b rec)) r = tt
-row_quiet (Job (request.Withdraw b rec)) r = tt
-row_quiet (Job (request.Close b)) r = tt
+row_quiet _ r = tt
 
 move_quiet : (f : FeederState) (move : Move) → NoCommand f.stand → QuietMove move → NoCommand (moved f move).stand
 move_quiet f Stays was quiet = was
@@ -151,9 +84,7 @@ word_quiet f (HasCommand s k) sw is =
 
 worded_quiet : (f : Feed) (act : Act) → NoCommand f.feeder.stand → NoCommand (worded f act).feeder.stand
 worded_quiet f (Apply command) was = was
-worded_quiet f (Eject good) was = was
-worded_quiet f Send was = was
-worded_quiet f Wait was = was
+worded_quiet f _ was = was
 
 acts_quiet : (f : Feed) (move : Move) (act : Act) → NoCommand f.feeder.stand → QuietBy move act → NoCommand (acts (record f { feeder = moved f.feeder move }) act).feeder.stand
 acts_quiet f move (Eject good) was quiet = move_quiet f.feeder move was quiet

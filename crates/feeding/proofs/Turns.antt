@@ -99,10 +99,7 @@ module _ {E : Type 0} (contents : E → Option (List ℕ)) where
       (hs, (record { tries = all; exchanged = logs; ends = subst (λ g. EndsBy g (Err stop.BadLine)) (sym at) is; written = wrote }, end_noted first f hs ea eb ec (Err stop.BadLine) at noted more))
   goes_ended first f la lb a b ea eb ec (Err stop.Stale) (hs, all, at, logs, wrote, noted) is more =
       (hs, (record { tries = all; exchanged = logs; ends = subst (λ g. EndsBy g (Err stop.Stale)) (sym at) is; written = wrote }, end_noted first f hs ea eb ec (Err stop.Stale) at noted more))
-  goes_ended first f la lb a b ea eb ec (Err stop.NoReply) so_far is more = absurd is
-  goes_ended first f la lb a b ea eb ec (Err stop.WriteFailed) so_far is more = absurd is
-  goes_ended first f la lb a b ea eb ec (Err stop.ReadFailed) so_far is more = absurd is
-  goes_ended first f la lb a b ea eb ec (Err stop.Memory) so_far is more = absurd is
+  goes_ended first f la lb a b ea eb ec _ so_far is more = absurd is
 
 -- nothing was asked where memory is refused before
 pub no_memory : {E : Type 0} (contents : E → Option (List ℕ)) (f : Feed) (log : Option (List Try)) (a : Option (List ℕ)) (e : EventLog E) → f.tries ≡ 0

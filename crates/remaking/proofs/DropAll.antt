@@ -1,11 +1,8 @@
 -- Our tables of each version are dropped, children first.
-use Rattle.std.proofs.Common.{◌≡◌, ◌≢◌, [], codes, false, refl, Result, Ok, Err}
+use Rattle.std.proofs.Common.{◌≡◌, ◌≢◌, [], codes, false, refl}
 use Rattle.std.specs.List.{AllByRecursion}
 use Rattle.sqlite.specs.Effect.{Database}
-use Rattle.sqlite.specs.State.{State}
-use Rattle.sqlite.specs.declared.error.Error.{Error}
 use Rattle.sqlite_tied.specs.Compute.{everything}
-use Rattle.sql_base.specs.Ends.{Wrote}
 use Rattle.sql_tables.specs.Versions.{schema_of}
 use Rattle.sql_tables.specs.declared.versions.Version.{Version}
 use Rattle.sql_tables.specs.declared.versions.Version.TheVariants.{One, Three, Two}

@@ -1,26 +1,22 @@
 -- What each INSERT of a whole row does to the rows.
-use Rattle.std.proofs.Common.{◌≡◌, ℕ, [], ◌∷◌, drop, map, pos, Ok, refl}
+use Rattle.std.proofs.Common.{ℕ, [], ◌∷◌, drop, map, Ok, refl}
 use Rattle.sqlite.specs.declared.types.Value.TheVariants.{Blob, Null, Text}
-use Rattle.sqlite.specs.Cast.{cast_row}
 use Rattle.sqlite.specs.Order.{Row}
 use Rattle.sqlite.specs.State.{Executes, State}
 use Rattle.sql_base.proofs.Values.{cast_int, cast_null}
 use Rattle.sql_tables.specs.Tables.{batch_table, lot_table, record_table, session_table}
 use Rattle.table_rows.specs.Tables.{StoredBatch, StoredLot, StoredRecord, StoredSession, with_batch, with_lot, with_record, with_session}
-use Rattle.sql_rows.specs.Encoding.{batch_row, flag, lot_row, number, record_code, record_row, session_code, session_row}
+use Rattle.sql_rows.specs.Encoding.{batch_row, flag, lot_row, number, record_row, session_code, session_row}
 use Rattle.sql_rows.specs.Image.{Moves, by_rowid, unnumbered}
 use Rattle.sql_rows.proofs.Filling.{row_put, row_put_under}
 use Rattle.row_writes.proofs.Adding.{added}
 use Rattle.remaking.specs.PutTexts.{put_batch_terms, put_batch_text, put_lot_terms, put_lot_text, put_record_terms, put_record_text, put_session_terms, put_session_text}
-use Rattle.remaking.proofs.PutMeanings.{put_batch_means, put_lot_means, put_record_means, put_session_means}
-
-lot_cast : (l : StoredLot) → cast_row lot_table (Null ∷ lot_row l) ≡ Null ∷ lot_row l
-lot_cast l = rw (cast_null, cast_int (pos l.lot.first), cast_int (pos l.lot.count), cast_int (pos l.discarded)) refl
+use Rattle.remaking.proofs.PutMeanings.{puts_mean}
 
 pub lot_put : (old new : State) (l : StoredLot) (count : ℕ) → Executes put_lot_text (lot_row l) old new (Ok count) → Moves (with_lot l) old.now new.now
 lot_put old new l count ran t image =
     let rows = map lot_row t.lots in
-    added put_lot_text (lot_row l) 2 lot_table put_lot_terms 6 put_lot_means refl refl refl (Null ∷ lot_row l) refl (lot_cast l)
+    added put_lot_text (lot_row l) 2 lot_table put_lot_terms 6 puts_mean.lots refl refl refl (Null ∷ lot_row l) refl (simp (cast_int, cast_null))
     old new count ran t (with_lot l t) (unnumbered lot_table rows) (unnumbered lot_table (lot_row l ∷ rows)) refl refl refl refl refl refl
     (row_put lot_table (lot_row l) rows old new) image
 
@@ -29,35 +25,17 @@ batch_values b =
     number b.id ∷ Text b.name ∷ Text b.product ∷ Blob b.raw ∷ number (flag b.closed) ∷ number b.waiting ∷ number b.running
     ∷ number b.failed ∷ number b.withdrawn ∷ number b.good ∷ number b.sessions ∷ number b.spoiled ∷ []
 
-batch_cast : (b : StoredBatch) → cast_row batch_table (batch_row b) ≡ batch_row b
-batch_cast b =
-    rw (
-      cast_null,
-      cast_int (pos b.id),
-      cast_int (pos (flag b.closed)),
-      cast_int (pos b.waiting),
-      cast_int (pos b.running),
-      cast_int (pos b.failed),
-      cast_int (pos b.withdrawn),
-      cast_int (pos b.good),
-      cast_int (pos b.sessions),
-      cast_int (pos b.spoiled),
-    ) refl
-
 pub batch_put : (old new : State) (b : StoredBatch) (count : ℕ) → Executes put_batch_text (batch_values b) old new (Ok count) → Moves (with_batch b) old.now new.now
 batch_put old new b count ran t image =
     let rows = map batch_row t.batches in
-    added put_batch_text (batch_values b) 3 batch_table put_batch_terms 13 put_batch_means refl refl refl (batch_row b) refl (batch_cast b)
+    added put_batch_text (batch_values b) 3 batch_table put_batch_terms 13 puts_mean.batches refl refl refl (batch_row b) refl (simp (cast_int, cast_null))
     old new count ran t (with_batch b t) (by_rowid batch_table rows) (by_rowid batch_table (batch_row b ∷ rows)) refl refl refl refl refl refl
     (row_put_under batch_table b.id (drop 1 (batch_row b)) rows old new) image
-
-record_cast : (r : StoredRecord) → cast_row record_table (Null ∷ record_row r) ≡ Null ∷ record_row r
-record_cast r = rw (cast_null, cast_int (pos r.batch), cast_int (pos r.place), cast_int (pos (record_code r.state)), cast_int (pos r.spoiled), cast_int (pos r.remakes)) refl
 
 pub record_put : (old new : State) (r : StoredRecord) (count : ℕ) → Executes put_record_text (record_row r) old new (Ok count) → Moves (with_record r) old.now new.now
 record_put old new r count ran t image =
     let rows = map record_row t.records in
-    added put_record_text (record_row r) 4 record_table put_record_terms 7 put_record_means refl refl refl (Null ∷ record_row r) refl (record_cast r)
+    added put_record_text (record_row r) 4 record_table put_record_terms 7 puts_mean.records refl refl refl (Null ∷ record_row r) refl (simp (cast_int, cast_null))
     old new count ran t (with_record r t) (unnumbered record_table rows) (unnumbered record_table (record_row r ∷ rows)) refl refl refl refl refl refl
     (row_put record_table (record_row r) rows old new) image
 
@@ -66,26 +44,9 @@ session_values s =
     number s.id ∷ Text s.machine ∷ number s.batch ∷ number s.place ∷ number s.serial ∷ number (session_code s.state) ∷ number (flag s.ended)
     ∷ number s.words ∷ number s.cursor.app ∷ number s.cursor.segment ∷ number s.cursor.offset ∷ number s.cursor.block ∷ []
 
-session_cast : (s : StoredSession) → cast_row session_table (session_row s) ≡ session_row s
-session_cast s =
-    rw (
-      cast_null,
-      cast_int (pos s.id),
-      cast_int (pos s.batch),
-      cast_int (pos s.place),
-      cast_int (pos s.serial),
-      cast_int (pos (session_code s.state)),
-      cast_int (pos (flag s.ended)),
-      cast_int (pos s.words),
-      cast_int (pos s.cursor.app),
-      cast_int (pos s.cursor.segment),
-      cast_int (pos s.cursor.offset),
-      cast_int (pos s.cursor.block),
-    ) refl
-
 pub session_put : (old new : State) (s : StoredSession) (count : ℕ) → Executes put_session_text (session_values s) old new (Ok count) → Moves (with_session s) old.now new.now
 session_put old new s count ran t image =
     let rows = map session_row t.sessions in
-    added put_session_text (session_values s) 6 session_table put_session_terms 13 put_session_means refl refl refl (session_row s) refl (session_cast s)
+    added put_session_text (session_values s) 6 session_table put_session_terms 13 puts_mean.sessions refl refl refl (session_row s) refl (simp (cast_int, cast_null))
     old new count ran t (with_session s t) (by_rowid session_table rows) (by_rowid session_table (session_row s ∷ rows)) refl refl refl refl refl refl
     (row_put_under session_table s.id (drop 1 (session_row s)) rows old new) image

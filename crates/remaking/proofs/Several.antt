@@ -16,7 +16,7 @@ use Rattle.sql_rows.specs.Image.{IsImage, Moves}
 use Rattle.sql_rows.proofs.SameRows.{same_rows}
 use Rattle.table_rows.specs.Tables.{HaveSameRows, StoredBatch, StoredBlank, StoredGrouping, StoredLot, StoredRecord, StoredRemake, StoredSession, StoredWord, Tables, no_rows, with_blank, with_grouping, with_lot, with_mark, with_product, with_record, with_remake, with_reply, with_session, with_word}
 use Rattle.sql_rows.specs.Many.{GoesOn, WroteMany}
-use Rattle.remaking.specs.Rows.{bare, with_all, with_bare, with_batches, with_cards, with_each, with_replies, without_bytes}
+use Rattle.remaking.specs.Rows.{bare, with_all, with_bare, with_batches, with_cards, with_each, without_bytes}
 
 -- ---- parts of a transaction, one after the other
 
@@ -134,15 +134,7 @@ batches_onto rows t = record t {
 
 batches_in_all : (rows t : Tables) → batches_each rows t ≡ batches_onto rows t
 batches_in_all rows t =
-    let t1 : Tables = record t { products = onto t.products rows.products } in
-    let t2 : Tables = record t1 { lots = onto t.lots rows.lots } in
-    let t3 : Tables = record t2 { batches = onto t.batches (map bare rows.batches) } in
-    let t4 : Tables = record t3 { records = onto t.records rows.records } in
-    ap (λ u. with_each with_grouping rows.groupings (with_each with_record rows.records (with_each with_bare rows.batches (with_each with_lot rows.lots u)))) (products_in rows.products t)
-    ∙ ap (λ u. with_each with_grouping rows.groupings (with_each with_record rows.records (with_each with_bare rows.batches u))) (lots_in rows.lots t1)
-    ∙ ap (λ u. with_each with_grouping rows.groupings (with_each with_record rows.records u)) (batches_in rows.batches t2)
-    ∙ ap (λ u. with_each with_grouping rows.groupings u) (records_in rows.records t3)
-    ∙ groupings_in rows.groupings t4
+    rw (products_in rows.products t, lots_in rows.lots _, batches_in rows.batches _, records_in rows.records _, groupings_in rows.groupings _) refl
 
 batches_onto_same : (rows t : Tables) → HaveSameRows (with_batches (without_bytes rows) t) (batches_onto rows t)
 batches_onto_same rows t = record {
@@ -163,18 +155,23 @@ pub batches_same : (rows t : Tables) → HaveSameRows (with_batches (without_byt
 batches_same rows t = subst (HaveSameRows (with_batches (without_bytes rows) t)) (sym (batches_in_all rows t)) (batches_onto_same rows t)
 
 abbrev pub cards_each : Tables → Tables → Tables
-cards_each rows t = with_each with_blank rows.blanks (with_each with_word rows.words (with_each with_session rows.sessions t))
+cards_each rows t =
+    with_each with_mark rows.marks (with_each with_reply rows.replies (with_each with_remake rows.remakes
+    (with_each with_blank rows.blanks (with_each with_word rows.words (with_each with_session rows.sessions t)))))
 
 abbrev cards_onto : Tables → Tables → Tables
-cards_onto rows t = record t { sessions = onto t.sessions rows.sessions; words = onto t.words rows.words; blanks = onto t.blanks rows.blanks }
+cards_onto rows t = record t {
+  sessions = onto t.sessions rows.sessions;
+  words = onto t.words rows.words;
+  blanks = onto t.blanks rows.blanks;
+  remakes = onto t.remakes rows.remakes;
+  replies = onto t.replies rows.replies;
+  marks = onto t.marks rows.marks;
+}
 
 cards_in_all : (rows t : Tables) → cards_each rows t ≡ cards_onto rows t
 cards_in_all rows t =
-    let t1 : Tables = record t { sessions = onto t.sessions rows.sessions } in
-    let t2 : Tables = record t1 { words = onto t.words rows.words } in
-    ap (λ u. with_each with_blank rows.blanks (with_each with_word rows.words u)) (sessions_in rows.sessions t)
-    ∙ ap (λ u. with_each with_blank rows.blanks u) (words_in rows.words t1)
-    ∙ blanks_in rows.blanks t2
+    rw (sessions_in rows.sessions t, words_in rows.words _, blanks_in rows.blanks _, remakes_in rows.remakes _, replies_in rows.replies _, marks_in rows.marks _) refl
 
 cards_onto_same : (rows t : Tables) → HaveSameRows (with_cards rows t) (cards_onto rows t)
 cards_onto_same rows t = record {
@@ -186,45 +183,13 @@ cards_onto_same rows t = record {
   sessions = onto_same rows.sessions t.sessions;
   words = onto_same rows.words t.words;
   blanks = onto_same rows.blanks t.blanks;
-  remakes = IsPermutation-refl _;
-  replies = IsPermutation-refl _;
-  marks = IsPermutation-refl _;
-}
-
-pub cards_same : (rows t : Tables) → HaveSameRows (with_cards rows t) (cards_each rows t)
-cards_same rows t = subst (HaveSameRows (with_cards rows t)) (sym (cards_in_all rows t)) (cards_onto_same rows t)
-
-abbrev pub replies_each : Tables → Tables → Tables
-replies_each rows t = with_each with_mark rows.marks (with_each with_reply rows.replies (with_each with_remake rows.remakes t))
-
-abbrev replies_onto : Tables → Tables → Tables
-replies_onto rows t = record t { remakes = onto t.remakes rows.remakes; replies = onto t.replies rows.replies; marks = onto t.marks rows.marks }
-
-replies_in_all : (rows t : Tables) → replies_each rows t ≡ replies_onto rows t
-replies_in_all rows t =
-    let t1 : Tables = record t { remakes = onto t.remakes rows.remakes } in
-    let t2 : Tables = record t1 { replies = onto t.replies rows.replies } in
-    ap (λ u. with_each with_mark rows.marks (with_each with_reply rows.replies u)) (remakes_in rows.remakes t)
-    ∙ ap (λ u. with_each with_mark rows.marks u) (replies_in rows.replies t1)
-    ∙ marks_in rows.marks t2
-
-replies_onto_same : (rows t : Tables) → HaveSameRows (with_replies rows t) (replies_onto rows t)
-replies_onto_same rows t = record {
-  products = IsPermutation-refl _;
-  lots = IsPermutation-refl _;
-  batches = IsPermutation-refl _;
-  records = IsPermutation-refl _;
-  groupings = IsPermutation-refl _;
-  sessions = IsPermutation-refl _;
-  words = IsPermutation-refl _;
-  blanks = IsPermutation-refl _;
   remakes = onto_same rows.remakes t.remakes;
   replies = onto_same rows.replies t.replies;
   marks = onto_same rows.marks t.marks;
 }
 
-pub replies_same : (rows t : Tables) → HaveSameRows (with_replies rows t) (replies_each rows t)
-replies_same rows t = subst (HaveSameRows (with_replies rows t)) (sym (replies_in_all rows t)) (replies_onto_same rows t)
+pub cards_same : (rows t : Tables) → HaveSameRows (with_cards rows t) (cards_each rows t)
+cards_same rows t = subst (HaveSameRows (with_cards rows t)) (sym (cards_in_all rows t)) (cards_onto_same rows t)
 
 -- beside no rows they are all
 with_none : (rows : Tables) → with_all rows no_rows ≡ rows

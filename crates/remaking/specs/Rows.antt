@@ -32,17 +32,12 @@ with_batches rows t = record t {
   groupings = rows.groupings ++ t.groupings;
 }
 
--- the rows of sessions, words and blanks
+-- the rows of sessions, words, blanks, remakes, replies and marks
 abbrev pub with_cards : Tables → Tables → Tables
 with_cards rows t = record t {
   sessions = rows.sessions ++ t.sessions;
   words = rows.words ++ t.words;
   blanks = rows.blanks ++ t.blanks;
-}
-
--- the rows of remakes, replies and marks
-abbrev pub with_replies : Tables → Tables → Tables
-with_replies rows t = record t {
   remakes = rows.remakes ++ t.remakes;
   replies = rows.replies ++ t.replies;
   marks = rows.marks ++ t.marks;
@@ -50,4 +45,4 @@ with_replies rows t = record t {
 
 -- the rows of each table
 abbrev pub with_all : Tables → Tables → Tables
-with_all rows t = with_replies rows (with_cards rows (with_batches rows t))
+with_all rows t = with_cards rows (with_batches rows t)

@@ -1,18 +1,12 @@
-//! Sessions, their words and their blanks are put in, in an open transaction. A crash before its
-//! end leaves nothing of it.
-ghost use Rattle.std.specs.Prelude.{◌≡◌};
-ghost use Rattle.sqlite.specs.Held.{state};
-ghost use Rattle.sqlite.specs.State.{Survives};
+//! Sessions, their words and their blanks are put in, in an open transaction.
 ghost use Rattle.table_rows.specs.Tables.{with_blank, with_session, with_word};
-ghost use Rattle.sql_rows.specs.Many.{WritesMany};
-ghost use Rattle.remaking.specs.Rows.{with_cards};
 
-use crate::putting::{Put, fit, put_all};
+use crate::putting::{Put, fit};
 use row_writes::session_code;
 use sql_base::int;
 use sqlite::types::ValueRef;
 use sqlite::{Alter, Error, Transaction};
-use table_rows::{StoredBlank, StoredSession, StoredWord, Tables};
+use table_rows::{StoredBlank, StoredSession, StoredWord};
 
 impl Put for StoredSession {
     ghost with_row = { with_session };
@@ -79,20 +73,4 @@ impl Put for StoredBlank {
             ],
         )
     }
-}
-
-/// Puts in the rows of sessions, words and blanks, up to the first error.
-pub(crate) fn fill_cards<S: Alter>(
-    tx: &mut Transaction<'_, S>,
-    tables: &Tables,
-) -> Result<(), Error>
-    ensures same_reference { tx.new.conn.ghost_name ≡ tx.old.conn.ghost_name }
-    ensures wrote { WritesMany (with_cards tables.now) (state S.Store tx.old.conn.now)
-        (state S.Store tx.new.conn.now) result }
-    ensures survives { Survives (state S.Store tx.old.conn.now) (state S.Store tx.new.conn.now)
-        (λ _. ⊥) }
-{
-    put_all(tx, tables.sessions.as_slice())?;
-    put_all(tx, tables.words.as_slice())?;
-    put_all(tx, tables.blanks.as_slice())
 }

@@ -6,11 +6,10 @@ ghost use Rattle.sqlite.specs.State.{HasCleanDisk, Survives};
 ghost use Rattle.sql_rows.specs.Image.{IsImage};
 ghost use Rattle.table_rows.specs.Tables.{no_rows};
 ghost use Rattle.sql_rows.specs.Many.{WritesMany};
-ghost use Rattle.remaking.specs.Rows.{with_all};
+ghost use Rattle.remaking.specs.Rows.{with_all, with_cards};
 
 use crate::batches::fill_batches;
-use crate::cards::fill_cards;
-use crate::replies::fill_replies;
+use crate::putting::put_all;
 use sqlite::{Alter, Error, Transaction};
 use table_rows::Tables;
 
@@ -28,6 +27,21 @@ pub(crate) fn fill<S: Alter>(tx: &mut Transaction<'_, S>, tables: &Tables) -> Re
         (λ _. ⊥) }
 {
     fill_batches(tx, tables)?;
-    fill_cards(tx, tables)?;
-    fill_replies(tx, tables)
+    fill_cards(tx, tables)
+}
+
+// The rows of sessions, words, blanks, remakes, replies and marks.
+fn fill_cards<S: Alter>(tx: &mut Transaction<'_, S>, tables: &Tables) -> Result<(), Error>
+    ensures same_reference { tx.new.conn.ghost_name ≡ tx.old.conn.ghost_name }
+    ensures wrote { WritesMany (with_cards tables.now) (state S.Store tx.old.conn.now)
+        (state S.Store tx.new.conn.now) result }
+    ensures survives { Survives (state S.Store tx.old.conn.now) (state S.Store tx.new.conn.now)
+        (λ _. ⊥) }
+{
+    put_all(tx, tables.sessions.as_slice())?;
+    put_all(tx, tables.words.as_slice())?;
+    put_all(tx, tables.blanks.as_slice())?;
+    put_all(tx, tables.remakes.as_slice())?;
+    put_all(tx, tables.replies.as_slice())?;
+    put_all(tx, tables.marks.as_slice())
 }

@@ -1,17 +1,12 @@
-//! Turns of remaking, kept replies and marks are put in, in an open transaction. A crash before its
-//! end leaves nothing of it.
-ghost use Rattle.std.specs.Prelude.{◌≡◌};
-ghost use Rattle.sqlite.specs.Held.{state};
-ghost use Rattle.sqlite.specs.State.{Survives};
+//! Turns of remaking, kept replies and marks are put in, in an open transaction.
 ghost use Rattle.table_rows.specs.Tables.{with_mark, with_remake, with_reply};
-ghost use Rattle.sql_rows.specs.Many.{WritesMany};
-ghost use Rattle.remaking.specs.Rows.{with_replies};
 
-use crate::putting::{Put, fit, put_all};
+use crate::putting::{Put, fit};
+use row_writes::add_remake;
 use sql_base::int;
 use sqlite::types::ValueRef;
 use sqlite::{Alter, Error, Transaction};
-use table_rows::{StoredMark, StoredRemake, StoredReply, Tables};
+use table_rows::{StoredMark, StoredRemake, StoredReply};
 
 impl Put for StoredRemake {
     ghost with_row = { with_remake };
@@ -20,10 +15,7 @@ impl Put for StoredRemake {
         if !fit(self.batch, self.place, self.turn, 0) {
             return Err(Error::InvalidQuery);
         }
-        tx.execute(
-            "INSERT INTO remake (batch, place, turn) VALUES (?1, ?2, ?3)",
-            &[int(self.batch), int(self.place), int(self.turn)],
-        )
+        add_remake(tx, self.batch, self.place, self.turn)
     }
 }
 
@@ -59,20 +51,4 @@ impl Put for StoredMark {
             &[ValueRef::Text(self.client.as_slice()), int(self.upto)],
         )
     }
-}
-
-/// Puts in the rows of remakes, replies and marks, up to the first error.
-pub(crate) fn fill_replies<S: Alter>(
-    tx: &mut Transaction<'_, S>,
-    tables: &Tables,
-) -> Result<(), Error>
-    ensures same_reference { tx.new.conn.ghost_name ≡ tx.old.conn.ghost_name }
-    ensures wrote { WritesMany (with_replies tables.now) (state S.Store tx.old.conn.now)
-        (state S.Store tx.new.conn.now) result }
-    ensures survives { Survives (state S.Store tx.old.conn.now) (state S.Store tx.new.conn.now)
-        (λ _. ⊥) }
-{
-    put_all(tx, tables.remakes.as_slice())?;
-    put_all(tx, tables.replies.as_slice())?;
-    put_all(tx, tables.marks.as_slice())
 }

@@ -115,22 +115,7 @@ decimal_is_clear n h = digits_are_clear (decimal n) (decimal_is_IsNumeral n h).0
 status_is_clear : (r : Reply) → are_clear (status_text (status_of r)) ≡ true
 unfolding are_clear is_clear
 status_is_clear (Product p made) = refl
-status_is_clear (Lot l made) = refl
-status_is_clear (Import b records made rows) = refl
-status_is_clear (Opened b blank command r s) = refl
-status_is_clear (Next command k s) = refl
-status_is_clear (Good s) = refl
-status_is_clear (Spoiled s) = refl
-status_is_clear (Reset s) = refl
-status_is_clear (Discarded blank) = refl
-status_is_clear (Waiting b r) = refl
-status_is_clear (Withdrawn b r) = refl
-status_is_clear (Closed b) = refl
-status_is_clear (Refused why) = refl
-status_is_clear (Busy s) = refl
-status_is_clear (Released mark) = refl
-status_is_clear (NumberReleased mark) = refl
-status_is_clear (Faulty fault) = refl
+status_is_clear _ = refl
 
 pub head_has_no_brace : (r : Reply) (n : ℕ) → n < 2 ^ 64 → HasNoBrace (head_text (status_of r) Json n)
 unfolding are_clear is_clear head_text
@@ -139,22 +124,7 @@ head_has_no_brace r n h = clear_parts (head_text (status_of r) Json n) (simp (li
 pub body_begins : (r : Reply) → slice_index (body_of r) 0 ≡ 123
 unfolding body_of
 body_begins (Product p made) = refl
-body_begins (Lot l made) = refl
-body_begins (Import b records made rows) = refl
-body_begins (Opened b blank command r s) = refl
-body_begins (Next command k s) = refl
-body_begins (Good s) = refl
-body_begins (Spoiled s) = refl
-body_begins (Reset s) = refl
-body_begins (Discarded blank) = refl
-body_begins (Waiting b r) = refl
-body_begins (Withdrawn b r) = refl
-body_begins (Closed b) = refl
-body_begins (Refused why) = refl
-body_begins (Busy s) = refl
-body_begins (Released mark) = refl
-body_begins (NumberReleased mark) = refl
-body_begins (Faulty fault) = refl
+body_begins _ = refl
 
 -- ---- the body is read as the reply's value
 

@@ -3,7 +3,7 @@ use Rattle.std.proofs.Common.{◌≡◌, ◌<◌, ◌/◌, ◌%◌, ℕ, zero, s
 use Rattle.serde_json.specs.Written.{compact_text, has_float}
 use Rattle.hex.specs.Hex.{IsBytes}
 use Rattle.job_facts.specs.declared.request.Call.{Call}
-use Rattle.job_facts.specs.declared.request.Call.TheVariants.{Job, Release}
+use Rattle.job_facts.specs.declared.request.Call.TheVariants.{Job}
 use Rattle.job_facts.specs.declared.request.Request.TheVariants as request
 use Rattle.arrivals.specs.Values.{IsPlain}
 use Rattle.arrivals.proofs.Escapes.{hex_plain}
@@ -13,17 +13,7 @@ use Rattle.wire.specs.Sending.{IsNoImport, body_of, sending_of, tail_of, value_o
 
 pub no_float : (r : Call) → has_float (value_of r) ≡ false
 no_float (Job (request.Product p)) = refl
-no_float (Job (request.Lot l)) = refl
-no_float (Job (request.Import b p raw)) = refl
-no_float (Job (request.Open b blank)) = refl
-no_float (Job (request.Answer s k sw)) = refl
-no_float (Job (request.Abort s)) = refl
-no_float (Job request.Reset) = refl
-no_float (Job (request.Discard blank)) = refl
-no_float (Job (request.Remake b r)) = refl
-no_float (Job (request.Withdraw b r)) = refl
-no_float (Job (request.Close b)) = refl
-no_float (Release upto) = refl
+no_float _ = refl
 
 pub word_is_plain : (sw : ℕ) → sw < 65536 → IsPlain (word_text sw)
 word_is_plain sw h = hex_plain (sw / 256 ∷ sw % 256 ∷ []) (are_bytes sw h)
@@ -35,32 +25,12 @@ word_is_plain sw h = hex_plain (sw / 256 ∷ sw % 256 ∷ []) (are_bytes sw h)
 
 pub text_is_body : (r : Call) → IsNoImport r → compact_text (value_of r) ≡ body_of r
 unfolding body_of
-text_is_body (Job (request.Product p)) other = refl
-text_is_body (Job (request.Lot l)) other = refl
 text_is_body (Job (request.Import b p raw)) other = absurd (other b p raw refl)
-text_is_body (Job (request.Open b blank)) other = refl
-text_is_body (Job (request.Answer n k sw)) other = refl
-text_is_body (Job (request.Abort n)) other = refl
-text_is_body (Job request.Reset) other = refl
-text_is_body (Job (request.Discard blank)) other = refl
-text_is_body (Job (request.Remake b r)) other = refl
-text_is_body (Job (request.Withdraw b r)) other = refl
-text_is_body (Job (request.Close b)) other = refl
-text_is_body (Release upto) other = refl
+text_is_body _ other = refl
 
 pub no_tail : (r : Call) → IsNoImport r → tail_of r ≡ []
-no_tail (Job (request.Product p)) other = refl
-no_tail (Job (request.Lot l)) other = refl
 no_tail (Job (request.Import b p raw)) other = absurd (other b p raw refl)
-no_tail (Job (request.Open b blank)) other = refl
-no_tail (Job (request.Answer s k sw)) other = refl
-no_tail (Job (request.Abort s)) other = refl
-no_tail (Job request.Reset) other = refl
-no_tail (Job (request.Discard blank)) other = refl
-no_tail (Job (request.Remake b r)) other = refl
-no_tail (Job (request.Withdraw b r)) other = refl
-no_tail (Job (request.Close b)) other = refl
-no_tail (Release upto) other = refl
+no_tail _ other = refl
 
 pub json_is_sent : (client : List ℕ) (number : ℕ) (r : Call) (body : List ℕ) → body ≡ body_of r → IsNoImport r
     → post_with client number [] body ≡ sending_of client number r

@@ -2,30 +2,21 @@ use Rattle.std.proofs.Common.{rules, arith, ◌≡◌, ◌≤◌, ℕ, List, Boo
 use Rattle.clap.specs.Words.{Row, found_of, rows_of}
 use Rattle.arguments.specs.Words.{InRange, IsFlag, IsNumber, ReadsPlan}
 use Rattle.arguments.specs.declared.words.Words.{Words}
-use Rattle.arguments.specs.declared.words.Words.TheVariants.{Plan, Drill, Serve, Report, Feed}
+use Rattle.arguments.specs.declared.words.Words.TheVariants.{Plan}
 use Rattle.arguments.proofs.NumberLemmas.{flag_read}
 use Rattle.arguments.proofs.words.plan_of.Goals as goal
 
 no_max : (rows : List Row) → ((n : ℕ) → 16 ≤ n → n ≤ 255 → IsNumber (codes "max") rows n → ⊥) → (w : Words) → InRange w → ReadsPlan rows w → ⊥
 no_max rows none (Plan max low check) range reads = none max range.0 range.1 reads.0
-no_max rows none Drill range reads = reads
-no_max rows none (Serve db port turns) range reads = reads
-no_max rows none (Report db batch) range reads = reads
-no_max rows none (Feed port start) range reads = reads
+no_max rows none _ range reads = reads
 
 no_low : (rows : List Row) → ((n : ℕ) → 0 ≤ n → n ≤ 31 → IsNumber (codes "low") rows n → ⊥) → (w : Words) → InRange w → ReadsPlan rows w → ⊥
 no_low rows none (Plan max low check) range reads = none low (omega arith) range.2 reads.1
-no_low rows none Drill range reads = reads
-no_low rows none (Serve db port turns) range reads = reads
-no_low rows none (Report db batch) range reads = reads
-no_low rows none (Feed port start) range reads = reads
+no_low rows none _ range reads = reads
 
 no_check : (rows : List Row) → ((on : Bool) → IsFlag (codes "check") rows on → ⊥) → (w : Words) → InRange w → ReadsPlan rows w → ⊥
 no_check rows none (Plan max low check) range reads = none check reads.2
-no_check rows none Drill range reads = reads
-no_check rows none (Serve db port turns) range reads = reads
-no_check rows none (Report db batch) range reads = reads
-no_check rows none (Feed port start) range reads = reads
+no_check rows none _ range reads = reads
 
 pub returns-in_err-number-clause-nothing : goal.returns-in_err-number-clause-nothing
 returns-in_err-number-clause-nothing c none =

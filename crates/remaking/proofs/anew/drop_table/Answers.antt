@@ -1,4 +1,3 @@
-use Rattle.sqlite.specs.Held.{state}
 use Rattle.sql_base.proofs.Ending.{wrote}
 use Rattle.remaking.specs.Drop.{DropsTable}
 use Rattle.remaking.proofs.Drop.{drops}

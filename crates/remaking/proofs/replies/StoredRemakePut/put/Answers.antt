@@ -1,18 +1,10 @@
 use Rattle.std.proofs.Common.{subst}
 use Rattle.sqlite.specs.Held.{state}
 use Rattle.sql_base.specs.Ends.{Wrote}
-use Rattle.sql_base.proofs.Ending.{wrote}
 use Rattle.sql_rows.specs.Image.{Moves}
-use Rattle.table_rows.specs.Tables.{StoredRemake, with_remake}
-use Rattle.row_writes.proofs.Putting.{remake_added}
+use Rattle.table_rows.specs.Tables.{with_remake}
 use Rattle.remaking.proofs.replies.StoredRemakePut.put.Goals as goal
 
 pub returns-clause-wrote : goal.returns-clause-wrote
 returns-clause-wrote g c clean =
-    let f = c.self.inside in
-    let x : StoredRemake = record { batch = f.batch; place = f.place; turn = f.turn } in
-    let old = c.args.tx.now.conn.now in
-    let new = c.execute.new.self.conn.now in
-    subst (λ y. Wrote (Moves (with_remake y)) (state g.S.Store old) (state g.S.Store new) c.execute.result) c.self.view_is
-    (wrote g.S.Store (Moves (with_remake x)) old new _ _ _ (λ count. remake_added _ _ x count) c.execute.result c.execute.ensures.ended
-    (rw (c.int.ensures, c.int-2.ensures, c.int-3.ensures) at (c.execute.ensures.runs clean)))
+    subst (λ y. Wrote (Moves (with_remake y)) (state g.S.Store c.args.tx.now.conn.now) (state g.S.Store c.add_remake.new.tx.conn.now) c.add_remake.result) c.self.view_is (c.add_remake.ensures.wrote clean)
