@@ -22,11 +22,7 @@ fn blank_serials(alloc: Global, blanks: &[StoredBlank]) -> Result<Vec<u64>, Allo
     ensures { IfOk result
         (λ serials. serials.items ≡ map (λ (b : BlankValue). b.serial) blanks.now) }
 {
-    let mut serials = Vec::new(alloc);
-    for blank in blanks {
-        serials.push(blank.serial)?;
-    }
-    Ok(serials)
+    blanks.iter().map(|blank| blank.serial).collect(alloc)
 }
 
 // Whether no serial stands twice.
@@ -70,33 +66,7 @@ fn are_audited_blanks(tables: &Tables, blanks: &[StoredBlank]) -> bool
     requires { AreReady tables.now }
     ensures { IsTrue result ↔ All (IsAuditedBlank tables.now) blanks.now }
 {
-    for blank in blanks {
-        if !is_audited_blank(tables, blank) {
-            return false;
-        }
-    }
-    true
-}
-
-// Whether a session opened a blank.
-fn is_opened(blank: &StoredBlank) -> bool
-    ensures { result ≡ not blank.now.discarded }
-{
-    !blank.discarded
-}
-
-// Whether a blank was taken out of use.
-fn is_discarded(blank: &StoredBlank) -> bool
-    ensures { result ≡ blank.now.discarded }
-{
-    blank.discarded
-}
-
-// The serial of a blank.
-fn serial_of(blank: &StoredBlank) -> u64
-    ensures { result ≡ blank.now.serial }
-{
-    blank.serial
+    blanks.iter().all(|blank| is_audited_blank(tables, blank))
 }
 
 // The serials of the blanks that sessions opened.
@@ -104,13 +74,11 @@ fn opened_serials(alloc: Global, blanks: &[StoredBlank]) -> Result<Vec<u64>, All
     ensures { IfOk result (λ serials. serials.items
         ≡ map (λ (b : BlankValue). b.serial) (opened_rows blanks.now)) }
 {
-    let mut serials = Vec::new(alloc);
-    for blank in blanks {
-        if is_opened(blank) {
-            serials.push(serial_of(blank))?;
-        }
-    }
-    Ok(serials)
+    blanks
+        .iter()
+        .filter(|blank| !blank.discarded)
+        .map(|blank| blank.serial)
+        .collect(alloc)
 }
 
 // The serials of the discarded blanks.
@@ -118,13 +86,11 @@ fn discarded_serials(alloc: Global, blanks: &[StoredBlank]) -> Result<Vec<u64>, 
     ensures { IfOk result (λ serials. serials.items
         ≡ map (λ (b : BlankValue). b.serial) (discarded_rows blanks.now)) }
 {
-    let mut serials = Vec::new(alloc);
-    for blank in blanks {
-        if is_discarded(blank) {
-            serials.push(serial_of(blank))?;
-        }
-    }
-    Ok(serials)
+    blanks
+        .iter()
+        .filter(|blank| blank.discarded)
+        .map(|blank| blank.serial)
+        .collect(alloc)
 }
 
 // The serials of the sessions.
@@ -132,11 +98,7 @@ fn session_serials(alloc: Global, sessions: &[StoredSession]) -> Result<Vec<u64>
     ensures { IfOk result (λ serials. serials.items
         ≡ map (λ (s : SessionValue). s.serial) sessions.now) }
 {
-    let mut serials = Vec::new(alloc);
-    for session in sessions {
-        serials.push(session.serial)?;
-    }
-    Ok(serials)
+    sessions.iter().map(|session| session.serial).collect(alloc)
 }
 
 // Whether these are the same serials, in one order.

@@ -54,10 +54,5 @@ fn is_id(id: u64, count: usize) -> bool
 pub(crate) fn have_ids<T: Ranged>(rows: &[T], count: usize) -> bool
     ensures { IsTrue result ↔ All (λ row. IsIdOf count (T.number row)) rows.now }
 {
-    for row in rows {
-        if !is_id(row.number(), count) {
-            return false;
-        }
-    }
-    true
+    rows.iter().all(|row| is_id(row.number(), count))
 }

@@ -69,12 +69,7 @@ fn is_product(row: &StoredProduct) -> bool
 fn are_in_range(products: &[StoredProduct]) -> bool
     ensures { IsTrue result ↔ All (λ (p : ProductValue). IsName p.code × IsProduct p) products.now }
 {
-    for row in products {
-        if !is_product(row) {
-            return false;
-        }
-    }
-    true
+    products.iter().all(|row| is_product(row))
 }
 
 /// Whether products are few, each in its ranges under a name of its own.
@@ -124,12 +119,7 @@ fn are_lots_in_range(products: &[StoredProduct], lots: &[StoredLot]) -> bool
     requires { AreProducts products.now }
     ensures { IsTrue result ↔ All (λ (l : LotValue). IsLot products.now l.lot) lots.now }
 {
-    for lot in lots {
-        if !is_lot(products, lot) {
-            return false;
-        }
-    }
-    true
+    lots.iter().all(|lot| is_lot(products, lot))
 }
 
 /// Whether lots are few, each in its ranges with a name and serials of its own.

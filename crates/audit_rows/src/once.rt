@@ -19,12 +19,7 @@ pub(crate) trait Apart {
 fn are_apart_from<T: Apart>(rows: &[T], other: &T) -> bool
     ensures { IsTrue result ↔ All (λ row. T.apart row other.now ≡ true) rows.now }
 {
-    for row in rows {
-        if !row.is_apart(other) {
-            return false;
-        }
-    }
-    true
+    rows.iter().all(|row| row.is_apart(other))
 }
 
 /// Whether the rows are apart from each other. Each is tested with each.

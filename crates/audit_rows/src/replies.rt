@@ -28,12 +28,7 @@ fn is_mark(mark: &StoredMark) -> bool
 fn are_marks(marks: &[StoredMark]) -> bool
     ensures { IsTrue result ↔ All IsMark marks.now }
 {
-    for mark in marks {
-        if !is_mark(mark) {
-            return false;
-        }
-    }
-    true
+    marks.iter().all(|mark| is_mark(mark))
 }
 
 // Whether the status is that of what was accepted, or of a refusal.
@@ -65,12 +60,7 @@ fn is_entry(reply: &StoredReply) -> bool
 fn are_entries(replies: &[StoredReply]) -> bool
     ensures { IsTrue result ↔ All IsEntry replies.now }
 {
-    for reply in replies {
-        if !is_entry(reply) {
-            return false;
-        }
-    }
-    true
+    replies.iter().all(|reply| is_entry(reply))
 }
 
 // The client of a mark.

@@ -1,6 +1,0 @@
-use Rattle.std.proofs.Common.{◌≡◌, map, take}
-use Rattle.table_rows.specs.Tables.{StoredBlank}
-use Rattle.audit_rows.proofs.blanks.blank_serials.Given as goal
-
-abbrev pub invariant-loop-blank : goal.invariant-loop-blank
-invariant-loop-blank l = l.serials.items ≡ map (λ (b : StoredBlank). b.serial) (take l.blank-index l.blanks)

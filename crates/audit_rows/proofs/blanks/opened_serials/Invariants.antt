@@ -1,7 +1,0 @@
-use Rattle.std.proofs.Common.{◌≡◌, map, take}
-use Rattle.table_rows.specs.Tables.{StoredBlank}
-use Rattle.audit_laws.specs.Audited.{opened_rows}
-use Rattle.audit_rows.proofs.blanks.opened_serials.Given as goal
-
-abbrev pub invariant-loop-blank : goal.invariant-loop-blank
-invariant-loop-blank l = l.serials.items ≡ map (λ (b : StoredBlank). b.serial) (opened_rows (take l.blank-index l.blanks))
