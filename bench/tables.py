@@ -1,22 +1,26 @@
 #!/usr/bin/env python3
-"""Measures durable commits over a file: what answers, openings and imports take, beside the same statements by Python's sqlite3 (WAL,
-synchronous FULL) on the same disk in the same run; on a file with few sessions and on one with many; and beside batch files of some
-sizes, since an opening and the end of a card move their batch's counters, which stand in one row with the file's bytes. Linux alone.
+"""Measures durable commits over a file: what answers, openings and imports take; on a file with
+few sessions and on one with many; beside batch files of some sizes, since an opening and the end
+of a card move their batch's counters, which stand in one row with the file's bytes; and with a
+record of 16 MB. Linux alone. It takes about half an hour, most of it for the file with many
+sessions.
 
-bench/tables.sh builds the program of measure_tables.txt and calls this with its path. A second word names the folder for the files,
-which are removed. It has to be on a disk, since a commit waits for a sync of it.
+bench/tables.sh builds the programs and calls this with their paths. A further word names the
+folder for the files, which are removed. It has to be on a disk, since a commit waits for a sync
+of it.
 
-`measure_tables` serves what it reads over the tables of a new file, a part at a time, and tells the time of each part. So its times hold
-the reading of a message and the writing of its reply, but no pipe. sqlite3 runs the texts of the statements, which are read from the
-definitions that ours are proved by: those that read first, one by one, then those that write, in one transaction. Both take turns, in
-chunks of equal messages, and what is told is the median chunk; `writes` is sqlite3's transactions alone. Processor time is of all
-chunks, and of Python it has Python's own. In the end the rows of both files are the same, which is tested, and each file that ours
-wrote is tested whole by sqlite3.
+`measure_tables` serves what it reads over the tables of a new file, a part at a time, and tells
+the time of each part. So its times hold the reading of a message and the writing of its reply,
+but no pipe. Beside it stand two programs that run only what the tables need for each arrival, in
+one transaction (arrivals.py): `measure_kit` by the SQLite that we use, which no server over it
+can beat, and `same` by C's (WAL, synchronous FULL). All three take turns, in chunks of equal
+messages, and what is told is the median chunk; processor time is of all chunks. In the end the
+rows of all files are the same, which is tested, and each file that ours wrote is tested whole by
+C's SQLite.
 """
 import json
 import os
 import pathlib
-import re
 import shutil
 import sqlite3
 import statistics
@@ -26,11 +30,12 @@ import tempfile
 import time
 from typing import Callable, Iterable, NamedTuple
 
+import arrivals
+from arrivals import Card, Kept, Runner
 from load import post
 from make_batch import coded
 
-TOP = pathlib.Path(__file__).resolve().parent.parent
-MEASURE = sys.argv[1]
+MEASURE, KIT, SAME = sys.argv[1:4]
 HEADER = "record,aid,rank,enc,tol,dgi"
 AID = "F00000000101"
 FEW = 1_000
@@ -40,10 +45,10 @@ STEP = 1_000
 CHUNKS = 10
 ROWS = 4_096
 MOST_FILE = 16_777_216
-PAGES = 2_000
 OTHERS = 100
 SELECTED = "00A4040006" + AID
-WAITING, RUNNING, GOOD = 0, 1, 4
+EACH = 16
+ANSWERS = 40
 
 
 # ---- batch files and messages
@@ -132,152 +137,66 @@ def test_file(database: pathlib.Path) -> None:
     conn.close()
 
 
-# ---- sqlite3
+# ---- beside it
 
 
-def texts(crate: str) -> dict[str, str]:
-    """The texts of a crate's statements, by the names of their definitions."""
-    found = {}
-    for path in sorted((TOP / "crates" / crate / "specs").glob("*.antt")):
-        found.update(re.findall(r'^(\w+)_text = codes "(.*)"$', path.read_text(), re.MULTILINE))
-    return found
+class Twins:
+    """The kit's floor and C's SQLite, each over a copy of the file."""
+
+    def __init__(self, ours: Ours, folder: pathlib.Path) -> None:
+        self.folder = folder
+        self.kit = self.over_copy(ours, "kit", KIT)
+        self.same = self.over_copy(ours, "same", SAME)
+
+    def over_copy(self, ours: Ours, name: str, program: str) -> Runner:
+        """Both begin with an empty log."""
+        database = self.folder / f"{name}.db"
+        ours.copy(database)
+        conn = sqlite3.connect(database)
+        conn.execute("PRAGMA wal_checkpoint(TRUNCATE)")
+        conn.close()
+        return Runner(program, database, self.folder / "texts")
+
+    def end(self, ours: Ours) -> None:
+        """Ends both, and tests that they hold what ours does."""
+        ours.copy(self.folder / "after.db")
+        for name, runner in (("kit", self.kit), ("same", self.same)):
+            runner.end()
+            test_equal(self.folder / "after.db", self.folder / f"{name}.db")
 
 
-class Theirs:
-    """sqlite3 over a copy of the file, with as large a cache. It tells the time of reads and of transactions apart."""
-
-    def __init__(self, database: pathlib.Path) -> None:
-        self.database = database
-        self.read_texts, self.write_texts = texts("row_reads"), texts("row_writes")
-        self.conn = sqlite3.connect(database, isolation_level=None)
-        for pragma in ("journal_mode = WAL", "synchronous = FULL", "foreign_keys = ON", f"cache_size = {PAGES}"):
-            self.conn.execute(f"PRAGMA {pragma}")
-        self.conn.execute("PRAGMA wal_checkpoint(TRUNCATE)")
-        self.written = 0.0
-
-    def read(self, name: str, *values) -> list[tuple]:
-        return self.conn.execute(self.read_texts[name], values).fetchall()
-
-    def write(self, name: str, *values) -> None:
-        self.conn.execute(self.write_texts[name], values)
-
-    def write_many(self, name: str, rows: Iterable[tuple]) -> None:
-        self.conn.executemany(self.write_texts[name], rows)
-
-    def commit(self, writes: Callable[[], None], client: str, number: int, ask: bytes, told: dict) -> None:
-        """One transaction: these writes, and the reply."""
-        body = json.dumps(told, separators=(",", ":"), sort_keys=True).encode()
-        start = time.perf_counter()
-        self.conn.execute("BEGIN")
-        writes()
-        self.write("add_reply", client, number, ask, 200, body)
-        self.conn.execute("COMMIT")
-        self.written += time.perf_counter() - start
-
-    def arrives(self, client: str, number: int) -> None:
-        self.read("mark", client)
-        self.read("kept", client, number)
-
-    def segment(self, batch: str, record: str) -> None:
-        """The segment of a command is planned from the rows of its record."""
-        told = self.read("batch_told", batch)[0]
-        self.read("product", told[1])
-        place = self.read("record_named", told[0], record)[0][0]
-        self.read("groupings", told[0], place)
-
-    def session(self, session: int) -> tuple[str, str]:
-        row = self.read("session", session)[0]
-        batch = self.read("batch_name", row[1])[0][1]
-        return batch, self.read("record_at", row[1], row[2])[0][1]
-
-    def passes(self, head: tuple, record: tuple, was: int, stands: int, opened: int) -> None:
-        """A record passes to another state: its row, and the counters of its batch's."""
-        totals = list(head[3:])
-        totals[was] -= 1
-        totals[stands] += 1
-        totals[5] += opened
-        self.write("set_record", head[0], record[0], stands, record[3], record[4])
-        self.write("set_totals", head[0], *totals)
-
-    def open(self, client: str, batch: str, blank: int) -> None:
-        self.arrives(client, 1)
-        told = self.read("batch_told", batch)[0]
-        self.read("running", client)
-        self.read("lots")
-        self.read("charged", blank)
-        self.read("batch_id", batch)
-        name = self.read("waiting", told[0])[0][1]
-        self.read("last_session")
-        self.segment(batch, name)
-        number = self.read("last_session")
-        session = number[0][0] + 1 if number else 1
-        head = self.read("batch_head", batch)[0]
-        record = self.read("record_named", head[0], name)[0]
-
-        def writes() -> None:
-            self.write("add_session", session, client, head[0], record[0], blank)
-            self.write("add_blank", blank, "L1", 0)
-            self.passes(head, record, WAITING, RUNNING, 1)
-
-        told = {"batch": batch, "blank": blank, "command": SELECTED, "index": 0, "record": name, "result": "command", "session": session}
-        self.commit(writes, client, 1, b"\0" + open_body(batch, blank).encode(), told)
-
-    def answer(self, client: str, session: int, command: str) -> None:
-        """The word for the first command, behind which this one is handed out."""
-        self.arrives(client, 2)
-        self.segment(*self.session(session))
-
-        def writes() -> None:
-            self.write("add_word", session, 0, 0x9000)
-            self.write("set_session", session, 0, 1, 0, 0, 0, 1)
-
-        told = {"command": command, "index": 1, "result": "command", "session": session}
-        self.commit(writes, client, 2, b"\0" + answer_body(session, 0).encode(), told)
-
-    def last_answer(self, client: str, session: int) -> None:
-        """The word for the second command of a card that has two."""
-        self.arrives(client, 3)
-        batch, name = self.session(session)
-        self.segment(batch, name)
-        self.segment(batch, name)
-        batch, name = self.session(session)
-        head = self.read("batch_head", batch)[0]
-        record = self.read("record_named", head[0], name)[0]
-
-        def writes() -> None:
-            self.write("add_word", session, 1, 0x9000)
-            self.write("set_session", session, 1, 2, 1, 0, 0, 0)
-            self.passes(head, record, RUNNING, GOOD, 0)
-
-        self.commit(writes, client, 3, b"\0" + answer_body(session, 1).encode(), {"result": "good", "session": session})
-
-    def take(self, number: int, batch: str, raw: bytes, records: int, rows: list[tuple]) -> None:
-        """An import. Its rows are made before."""
-        self.arrives("office", number)
-        self.read("batch_told", batch)
-        self.read("product", "P1")
-        self.read("last_batch")
-        last = self.read("last_batch")
-        self.read("product", "P1")
-        new = last[0][0] + 1 if last else 1
-
-        def writes() -> None:
-            self.write("add_batch", new, batch, "P1", b"", records)
-            self.write_many("add_record", ((new, place, f"R{place}") for place in range(records)))
-            self.write_many("add_grouping", ((new, *row) for row in rows))
-            self.write("set_raw", new, raw)
-
-        told = {"batch": batch, "records": records, "result": "created", "rows": len(rows)}
-        self.commit(writes, "office", number, f"/batch/{batch}/P1".encode() + b"\0" + raw, told)
+def told(**members) -> bytes:
+    return json.dumps(members, separators=(",", ":"), sort_keys=True).encode()
 
 
-def grouping_rows(raw: bytes) -> list[tuple]:
-    """The rows of a batch file as `grouping2` has them, but for the batch."""
-    rows = []
-    for line, text in enumerate(raw.decode().split()[1:], 2):
-        record, aid, rank, enc, tol, grouping = text.split(",")
-        rows.append((line, int(record[1:]), bytes.fromhex(aid), int(rank), int(enc), int(tol), bytes.fromhex(grouping)))
-    return rows
+def opened(client: str, card: Card, session: int, blank: int) -> bytes:
+    its = {"batch": card.name, "blank": blank, "command": SELECTED, "index": 0}
+    body = told(record=f"R{card.place}", result="command", session=session, **its)
+    kept = Kept(client, 1, b"\0" + open_body(card.name, blank).encode(), body)
+    return arrivals.opening(kept, card, session, blank, "L1")
+
+
+def answered(client: str, card: Card, session: int, index: int, command: str) -> bytes:
+    """The word for a command, behind which this one is handed out: a piece of the first segment."""
+    body = told(command=command, index=index + 1, result="command", session=session)
+    kept = Kept(client, 2 + index, b"\0" + answer_body(session, index).encode(), body)
+    cursor = (0, 0, 255 * index, index + 1)
+    return arrivals.answer(kept, card, session, "P1", index, cursor)
+
+
+def ended(client: str, card: Card, session: int) -> bytes:
+    """The word for the second command of a card that has two."""
+    ask = b"\0" + answer_body(session, 1).encode()
+    kept = Kept(client, 3, ask, told(result="good", session=session))
+    return arrivals.last_answer(kept, card, session, "P1", 1, (1, 0, 0, 0))
+
+
+def taken(number: int, id_: int, batch: str, raw: bytes) -> bytes:
+    rows = arrivals.rows_of(raw)
+    records = len({row[1] for row in rows})
+    body = told(batch=batch, records=records, result="created", rows=len(rows))
+    kept = Kept("office", number, f"/batch/{batch}/P1".encode() + b"\0" + raw, body)
+    return arrivals.importing(kept, id_, batch, "P1", raw)
 
 
 def test_equal(ours: pathlib.Path, theirs: pathlib.Path) -> None:
@@ -296,39 +215,43 @@ def test_equal(ours: pathlib.Path, theirs: pathlib.Path) -> None:
 
 
 class Times(NamedTuple):
-    """Seconds for each message: ours, sqlite3's, and of these what its transactions took; and of the processor: ours, and sqlite3's."""
+    """Seconds for each message: ours, the kit's and C's; and the processor's in the same order."""
 
     ours: float
-    theirs: float
-    written: float
+    kit: float
+    same: float
     processor: float
-    their_processor: float
+    kit_processor: float
+    same_processor: float
 
 
-def in_turn(ours: Ours, theirs: Theirs, messages: list[bytes], same: Callable[[int], None], chunk: int) -> Times:
-    """Serves the messages, and runs the same by sqlite3, `same` n for message n, each in chunks that take turns."""
+def in_turn(
+    ours: Ours, twins: Twins, messages: list[bytes], same: list[bytes], chunk: int
+) -> Times:
+    """Serves the messages, and runs the same by both twins, each in chunks that take turns."""
+    runners = [twins.kit, twins.same]
+    begun = [it.processor() for it in (ours, *runners)]
     times = []
-    processor, spent = ours.processor(), 0.0
     for first in range(0, len(messages), chunk):
-        mine = ours.serve(messages[first:first + chunk])
-        written, start, begun = theirs.written, time.perf_counter(), time.process_time()
-        for n in range(first, first + chunk):
-            same(n)
-        spent += time.process_time() - begun
-        times.append((mine / chunk, (time.perf_counter() - start) / chunk, (theirs.written - written) / chunk))
-    wall = [statistics.median(column) for column in zip(*times)]
-    return Times(*wall, (ours.processor() - processor) / len(messages), spent / len(messages))
+        span = slice(first, first + chunk)
+        theirs = [sum(it.run(same[span])) for it in runners]
+        times.append([took / chunk for took in (ours.serve(messages[span]), *theirs)])
+    spent = [(it.processor() - its) / len(messages) for it, its in zip((ours, *runners), begun)]
+    return Times(*(statistics.median(column) for column in zip(*times)), *spent)
 
 
 def heading(what: str) -> None:
-    columns = "".join(f"{name:>9}" for name in ("ours", "sqlite3", "writes", "ratio", "writes", "cpu ms", "sqlite3"))
-    print(f"\n{what:44}{columns}", flush=True)
+    names = ("ours", "kit", "C", "kit's", "C's", "cpu ms", "kit", "C", "C's")
+    print(f"\n{what:44}" + "".join(f"{name:>9}" for name in names), flush=True)
 
 
 def print_times(name: str, times: Times, shown: Callable[[float], float], digits: int) -> None:
+    """Parts are those of the kit's and of C's rate, and then of C's by the processor's time."""
     columns = "".join(f"{shown(seconds):9.{digits}f}" for seconds in times[:3])
-    ratios = "".join(f"{theirs / times.ours:9.2f}" for theirs in times[1:3])
-    print(f"{name:44}{columns}{ratios}" + "".join(f"{1e3 * seconds:9.2f}" for seconds in times[3:]), flush=True)
+    parts = "".join(f"{theirs / times.ours:9.2f}" for theirs in times[1:3])
+    spent = "".join(f"{1e3 * seconds:9.2f}" for seconds in times[3:])
+    last = f"{times.same_processor / times.processor:9.2f}"
+    print(f"{name:44}{columns}{parts}{spent}{last}", flush=True)
 
 
 def print_rates(name: str, times: Times) -> None:
@@ -419,49 +342,61 @@ def measure_both(folder: pathlib.Path, sessions: int) -> list[Took]:
     folder.mkdir()
     ours = Ours(folder / "ours.db")
     spent = sum(ours.serve(messages) for messages in base_messages(sessions))
-    ours.copy(folder / "theirs.db")
-    theirs = Theirs(folder / "theirs.db")
-    size = (folder / "theirs.db").stat().st_size / 1e6
+    twins = Twins(ours, folder)
+    size = (folder / "same.db").stat().st_size / 1e6
     heading(f"commits in a second, {sessions} sessions before")
     tables = {
-        "open": opens_in_turn(ours, theirs),
-        "answer": answers_in_turn(ours, theirs, sessions),
-        "last answer": last_answers_in_turn(ours, theirs, sessions),
-        f"import of {ROWS} rows": imports_in_turn(ours, theirs),
+        "open": opens_in_turn(ours, twins, sessions),
+        "answer": answers_in_turn(ours, twins, sessions),
+        "last answer": last_answers_in_turn(ours, twins, sessions),
+        f"import of {ROWS} rows": imports_in_turn(ours, twins, sessions),
     }
     for name, times in tables.items():
         print_rates(name, times)
-    theirs.conn.close()
-    ours.copy(folder / "after.db")
-    test_equal(folder / "after.db", folder / "theirs.db")
-    print(f"(a file of {size:.0f} MB, made in {spent:.0f} s; the rows of both files are the same)", flush=True)
+    twins.end(ours)
+    end = f"a file of {size:.0f} MB, made in {spent:.0f} s; the rows of all files are the same"
+    print(f"({end})", flush=True)
     took = [Took(name, times.ours, times.processor) for name, times in tables.items()]
     took += [serve_kind(ours, kind) for kind in others(sessions)]
     ours.end()
     return took
 
 
-def opens_in_turn(ours: Ours, theirs: Theirs) -> Times:
+def last_batch(sessions: int) -> int:
+    """The id of batch M, behind those whose cards were opened before."""
+    return sessions // CARDS + 1
+
+
+def card_of(sessions: int, place: int) -> tuple[str, Card, int]:
+    """A card of batch M: its machine, its record and its session."""
+    return f"n{place}", Card(last_batch(sessions), "M", place), sessions + place + 1
+
+
+def opens_in_turn(ours: Ours, twins: Twins, sessions: int) -> Times:
     messages = [post(f"n{n}", 1, open_body("M", 900_000 + n)) for n in range(STEP)]
-    return in_turn(ours, theirs, messages, lambda n: theirs.open(f"n{n}", "M", 900_000 + n), STEP // CHUNKS)
+    same = [opened(*card_of(sessions, n), 900_000 + n) for n in range(STEP)]
+    return in_turn(ours, twins, messages, same, STEP // CHUNKS)
 
 
-def answers_in_turn(ours: Ours, theirs: Theirs, sessions: int) -> Times:
+def answers_in_turn(ours: Ours, twins: Twins, sessions: int) -> Times:
     messages = [post(f"n{n}", 2, answer_body(sessions + n + 1, 0)) for n in range(STEP)]
     handed = [f"80E2800005{coded('9001', bytes([n % 256]) * 2)}" for n in range(STEP)]
-    return in_turn(ours, theirs, messages, lambda n: theirs.answer(f"n{n}", sessions + n + 1, handed[n]), STEP // CHUNKS)
+    same = [answered(*card_of(sessions, n), 0, handed[n]) for n in range(STEP)]
+    return in_turn(ours, twins, messages, same, STEP // CHUNKS)
 
 
-def last_answers_in_turn(ours: Ours, theirs: Theirs, sessions: int) -> Times:
-    messages = [post(f"n{n}", 3, answer_body(sessions + n + 1, 1)) for n in range(STEP - 2 * OTHERS)]
-    return in_turn(ours, theirs, messages, lambda n: theirs.last_answer(f"n{n}", sessions + n + 1), STEP // CHUNKS)
+def last_answers_in_turn(ours: Ours, twins: Twins, sessions: int) -> Times:
+    span = range(STEP - 2 * OTHERS)
+    messages = [post(f"n{n}", 3, answer_body(sessions + n + 1, 1)) for n in span]
+    same = [ended(*card_of(sessions, n)) for n in span]
+    return in_turn(ours, twins, messages, same, STEP // CHUNKS)
 
 
-def imports_in_turn(ours: Ours, theirs: Theirs) -> Times:
+def imports_in_turn(ours: Ours, twins: Twins, sessions: int) -> Times:
     raw = batch_file(1_024, ROWS, 2)
-    rows = grouping_rows(raw)
     messages = [imported(9_100 + n, f"I{n}", raw) for n in range(CHUNKS)]
-    return in_turn(ours, theirs, messages, lambda n: theirs.take(9_100 + n, f"I{n}", raw, 1_024, rows), 1)
+    same = [taken(9_100 + n, last_batch(sessions) + 1 + n, f"I{n}", raw) for n in range(CHUNKS)]
+    return in_turn(ours, twins, messages, same, 1)
 
 
 def print_growth(folder: pathlib.Path) -> None:
@@ -491,42 +426,77 @@ FILES = [File("0.2 MB", 2, 100, 10), File("0.6 MB", 60, 100, 10), File("16 MB", 
 
 def measure_file(folder: pathlib.Path, file: File) -> None:
     """Prints what openings and answers take beside a batch file of 1,024 records and 4,096 rows."""
-    folder.mkdir()
     raw = batch_file(1_024, ROWS, file.data)
     raw += b"\n" * (MOST_FILE - len(raw)) if file.name == "16 MB" else b""
+    ours, twins = beside_file(folder, raw)
+    opens = [post(f"n{n}", 1, open_body("M", n)) for n in range(file.cards)]
+    same = [opened(*card_of(0, n), n) for n in range(file.cards)]
+    print_millis("open, which moves counters", in_turn(ours, twins, opens, same, file.chunk))
+    answers = [post(f"n{n}", 2, answer_body(n + 1, 0)) for n in range(file.cards)]
+    same = [answered(*card_of(0, n), 0, command_of(raw, n)) for n in range(file.cards)]
+    print_millis("answer, which moves none", in_turn(ours, twins, answers, same, file.chunk))
+    twins.end(ours)
+    ours.end()
+
+
+def beside_file(folder: pathlib.Path, raw: bytes) -> tuple[Ours, Twins]:
+    """Imports a file as batch M, which is told."""
+    folder.mkdir()
     ours = Ours(folder / "ours.db")
     ours.serve(set_up())
-    ours.copy(folder / "theirs.db")
-    theirs = Theirs(folder / "theirs.db")
+    twins = Twins(ours, folder)
     heading(f"milliseconds beside a file of {len(raw)} bytes")
-    rows = grouping_rows(raw)
-    print_millis("its import", in_turn(ours, theirs, [imported(3, "M", raw)], lambda n: theirs.take(3, "M", raw, 1_024, rows), 1))
-    opens = [post(f"n{n}", 1, open_body("M", n)) for n in range(file.cards)]
-    answers = [post(f"n{n}", 2, answer_body(n + 1, 0)) for n in range(file.cards)]
-    print_millis("open, which moves counters", in_turn(ours, theirs, opens, lambda n: theirs.open(f"n{n}", "M", n), file.chunk))
-    handed = [command_of(raw, n) for n in range(file.cards)]
-    print_millis("answer, which moves none", in_turn(ours, theirs, answers, lambda n: theirs.answer(f"n{n}", n + 1, handed[n]), file.chunk))
-    theirs.conn.close()
-    ours.copy(folder / "after.db")
-    test_equal(folder / "after.db", folder / "theirs.db")
-    ours.end()
+    asked, same = [imported(3, "M", raw)], [taken(3, 1, "M", raw)]
+    print_millis("its import", in_turn(ours, twins, asked, same, 1))
+    return ours, twins
 
 
 def command_of(raw: bytes, card: int) -> str:
     """The first STORE DATA of a card with four rows of one rank."""
     lines = raw.decode().split()[1 + 4 * card:5 + 4 * card]
-    sent = "".join(line.rpartition(",")[2] for line in lines)
-    last = len(sent) <= 510
-    return f"80E2{'80' if last else '00'}00{len(sent[:510]) // 2:02X}{sent[:510]}"
+    return piece_of("".join(line.rpartition(",")[2] for line in lines), 0)
+
+
+def piece_of(sent: str, block: int) -> str:
+    """A STORE DATA of a segment."""
+    piece = sent[510 * block:510 * (block + 1)]
+    is_last = len(sent) <= 510 * (block + 1)
+    return f"80E2{'80' if is_last else '00'}{block:02X}{len(piece) // 2:02X}{piece}"
+
+
+# ---- a record of 16 MB
+
+
+def measure_record(folder: pathlib.Path) -> None:
+    """Prints what an opening and answers take where one record has all rows, each application 16."""
+    raw = record_file()
+    ours, twins = beside_file(folder, raw)
+    opening = [post("n0", 1, open_body("M", 0))], [opened(*card_of(0, 0), 0)]
+    print_millis("open", in_turn(ours, twins, *opening, 1))
+    sent = "".join(line.rpartition(",")[2] for line in raw.decode().split()[1:1 + EACH])
+    answers = [post("n0", 2 + index, answer_body(1, index)) for index in range(ANSWERS)]
+    same = [answered(*card_of(0, 0), index, piece_of(sent, index)) for index in range(ANSWERS)]
+    print_millis("answer", in_turn(ours, twins, answers, same, 4))
+    twins.end(ours)
+    ours.end()
+
+
+def record_file() -> bytes:
+    lines = [HEADER]
+    for row in range(ROWS):
+        grouping = coded(f"{0x9001 + row % EACH:04X}", bytes([row % 256]) * 2_030)
+        lines.append(f"R0,F000000{0x101 + row // EACH:05X},1,0,0,{grouping}")
+    return ("\n".join(lines) + "\n").encode()
 
 
 def main() -> None:
-    where = sys.argv[2] if len(sys.argv) > 2 else None
+    where = sys.argv[4] if len(sys.argv) > 4 else None
     with tempfile.TemporaryDirectory(dir=where) as name:
         folder = pathlib.Path(name)
         print_disk(folder)
         for file in FILES:
             measure_file(folder / file.name.replace(" ", "_"), file)
+        measure_record(folder / "record")
         print_growth(folder)
 
 

@@ -75,7 +75,7 @@ def tables_of(version: int) -> list[Table]:
 
 INDICES = {
     "session_running": "session (machine, state)",
-    "grouping_place": "grouping2 (batch, place)",
+    "grouping_place": "grouping2 (batch, place, aid, rank, line, enc, tol)",
     "session_stands": "session (batch, state)",
     "batch_told": "batch (name, product, closed)",
     "batch_named": "batch (id, name)",

@@ -1,14 +1,28 @@
 #!/usr/bin/env python3
-"""Measures how many requests `persod serve` answers in a second, and how long one takes, beside a plain server in C on the same disk.
+"""Measures how many requests `persod serve` answers in a second, and how long one takes, beside
+three other servers on the same disk in the same run. It takes about an hour.
 
-    python3 bench/serve/speed.py PROGRAM YARDSTICK [--folder FOLDER] [--few N] [--many N] [--chunks N] [--cards N]
+    python3 bench/serve/speed.py PROGRAM YARDSTICK SAME KIT [--folder FOLDER] [--few N] [--many N]
+                                 [--chunks N] [--cards N ..]
 
-1, 4 and 20 machines open and answer whole cards of bench/make_batch.py, N to a batch, over loopback, each message on a connection of its own, each
-commit synced to the disk of FOLDER. YARDSTICK is yardstick.c, which keeps each message in one small transaction of C's SQLite. Both serve the same
-messages, in turns, in chunks of a thousand; a median of chunks is told, the middle and the slowest hundredth of all single times, and the processor's
-time of a request. This is done on files that hold 1,000 and 100,000 requests, which were asked before, of the same server on a disk in memory; the rate
-of that is told too. First comes the start on a file of 100,352 good cards with a kept reply for each, made by plain SQL, beside `PRAGMA
-integrity_check` and `foreign_key_check` by C's SQLite. Peak memory is the highest resident size."""
+1, 4 and 20 machines open and answer whole cards of bench/make_batch.py, N to a batch, over
+loopback, each message on a connection of its own, each commit synced to the disk of FOLDER. The
+others take what was asked of ours, in turns, in chunks of a thousand:
+
+    plain    YARDSTICK is yardstick.c, which keeps each message in one small transaction of C's
+             SQLite
+    same     SAME is same.c, which runs what our tables need for it (bench/arrivals.py) by C's SQLite
+    kit      KIT is bench/measure_kit.txt, which does so by the SQLite that we use: what no server
+             over that can be faster than
+
+A median of chunks is told, the middle and the slowest hundredth of all single times, the
+processor's time of a request, ours as a part of its rate, and the middle time of an opening, an
+answer that goes on, a last answer and an import. This is done on files that hold 1,000 and
+100,000 requests, which were asked before, of the same server on a disk in memory; the rate of
+that is told too. In the end `same` and `kit` hold as many rows as ours and the same counters,
+which is tested. First comes the start on a file of 100,352 good cards with a kept reply for each,
+made by plain SQL, beside `PRAGMA integrity_check` and `foreign_key_check` by C's SQLite. Peak
+memory is the highest resident size."""
 import argparse
 import json
 import os
@@ -23,10 +37,12 @@ import threading
 import time
 from typing import Any, Generator, NamedTuple
 
-from served import Server, exchange, free_port, imported, parts, request
+from served import Server, exchange, free_port, imported, parts, post, request
 
 sys.path += [str(pathlib.Path(__file__).resolve().parents[1] / name) for name in (".", "audit")]
+import arrivals  # noqa: E402
 from adopt import SHAPES, Size, all_good  # noqa: E402
+from arrivals import ANSWER, IMPORT, KINDS, LAST, OPENING, Card, Kept  # noqa: E402
 from contents import rows  # noqa: E402
 from make_batch import card  # noqa: E402
 from sound_files import make  # noqa: E402
@@ -36,7 +52,16 @@ STEP = 1_000
 LEAST = 10
 LOT = 1_000_000
 MEMORY = "/dev/shm"
+PRODUCT = "P1"
 Maker = Generator[bytes, Any, None]
+
+
+class Asked(NamedTuple):
+    """A message of a kind, and the same as what the tables need for it."""
+
+    kind: str
+    message: bytes
+    same: bytes
 
 
 class Chunk(NamedTuple):
@@ -54,6 +79,60 @@ class Yardstick(Server):
         return [program, str(database), str(self.port)]
 
 
+class Same(Server):
+    """A server over our tables that runs what a message's body asks for, until it is killed."""
+
+    def command(self, program: str, database: pathlib.Path) -> list[str]:
+        texts = arrivals.write_texts(database.with_suffix(".texts"))
+        return [program, str(database), str(texts), str(self.port)]
+
+
+class Translator:
+    """Says what the tables need for what was asked of ours and told by it. Where a card stands behind
+    an answer is not known here: a place of like size is written."""
+
+    def __init__(self, database: pathlib.Path) -> None:
+        link = sqlite3.connect(f"file:{database}?mode=ro", uri=True)
+        self.batches = dict(link.execute("SELECT name, id FROM batch"))
+        rows = "SELECT session.id, batch, name, place FROM session JOIN batch ON batch.id = batch"
+        self.cards = {session: Card(*card) for session, *card in link.execute(rows)}
+        link.close()
+
+    def asked(self, message: bytes, body: bytes) -> Asked:
+        head, _, sent = message.partition(b"\r\n\r\n")
+        _, _, client, number, *tail = head.split(b" ")[1].decode().split("/")
+        if tail:
+            kept = Kept(client, int(number), f"/{'/'.join(tail)}".encode() + b"\0" + sent, body)
+            return self.imports(message, kept, tail[1], sent)
+        kept = Kept(client, int(number), b"\0" + sent, body)
+        its, told = json.loads(sent), json.loads(body)
+        if its["do"] == "open":
+            return self.opens(message, kept, told)
+        return self.answers(message, kept, its, told)
+
+    def imports(self, message: bytes, kept: Kept, batch: str, raw: bytes) -> Asked:
+        self.batches[batch] = number = len(self.batches) + 1
+        return Asked(IMPORT, message, arrivals.importing(kept, number, batch, PRODUCT, raw))
+
+    def opens(self, message: bytes, kept: Kept, told: dict[str, Any]) -> Asked:
+        card = Card(self.batches[told["batch"]], told["batch"], int(told["record"][1:]))
+        self.cards[told["session"]] = card
+        session, blank = told["session"], told["blank"]
+        same = arrivals.opening(kept, card, session, blank, f"L{blank // LOT}")
+        return Asked(OPENING, message, same)
+
+    def answers(
+        self, message: bytes, kept: Kept, its: dict[str, Any], told: dict[str, Any]
+    ) -> Asked:
+        kind, made = ANSWER, arrivals.answer
+        if told["result"] != "command":
+            kind, made = LAST, arrivals.last_answer
+        session, index = its["session"], its["index"]
+        cursor = (0, 0, 255 * index, index + 1)
+        same = made(kept, self.cards[session], session, PRODUCT, index, cursor)
+        return Asked(kind, message, same)
+
+
 class Shop:
     """A server with its machines, each of which goes on with its card from chunk to chunk."""
 
@@ -63,29 +142,36 @@ class Shop:
         self.makers = [self.maker(f"m{place}", place * LOT) for place in range(max(MACHINES))]
         self.told: list[Any] = [None] * len(self.makers)
 
-    def ask(self, message: bytes) -> None:
-        whole = parts(exchange(self.server.port, message))
+    def ask(self, message: bytes, times: list[float]) -> bytes:
+        whole = parts(timed(self.server.port, message, times))
         if whole is None or whole[0] != 200:
             sys.exit(f"{message[:200]!r}: {whole}")
         self.number += 1
+        return whole[1]
 
     def stock(self) -> None:
-        self.ask(request("office", self.number, do="product", product="P1", max=255, low=0, check=False))
+        its = {"product": PRODUCT, "max": 255, "low": 0, "check": False}
+        self.ask(request("office", self.number, do="product", **its), [])
         for place in range(len(self.makers)):
-            self.ask(request("office", self.number, do="lot", lot=f"L{place}", product="P1", first=place * LOT, count=LOT))
+            its = {"lot": f"L{place}", "product": PRODUCT, "first": place * LOT, "count": LOT}
+            self.ask(request("office", self.number, do="lot", **its), [])
 
-    def ready(self) -> None:
-        """Imports batches until there are cards enough for a chunk."""
+    def ready(self, times: list[float]) -> list[tuple[bytes, bytes]]:
+        """Imports batches until there are cards enough for a chunk, and answers what was asked and
+        told."""
+        brought = []
         while self.batches * self.cards < self.opened + STEP // LEAST + len(self.makers):
-            self.size = self.bring()
+            brought.append(self.bring(times))
+        return brought
 
-    def bring(self) -> int:
-        """Imports a batch, and answers how many bytes it has."""
+    def bring(self, times: list[float]) -> tuple[bytes, bytes]:
+        """Imports a batch."""
         self.batches += 1
         lines = [line for place in range(self.cards) for line in card(self.draw, f"R{place}", 1)]
         raw = "\n".join(["record,aid,rank,enc,tol,dgi", *lines, ""]).encode()
-        self.ask(imported("office", self.number, f"B{self.batches}", "P1", raw))
-        return len(raw)
+        self.size = len(raw)
+        message = imported("office", self.number, f"B{self.batches}", PRODUCT, raw)
+        return message, self.ask(message, times)
 
     def next_batch(self) -> str:
         """The batch of the next card: each has a place for one. Batches are taken in the order in which they came."""
@@ -141,10 +227,10 @@ def chunk_of(server: Server, works: list[Any], count: int) -> Chunk:
     return Chunk(count / took, (server.processor() - processor) / count, whole)
 
 
-def ours(shop: Shop, machines: int, count: int) -> tuple[Chunk, list[list[bytes]]]:
-    """So many requests by so many machines, and what each of them asked."""
+def ours(shop: Shop, machines: int, count: int) -> tuple[Chunk, list[list[tuple[bytes, bytes]]]]:
+    """So many requests by so many machines, and what each of them asked and was told."""
     taken = Taken(count)
-    asked: list[list[bytes]] = [[] for _ in range(machines)]
+    asked: list[list[tuple[bytes, bytes]]] = [[] for _ in range(machines)]
 
     def work(place: int, times: list[float]) -> None:
         while taken.one():
@@ -153,7 +239,7 @@ def ours(shop: Shop, machines: int, count: int) -> tuple[Chunk, list[list[bytes]
             if whole is None or whole[0] != 200:
                 sys.exit(f"{message!r}: {whole}")
             shop.told[place] = json.loads(whole[1])
-            asked[place].append(message)
+            asked[place].append((message, whole[1]))
 
     return chunk_of(shop.server, [lambda its, place=place: work(place, its) for place in range(machines)], count), asked
 
@@ -162,31 +248,81 @@ def theirs(server: Server, asked: list[list[bytes]]) -> Chunk:
     def work(messages: list[bytes], times: list[float]) -> None:
         for message in messages:
             if parts(timed(server.port, message, times)) is None:
-                sys.exit("the yardstick gave no reply")
+                sys.exit(f"no reply of {server.process.args}")
 
     return chunk_of(server, [lambda its, messages=messages: work(messages, its) for messages in asked], sum(map(len, asked)))
 
 
-def told_times(chunks: list[Chunk]) -> str:
-    times = sorted(one for chunk in chunks for one in chunk.times)
-    return f"{statistics.median(times) * 1e3:8.2f}{times[len(times) * 99 // 100] * 1e3:8.2f}"
+class Side:
+    """A server, its chunks, and the times of each kind of message."""
+
+    def __init__(self) -> None:
+        self.chunks: list[Chunk] = []
+        self.kinds: dict[str, list[float]] = {kind: [] for kind in KINDS}
+
+    def add(self, chunk: Chunk, kinds: list[str], imports: list[float]) -> None:
+        self.chunks.append(chunk)
+        self.kinds[IMPORT] += imports
+        for kind, time_ in zip(kinds, chunk.times, strict=True):
+            self.kinds[kind].append(time_)
+
+    def told(self, ours: "Side") -> str:
+        rate = statistics.median(chunk.rate for chunk in self.chunks)
+        processor = statistics.median(chunk.processor for chunk in self.chunks)
+        times = sorted(one for chunk in self.chunks for one in chunk.times)
+        part = statistics.median(one.rate / its.rate for one, its in zip(ours.chunks, self.chunks))
+        slow = times[len(times) * 99 // 100]
+        millis = (statistics.median(times), slow, processor)
+        kinds = [statistics.median(its) if its else float("nan") for its in self.kinds.values()]
+        columns = "".join(f"{1e3 * it:9.2f}" for it in (*millis, *kinds))
+        return f"{rate:9.0f}{part:7.2f}{columns}"
 
 
-def measure(name: str, shop: Shop, plain: Server, chunks: int) -> None:
+def replayed(
+    name: str, server: Server, brought: list[Asked], asked: list[list[Asked]]
+) -> tuple[Chunk, list[float]]:
+    """What was asked of ours, of another server: the imports first, and how long they took."""
+
+    def its(one: Asked) -> bytes:
+        return one.message if name == "plain" else post("same", 0, one.same)
+
+    imports: list[float] = []
+    for one in brought:
+        timed(server.port, its(one), imports)
+    return theirs(server, [[its(one) for one in messages] for messages in asked]), imports
+
+
+def measure(
+    name: str, shop: Shop, others: dict[str, Server], translator: Translator, chunks: int
+) -> None:
     for machines in MACHINES:
-        pairs = []
+        sides = {server: Side() for server in ("ours", *others)}
         for _ in range(chunks):
-            shop.ready()
-            chunk, asked = ours(shop, machines, STEP)
-            pairs.append((chunk, theirs(plain, asked)))
-        mine, its = [pair[0] for pair in pairs], [pair[1] for pair in pairs]
-        rates = [statistics.median(chunk.rate for chunk in side) for side in (mine, its)]
-        ratio = statistics.median(pair[0].rate / pair[1].rate for pair in pairs)
-        cost = [statistics.median(chunk.processor for chunk in side) * 1e3 for side in (mine, its)]
-        print(
-            f"{name:>10}{machines:9}{rates[0]:9.0f}{told_times(mine)}{cost[0]:8.2f}{rates[1]:9.0f}{told_times(its)}{cost[1]:8.2f}{ratio:7.2f}",
-            flush=True,
-        )
+            imports: list[float] = []
+            brought = [translator.asked(*one) for one in shop.ready(imports)]
+            chunk, told = ours(shop, machines, STEP)
+            asked = [[translator.asked(*one) for one in messages] for messages in told]
+            kinds = [one.kind for messages in asked for one in messages]
+            sides["ours"].add(chunk, kinds, imports)
+            for server, its in others.items():
+                chunk, took = replayed(server, its, brought, asked)
+                sides[server].add(chunk, kinds, took)
+        for server, side in sides.items():
+            print(f"{name:>10}{machines:9}{server:>7}{side.told(sides['ours'])}", flush=True)
+
+
+def test_alike(database: pathlib.Path, other: pathlib.Path) -> None:
+    """Each table has as many rows, and each batch the same counters."""
+    held = []
+    for path in (database, other):
+        link = sqlite3.connect(path)
+        tables = link.execute("SELECT name FROM sqlite_schema WHERE type = 'table'").fetchall()
+        counts = [link.execute(f"SELECT count(*) FROM {name}").fetchone() for (name,) in tables]
+        head = "SELECT id, name, waiting, running, failed, good, sessions, spoiled FROM batch"
+        held.append((counts, link.execute(head).fetchall()))
+        link.close()
+    if held[0] != held[1]:
+        sys.exit(f"{database} and {other} hold {held[0]} and {held[1]}")
 
 
 def moved(folder: pathlib.Path, target: pathlib.Path) -> pathlib.Path:
@@ -208,7 +344,7 @@ def filled(program: str, count: int, cards: int, memory: pathlib.Path) -> Shop:
     shop.stock()
     rates = []
     for _ in range(0, count, STEP):
-        shop.ready()
+        shop.ready([])
         rates.append(ours(shop, max(MACHINES), STEP)[0].rate)
     ends = f"{rates[0]:.0f} a second the first {STEP}, {rates[-1]:.0f} the last"
     peak = f"{shop.batches} batches of {shop.size} bytes; peak {shop.server.peak() >> 20} MiB"
@@ -217,17 +353,26 @@ def filled(program: str, count: int, cards: int, memory: pathlib.Path) -> Shop:
     return shop
 
 
-def over_file(program: str, yardstick: str, folder: pathlib.Path, count: int, cards: int, chunks: int) -> None:
+def over_file(programs: argparse.Namespace, folder: pathlib.Path, count: int, cards: int) -> None:
     with tempfile.TemporaryDirectory(dir=MEMORY) as memory:
-        shop = filled(program, count, cards, pathlib.Path(memory))
-        database = moved(pathlib.Path(memory), folder / f"{count}.db")
-    shop.server = Server(program, database, free_port(), wait=False)
-    print(f"start on the file of {count} requests, {size_of(database)}: {shop.server.listen():.2f} s, peak {shop.server.peak() >> 20} MiB", flush=True)
-    plain = Yardstick(yardstick, folder / f"{count}.plain.db", free_port())
-    measure(str(count), shop, plain, chunks)
+        shop = filled(programs.program, count, cards, pathlib.Path(memory))
+        names = ("ours", "same", "kit")
+        database, same, kit = (moved(pathlib.Path(memory), folder / f"{it}.db") for it in names)
+    translator = Translator(same)
+    shop.server = Server(programs.program, database, free_port(), wait=False)
+    took = f"{shop.server.listen():.2f} s, peak {shop.server.peak() >> 20} MiB"
+    print(f"start on the file of {count} requests, {size_of(database)}: {took}", flush=True)
+    others = {
+        "plain": Yardstick(programs.yardstick, folder / "plain.db", free_port()),
+        "same": Same(programs.same, same, free_port()),
+        "kit": Same(programs.kit, kit, free_port()),
+    }
+    measure(str(count), shop, others, translator, programs.chunks)
     print(f"peak {shop.server.peak() >> 20} MiB, file {size_of(database)}", flush=True)
-    shop.server.kill()
-    plain.kill()
+    for server in (shop.server, *others.values()):
+        server.kill()
+    for other in (same, kit):
+        test_alike(database, other)
 
 
 def start_on_sessions(program: str, folder: pathlib.Path) -> None:
@@ -251,20 +396,25 @@ def main() -> None:
     words = argparse.ArgumentParser(description=__doc__, formatter_class=argparse.RawDescriptionHelpFormatter)
     words.add_argument("program")
     words.add_argument("yardstick")
+    words.add_argument("same")
+    words.add_argument("kit")
     words.add_argument("--folder")
     words.add_argument("--few", type=int, default=1_000)
     words.add_argument("--many", type=int, default=100_000)
     words.add_argument("--chunks", type=int, default=5)
-    words.add_argument("--cards", type=int, default=200)
+    words.add_argument("--cards", type=int, nargs="+", default=[200, 20])
     given = words.parse_args()
     print(f"load of the machine {', '.join(f'{load:.1f}' for load in os.getloadavg())}, {os.cpu_count()} processors")
-    side = f"{'p50 ms':>8}{'p99':>8}{'cpu ms':>8}"
-    columns = f"{'requests':>10}{'machines':>9}{'ours/s':>9}{side}{'plain/s':>9}{side}{'ratio':>7}"
+    names = ("p50", "p99", "cpu", *KINDS)
+    columns = f"{'requests':>10}{'machines':>9}{'':7}{'a second':>9}{'ours':>7}"
+    columns += "".join(f"{name.split()[0]:>9}" for name in names)
     with tempfile.TemporaryDirectory(dir=given.folder) as folder:
         start_on_sessions(given.program, pathlib.Path(folder))
+    for cards in given.cards:
         for count in (given.few, given.many):
             print(columns, flush=True)
-            over_file(given.program, given.yardstick, pathlib.Path(folder), count, given.cards, given.chunks)
+            with tempfile.TemporaryDirectory(dir=given.folder) as folder:
+                over_file(given, pathlib.Path(folder), count, cards)
     print(f"load of the machine {', '.join(f'{load:.1f}' for load in os.getloadavg())}")
 
 
