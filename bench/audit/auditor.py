@@ -1,7 +1,7 @@
 #!/usr/bin/env python3
 """Judges a file by docs/TABLES.md alone: `taken`, `81` where its tables aren't ours, `82` where its rows aren't those of sound contents.
 
-    bench/audit/auditor.py FILE
+    python3 bench/audit/auditor.py FILE
 
 prints the verdict, and what was found first. It reads a copy. The status is 0 for `taken` and 1 else. It knows nothing of the program; its
 time grows with the rows and their sorting.

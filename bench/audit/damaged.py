@@ -1,9 +1,9 @@
 #!/usr/bin/env python3
 """Makes files with one thing changed, each from a sound file, and the verdict that docs/TABLES.md has on them.
 
-    bench/audit/damaged.py [PROGRAM]
+    bench/run damaged
 
-judges each by auditor.py, and by PROGRAM where it is given, which is `persod`. Each file is made four times: with our own tables and indices, with
+judges each by auditor.py and by `persod`; without a program, as in `python3 bench/audit/damaged.py`, by auditor.py alone. Each file is made four times: with our own tables and indices, with
 the tables in another order, and in versions 2 and 1, as far as these have what is changed. Where rows are damaged a sentence of auditor.py is
 named, which has to find something. The status is 1 where a verdict is another than wanted.
 """

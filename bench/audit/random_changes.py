@@ -1,7 +1,7 @@
 #!/usr/bin/env python3
 """Changes one thing of a sound file at random, by a seed, and has auditor.py and the program judge each.
 
-    bench/audit/random_changes.py [--cases N] [--seed TEXT] [--keep FOLDER] [PROGRAM]
+    bench/run random_changes [--cases N] [--seed TEXT] [--keep FOLDER]
 
 A change is a cell with a near or a far value of its type, a row taken away, a row doubled under another key, or two cells swapped; SQLite tests
 neither checks nor references then. A change that leaves the rows, or that a key forbids, is drawn again. The files are those of contents.py, with

@@ -1,9 +1,9 @@
 #!/usr/bin/env python3
 """Makes files by plain SQL: sound ones in each version and in several orders, after VACUUM and .dump, and some whose tables aren't ours.
 
-    bench/audit/sound_files.py [PROGRAM]
+    bench/run sound_files
 
-judges each by auditor.py, and by PROGRAM where it is given, which is `persod`: a file that is taken has to hold what it held before, now in the
+judges each by auditor.py and by `persod`; without a program, as in `python3 bench/audit/sound_files.py`, by auditor.py alone. A file that is taken has to hold what it held before, now in the
 tables of version 3, and one that is refused stays. The status is 1 where a verdict is another than wanted.
 """
 import pathlib

@@ -1,0 +1,208 @@
+#!/usr/bin/env python3
+"""20,000 connections of random and hostile bytes to `persod serve`, while four machines make cards.
+
+    bench/run hostile [--folder FOLDER] [--connections N] [--slow N] [--patience N] [--seed N]
+
+Half of them are reset midway. Each of the others gets the reply that its bytes have to get, or none. N more say nothing or stop within their message,
+and as many send a byte now and then: these hold the server for 5 s and for 10 s, as docs/PROTOCOL.md says, and are told nothing. Each request of a
+machine has to be answered in the time that those before it may take, and a quarter of a second for every one that isn't slow; an import and a body of
+16 MiB have 3 s. All but slow peers have --patience times as much, which a build that isn't proved needs. What is in memory may grow by 1 MiB from the
+first tenth of the connections to the last, and by one body of 16 MiB, which the C library may keep, in a hundred connections with such bodies. In the
+end the machines' requests are asked of a server on a new file without any peer: each reply is the same byte by byte, and so are accounts, reports and
+the rows of all tables."""
+import argparse
+import pathlib
+import random
+import socket
+import statistics
+import sys
+import tempfile
+import threading
+import time
+from typing import Callable, NamedTuple
+
+from anew import check_same
+from peers import EVIL, MOST_FILE, Peer, dripping, finished, large, reset, silent, some_peer
+from served import Server, connect, exchange, free_port, get, parts, received
+from shop import MOST, Machine, Office, Sent, Shop
+
+SILENT, DRIPPING = 5.0, 10.0
+SLOWNESS = 0.5
+SHORT, LONG = 0.25, 3.0
+MACHINES, WORKERS = 4, 8
+WARM = 0.1
+BODIES = 100
+GROWTH = 1 << 20
+BATCHES = 3
+
+
+class Answered(NamedTuple):
+    """What a machine's request took, and what it may have taken at most."""
+
+    took: float
+    allowed: float
+    behind_slow: bool
+
+
+class Crowd(Shop):
+    """A shop among peers. Of each connection that isn't known to be over it keeps the longest that it may hold the server."""
+
+    def __init__(self, port: int, patience: float) -> None:
+        super().__init__(port)
+        self.short, self.long = patience * SHORT, patience * LONG
+        self.holds: dict[int, float] = {}
+        self.answered: list[Answered] = []
+
+    def begin(self, hold: float) -> tuple[socket.socket, int, float, float]:
+        """Connects, and answers its place, the time that all may take up to it, and when it began."""
+        with self.lock:
+            peer = connect(self.port)
+            self.turns += 1
+            self.holds[self.turns] = hold
+            return peer, self.turns, sum(self.holds.values()), time.monotonic()
+
+    def end(self, turn: int) -> None:
+        """It is over, and so are all before it."""
+        with self.lock:
+            for place in [place for place in self.holds if place <= turn]:
+                del self.holds[place]
+
+    def once(self, sent: Sent) -> bytes:
+        peer, turn, allowed, begun = self.begin(self.long if b"/batch/" in sent.message[:60] else self.short)
+        sent.turns.append(turn)
+        with peer:
+            peer.sendall(sent.message)
+            reply = received(peer)
+        took = time.monotonic() - begun
+        self.end(turn)
+        self.answered.append(Answered(took, allowed, allowed > SILENT))
+        if took > allowed:
+            self.wrong.append(f"{sent.message!r} took {took:.2f} s, and {allowed:.2f} s were allowed")
+        if parts(reply) is None or parts(reply)[0] == 503:
+            self.wrong.append(f"{sent.message!r}: {reply!r}")
+            self.is_over.set()
+        return reply
+
+
+class Peers:
+    """Who connects beside the machines."""
+
+    def __init__(self, shop: Crowd, seed: str) -> None:
+        self.shop, self.seed, self.draw = shop, seed, random.Random(seed)
+        self.counts: dict[str, int] = {}
+
+    def some(self, count: int, worker: int, kind: Callable[[random.Random], Peer] = some_peer) -> None:
+        """So many connections, of which half are reset midway."""
+        draw = random.Random(f"{self.seed}/{count}/{worker}")
+        for _ in range(count):
+            self.one(draw, kind(draw), draw.random() < 0.5)
+            time.sleep(draw.uniform(0, 0.01))
+
+    def one(self, draw: random.Random, peer: Peer, is_reset: bool) -> None:
+        link, turn, _, _ = self.shop.begin(self.shop.long if peer.kind == "large" else self.shop.short)
+        self.count(f"{peer.kind}, reset" if is_reset else peer.kind)
+        if is_reset:
+            link.settimeout(1)
+            try:
+                link.sendall(peer.message[: draw.randint(0, len(peer.message))])
+            except OSError:
+                pass
+            reset(link)
+            return
+        came = finished(link, peer.message)
+        link.close()
+        self.shop.end(turn)
+        if not peer.is_right(came):
+            self.shop.wrong.append(f"{peer.kind}: {peer.message[:300]!r} was told {came!r}, and not {peer.wanted!r}")
+
+    def slow(self, count: int, way: Callable[..., bytes], hold: float) -> None:
+        draw = random.Random(f"{self.seed}/{count}/{way.__name__}")
+        for _ in range(count):
+            link, turn, allowed, begun = self.shop.begin(hold + SLOWNESS)
+            came = way(link, draw)
+            took = time.monotonic() - begun
+            link.close()
+            self.shop.end(turn)
+            self.count(way.__name__)
+            if came or not hold - SLOWNESS < took < allowed + SLOWNESS:
+                self.shop.wrong.append(f"{way.__name__}: told {came!r} after {took:.2f} s, of at most {allowed:.2f}")
+            time.sleep(draw.uniform(0, 10))
+
+    def count(self, kind: str) -> None:
+        with self.shop.lock:
+            self.counts[kind] = self.counts.get(kind, 0) + 1
+
+
+def crowd(peers: Peers, connections: int, slow: int) -> None:
+    """So many connections by workers side by side, and the slow ones, and waits for their end."""
+    works = [threading.Thread(target=peers.some, args=(connections // WORKERS, worker)) for worker in range(WORKERS)]
+    works += [threading.Thread(target=peers.slow, args=(slow, silent, SILENT)), threading.Thread(target=peers.slow, args=(slow, dripping, DRIPPING))]
+    for work in works:
+        work.start()
+    for work in works:
+        work.join()
+
+
+def memory(peers: Peers, server: Server, connections: int, slow: int) -> None:
+    """Lets all peers come, and looks how much of the server is in memory."""
+    crowd(peers, int(connections * WARM), 1)
+    warm, asked = server.resident(), len(peers.shop.sent)
+    crowd(peers, connections - int(connections * WARM) - BODIES, slow - 1)
+    later, asked = server.resident(), len(peers.shop.sent) - asked
+    peers.some(BODIES, WORKERS, large)
+    last, most = server.resident(), server.peak()
+    sizes = f"{warm >> 10} KiB, with {asked} requests of the shop {later >> 10}, with {BODIES} bodies of 16 MiB {last >> 10}"
+    print(f"resident after {WARM:.0%} {sizes}; at most {most >> 10}")
+    # A server keeps the memory that an arrival let go: of a batch, its body and what a repeat must equal.
+    if later - warm > GROWTH or last - later > GROWTH + 2 * MOST_FILE:
+        peers.shop.wrong.append("memory grew")
+
+
+def told_times(answered: list[Answered]) -> str:
+    plain = [one.took for one in answered if not one.behind_slow]
+    slow = [one for one in answered if one.behind_slow]
+    nearest = max((one.took / one.allowed for one in answered), default=0)
+    text = f"{len(plain)} answered with none slow before them: median {statistics.median(plain) * 1e3:.0f} ms, longest {max(plain):.2f} s; "
+    longest = max((one.took for one in slow), default=0)
+    return text + f"{len(slow)} behind slow ones, longest {longest:.2f} s; at most {nearest:.0%} of what was allowed"
+
+
+def run(program: str, folder: pathlib.Path, connections: int, slow: int, patience: float, seed: str) -> None:
+    shop = Crowd(free_port(), patience)
+    server = Server(program, folder / "hostile.db", shop.port)
+    office = Office(shop, seed, MACHINES, 0)
+    office.stock()
+    for _ in range(BATCHES):
+        office.bring(*MOST)
+    makers = [Machine(shop, f"m{place}", seed, place * 1_000_000) for place in range(1, MACHINES + 1)]
+    threads = shop.run([*(maker.make for maker in makers), office.work])
+    peers = Peers(shop, seed)
+    memory(peers, server, connections, slow)
+    shop.is_over.set()
+    for thread in threads:
+        thread.join()
+    print(", ".join(f"{count} {kind}" for kind, count in sorted(peers.counts.items())))
+    print(told_times(shop.answered))
+    if shop.wrong:
+        sys.exit("\n".join(one[:1000] for one in shop.wrong[:20]) + f"\n{len(shop.wrong)} wrong")
+    if exchange(shop.port, get("/blanks/evil")).find(b"product-unknown") < 0:
+        sys.exit("a message without its last byte was taken")
+    check_same(program, server, folder / "hostile.db", shop, folder, EVIL)
+    print(f"{len(shop.sent)} asked by the shop, {sum(maker.good for maker in makers)} good cards; the same as without the peers, seed {seed}")
+
+
+def main() -> None:
+    words = argparse.ArgumentParser(description=__doc__, formatter_class=argparse.RawDescriptionHelpFormatter)
+    words.add_argument("program")
+    words.add_argument("--folder")
+    words.add_argument("--connections", type=int, default=20_000)
+    words.add_argument("--slow", type=int, default=6)
+    words.add_argument("--patience", type=float, default=1.0)
+    words.add_argument("--seed", default="1")
+    given = words.parse_args()
+    with tempfile.TemporaryDirectory(dir=given.folder) as folder:
+        run(given.program, pathlib.Path(folder), given.connections, given.slow, given.patience, given.seed)
+
+
+if __name__ == "__main__":
+    main()

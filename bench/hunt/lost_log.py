@@ -1,0 +1,50 @@
+#!/usr/bin/env python3
+"""Cuts the log of `persod serve` to nothing, deletes it, or moves the file away while the server runs, and looks whether the next start says so.
+
+    bench/run lost_log
+
+The server can't see it: it goes on, and answers 200. After a kill nothing of its file is left, and the next start makes a new shop. Its first event line
+is `made`, and not `opened`, so that a person stops it before a card is made."""
+import os
+import pathlib
+import sys
+import tempfile
+
+from events import expect, lines, path
+from served import Server, free_port
+from served import request
+from small_shop import FIRST, accepted, stock
+
+
+def cut(database: pathlib.Path) -> None:
+    os.truncate(f"{database}-wal", 0)
+
+
+def delete(database: pathlib.Path) -> None:
+    os.remove(f"{database}-wal")
+
+
+def move(database: pathlib.Path) -> None:
+    database.rename(database.with_name("moved.db"))
+
+
+def lost(program: str, database: pathlib.Path, loses: object) -> None:
+    server = Server(program, database, free_port())
+    stock(server.port, 10, 5)
+    loses(database)
+    accepted(server.port, request("m1", 1, do="open", batch="B1", blank=FIRST))
+    server.kill()
+    events = database.with_suffix(".events")
+    Server(program, database, free_port(), events=events).kill()
+    expect(f"the first line after {loses.__name__}", lines(events)[:1], [f"made db={path(database)}"])
+
+
+def main() -> None:
+    for loses in (cut, delete, move):
+        with tempfile.TemporaryDirectory() as name:
+            lost(sys.argv[1], pathlib.Path(name) / "shop.db", loses)
+    print("a log that was cut, one that was deleted, a file that was moved: the next start's line is `made`")
+
+
+if __name__ == "__main__":
+    main()

@@ -1,0 +1,39 @@
+#!/usr/bin/env bash
+# Builds the tests of `trials` and of `table_trials`, and refuses each of their allocations in turn, each in a child of the test that is made
+# there and goes on to the end. It fails where such a child fails, is killed, or takes over 60 seconds, and names those. A word given here
+# picks the tests whose names have it: bench/run refused memory:: picks those of single calls, and bench/run refused refused:: those over both
+# stores. Of the tests of `faults`, which take far more than the others, it refuses at most some 2000 each, evenly spread. It leaves out
+# those of files that stop at each call or stay, of damaged tables, of earlier versions served and of a file behind a socket, which fail
+# where memory is refused.
+set -euo pipefail
+cd "$(dirname "$0")/../.."
+folder=$(mktemp -d)
+trap 'rm -rf "$folder"' EXIT
+cc -O2 -shared -fPIC -o "$folder/refused.so" bench/hunt/refused.c
+ulimit -c 0
+
+# Refuses one in so many allocations of a test. Prints how many it asks for, how many were refused, and how many of those failed.
+refuse() {
+    LD_PRELOAD=$folder/refused.so STEP=$2 JOBS=$(nproc) REPORT=$folder/report "$program" "$1" >/dev/null
+    sed -n "s/^allocation /$1: &/p" "$folder/report" >>"$folder/failed"
+    tail -n 1 "$folder/report"
+}
+
+tests=0 total=0 failed=0
+for crate in trials table_trials; do
+    (cd "crates/$crate" && rt test)
+    program=crates/$crate/out/${crate}_tests
+    for test in $("$program" --list | sed -n 's/: test$//p' | grep -v -e '::a_stop_at_each_call_' -e '::files_' -e '^damaged::' -e '^carried::' -e '^served::' | grep -F -- "${1:-}"); do
+        step=1
+        if [[ $test == faults::* ]]; then
+            read -r asked _ <<<"$(refuse "$test" 1000000000)"
+            step=$((asked / 2000 + 1))
+        fi
+        read -r asked refused wrong <<<"$(refuse "$test" "$step")"
+        echo "$test: $refused of $asked"
+        tests=$((tests + 1)) total=$((total + refused)) failed=$((failed + wrong))
+    done
+done
+cat "$folder/failed"
+echo "$total allocations refused, each in a child of its own, of $tests tests: $((total - failed)) passed, $failed failed"
+[ "$total" -gt 0 ] && [ "$failed" -eq 0 ]

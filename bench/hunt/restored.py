@@ -1,0 +1,82 @@
+#!/usr/bin/env python3
+"""Goes back to a copy by the commands of docs/OPERATING.md, beside the log of a server that was killed, and looks what the next start finds.
+
+    bench/run restored
+
+The copy is made after `served N`. The server goes on, opens four cards, finishes one, and is killed, so a newer log lies beside the file. The page's commands
+move both away, put the copy in their place, and name what the copy lacks: the four blanks, and the record of the finished card. The next start's event line
+says what the copy holds, and C's SQLite finds the file whole. What comes of the copy beside the newer log is printed."""
+import os
+import pathlib
+import shutil
+import subprocess
+import sys
+import tempfile
+
+from commands import DAY, TOP, blocks, commands
+from events import expect, lines, path
+from opened import open_cards
+from served import Server, Stopped, free_port, request
+from small_shop import FIRST, accepted, kept, stock
+
+
+def killed(program: str, folder: pathlib.Path) -> pathlib.Path:
+    """A file whose server was killed, and a copy of it from before, where the page has it."""
+    database, backup = folder / "shop.db", folder / "backup"
+    server = Server(program, database, free_port(), 3)
+    stock(server.port, 10, 5)
+    server.served()
+    backup.mkdir()
+    shutil.copyfile(database, backup / f"{DAY}.db")
+    server = Server(program, database, free_port())
+    open_cards(server.port, 4)
+    for index in range(2):
+        accepted(server.port, request("m2", 2 + index, do="answer", session=3, index=index, sw="9000"))
+    server.kill()
+    return database
+
+
+def restored_by_page(program: str, folder: pathlib.Path) -> list[str]:
+    """What the page's commands print, one after the other."""
+    found = [block for block in blocks((TOP / "docs" / "OPERATING.md").read_text()) if "mkdir old" in block.text() or "ATTACH" in block.text()]
+    (folder / "bin").mkdir()
+    (folder / "bin" / "persod").symlink_to(os.path.abspath(program))
+    environment = {**os.environ, "PATH": f"{folder / 'bin'}:{os.environ['PATH']}"}
+    printed = []
+    for command in (command for block in found for command in commands(block)):
+        ran = subprocess.run(["bash", "-c", command.text], cwd=folder, env=environment, capture_output=True, text=True, timeout=300)
+        expect(f"the errors of {command.text}", (ran.returncode, ran.stderr), (0, ""))
+        printed.append(ran.stdout)
+    return printed
+
+
+def start(program: str, database: pathlib.Path) -> str:
+    """The first event line of a start, or how it ended."""
+    events = database.with_suffix(".events")
+    try:
+        Server(program, database, free_port(), 1, events=events).kill()
+    except Stopped as stop:
+        return str(stop)
+    return "".join(lines(events)[:1])
+
+
+def main() -> None:
+    program = sys.argv[1]
+    with tempfile.TemporaryDirectory() as name:
+        database = killed(program, pathlib.Path(name))
+        *moved, report, blanks, records = restored_by_page(program, pathlib.Path(name))
+        expect("what is printed at first", moved, [""] * 3)
+        expect("the report", report.splitlines()[:4], ["batch B1", "product P1", "state open", "record R1 waiting 0 -"])
+        expect("the blanks", blanks.split(), [str(FIRST + place) for place in range(4)])
+        expect("the records", records.split(), ["B1|R3"])
+        expect("restored", start(program, database), f"opened db={path(database)} log=none batches=1 sessions=0 replies=3")
+        expect("the replies", len(kept(database)), 3)
+    with tempfile.TemporaryDirectory() as name:
+        database = killed(program, pathlib.Path(name))
+        shutil.copyfile(pathlib.Path(name) / "backup" / f"{DAY}.db", database)
+        beside = start(program, database)
+    print(f"restored by the page: as the copy was; beside the newer log: {beside}")
+
+
+if __name__ == "__main__":
+    main()

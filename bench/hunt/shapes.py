@@ -1,0 +1,256 @@
+#!/usr/bin/env python3
+"""Hunts for giving up: want of memory, a fault of the store or a failed write that is told where there was none.
+
+No clause can forbid that for one shape of input alone. So this makes batches, exchanges and messages of every shape and size up to each
+limit, by a seed, as files in the formats of docs/WORKED.md. They run through the program `worked`, which fails on any giving up and on any
+two ways that differ; some hundreds more run through `persod plan` and `persod drill`. A case is one batch, one ask or one message.
+
+What must come out is told by small models (shapes_batches.py, shapes_machine.py), which follow docs/PROFILE.md and docs/PROTOCOL.md and
+know nothing of the program; where bytes were changed at random it is `any`. At the end stand the cases of each kind and the largest of
+each size. The status is 1 where anything differed; the cases that did then stay in a folder that is named, each in a file of its own:
+shrink such a case by hand into a file of crates/worked/data.
+
+The programs are the proved ones, from `rt run` in crates/worked and in crates/persod, where they are newer than the sources. Else `rt try`
+builds them with checks; they are then some hundred times slower, so give --cases 200 or so.
+"""
+import argparse
+import concurrent.futures
+import os
+import pathlib
+import re
+import shutil
+import subprocess
+import sys
+import tempfile
+import time
+from typing import NamedTuple
+
+from shapes_batches import SHAPES, Plan, by_record, commands_of, long_plans, options, plan_case, plan_cases, some_plan
+from shapes_draw import COUNTS, MOST, MOST_FILE, Case, Draw, changed, unpacked
+from shapes_exchanges import exchange_cases, long_report, long_talks, longest_session, talk_of
+from shapes_messages import message_cases
+
+TOP = pathlib.Path(__file__).resolve().parents[2]
+CRATES = TOP / "crates"
+SEED = "shapes"
+CASES = 20_000
+# With so many cases come the long ones.
+LONG = 10_000
+# How many records of the longest report are made, and how many withdrawn: enough for more than 65,536 bytes, and no more, since over lists each
+# further card costs more than the one before.
+REPORT = (840, 184)
+# The most that a program may run.
+SECONDS = 7200
+
+
+def below(crate: str) -> set[str]:
+    """The crate, and those of this repository that it stands on."""
+    lines = [line.split(":") for line in (TOP / "crates.txt").read_text().splitlines() if ":" in line and not line.startswith("#")]
+    named = {name.split()[0]: its.split() for name, its in lines}
+    found, left = set(), [crate]
+    while left:
+        found.add(one := left.pop())
+        left += [it for it in named[one] if it in named and it not in found]
+    return found
+
+
+def proved(crate: str) -> str | None:
+    """The proved program, if it is newer than its sources."""
+    program = CRATES / crate / "out" / crate
+    newest = max(path.stat().st_mtime for name in below(crate) for path in (CRATES / name / "src").glob("**/*.rt"))
+    return str(program) if program.is_file() and program.stat().st_mtime > newest else None
+
+
+def outcome(words: list[str], where: pathlib.Path, given: bytes = b"") -> tuple[int, str, str]:
+    """The status, the output and the errors of a program; one that doesn't end has none."""
+    try:
+        done = subprocess.run(words, cwd=where, input=given, capture_output=True, timeout=SECONDS)
+    except subprocess.TimeoutExpired:
+        return 124, "", f"no end in {SECONDS} s"
+    return done.returncode, done.stdout.decode("latin-1"), done.stderr.decode("latin-1")
+
+
+class Hunt:
+    """Files of cases, and what came of them."""
+
+    def __init__(self, folder: pathlib.Path, jobs: int) -> None:
+        self.folder, self.jobs = folder, jobs
+        self.program = proved("worked")
+        self.wanted: dict[str, int] = {}
+        self.failed: list[str] = []
+
+    def put(self, kind: str, cases: list[Case], most: int) -> None:
+        """The cases stand in files of so many."""
+        for cut in range(0, len(cases), most):
+            name = f"{kind}-{len(self.wanted):04}.{cases[cut].kind}"
+            taken = cases[cut:cut + most]
+            (self.folder / name).write_text("".join(case.text for case in taken))
+            self.wanted[name] = len(taken)
+
+    def run(self, names: list[str]) -> str:
+        """What `worked` says of these files."""
+        words = [self.program, *names]
+        if self.program is None:
+            words = ["rt", "try", "--seconds", str(SECONDS)]
+            for name in names:
+                words += ["--data", f"{name}={self.folder / name}"]
+            words += ["--", *names]
+        where = self.folder if self.program else CRATES / "worked"
+        status, out, err = outcome(words, where)
+        return out + ("" if status == 0 else f"status {status}\n{err[-3000:]}")
+
+    def run_all(self) -> None:
+        """The long ones go first, and of the others the largest. `rt try` builds once for each call, so it gets many files."""
+        names = sorted(self.wanted, key=lambda name: (not name.startswith("long"), -(self.folder / name).stat().st_size))
+        parts = [[name] for name in names] if self.program else [names[k::self.jobs] for k in range(self.jobs) if names[k::self.jobs]]
+        with concurrent.futures.ThreadPoolExecutor(self.jobs) as pool:
+            for part, said in zip(parts, pool.map(self.run, parts)):
+                self.look(part, said)
+
+    def look(self, names: list[str], said: str) -> None:
+        right = {f"{name}: {self.wanted[name]} cases" for name in names}
+        wrong = [line for line in said.splitlines() if line not in right]
+        if wrong or len(said.splitlines()) != len(right):
+            self.failed += [name for name in names if f"{name}: {self.wanted[name]} cases" not in said.splitlines()]
+            print("\n".join(line[:400] for line in wrong[:40]), flush=True)
+
+    def alone(self) -> None:
+        """The cases of the files that failed, each in a file of its own, so that those that fail are known."""
+        singles = {}
+        for name in self.failed:
+            stem, _, kind = name.rpartition(".")
+            for k, text in enumerate(re.split(r"^(?=== )", (self.folder / name).read_text(), flags=re.M)[1:]):
+                singles[f"{stem}-{k:03}.{kind}"] = text
+        for name, text in singles.items():
+            (self.folder / name).write_text(text)
+        said = self.run(list(singles)).splitlines()
+        for name, text in singles.items():
+            if f"{name}: 1 cases" in said:
+                (self.folder / name).unlink()
+            else:
+                print(f"failed: {self.folder / name} {text.splitlines()[0]}")
+
+
+# The program `persod`.
+
+
+class Run(NamedTuple):
+    """A run of the program, and what it must write and end with; no text: whatever comes, with status 0 or 1."""
+
+    name: str
+    words: list[str]
+    given: bytes
+    status: int
+    out: str | None
+    err: str
+
+
+def printed(plan: Plan) -> str:
+    return "".join(f"record {name}\n" + "".join(command.text + "\n" for command in commands_of(rows, plan.product))
+                   for name, rows in by_record(plan.rows or []).items())
+
+
+def plan_run(draw: Draw, k: int) -> Run:
+    plan = some_plan(draw, SHAPES[4] if draw.chance(0.2) else None)
+    words, name = ["plan", *options(plan.product)], f"plan-{k:03}"
+    if draw.chance(0.1):
+        return Run(name, words, changed(draw, plan.raw, MOST_FILE), 0, None, "")
+    if plan.fault:
+        return Run(name, words, plan.raw, 1, "", f"refused {plan.fault[0]} row {plan.fault[1]}\n")
+    return Run(name, words, plan.raw, 0, printed(plan), "")
+
+
+def drill_run(draw: Draw, k: int) -> Run:
+    script, out = talk_of(draw, ["office"], draw.size(5, 100)).script()
+    return Run(f"drill-{k:03}", ["drill"], unpacked(script).encode(), 0, out, "")
+
+
+def is_right(run: Run, status: int, out: str, err: str) -> bool:
+    if run.out is None:
+        return status == 0 and out != "" or status == 1 and err.startswith("refused ")
+    return (status, out, err) == (run.status, run.out, run.err)
+
+
+def run_persod(runs: list[Run], jobs: int) -> list[Run]:
+    """The runs that were not right."""
+    program = proved("persod")
+    if program is None:
+        return tried_persod(runs)
+
+    def one(run: Run) -> bool:
+        return is_right(run, *outcome([program, *run.words], CRATES, run.given))
+
+    with concurrent.futures.ThreadPoolExecutor(jobs) as pool:
+        return [run for run, right in zip(runs, pool.map(one, runs)) if not right]
+
+
+def tried_persod(runs: list[Run]) -> list[Run]:
+    """`rt try` runs the program on each file of a folder. What a run writes stands behind its name, what it tells before its end."""
+    with tempfile.TemporaryDirectory() as folder:
+        for run in runs:
+            path = pathlib.Path(folder) / run.name
+            path.write_bytes(run.given)
+            path.with_suffix(".args").write_text("\n".join(run.words) + "\n")
+        _, out, err = outcome(["rt", "try", "--seconds", str(SECONDS), "--cases", folder], CRATES / "persod")
+    _, *names_and_texts = re.split(r"^== (\S+)\n", out, flags=re.M)
+    written = dict(zip(names_and_texts[::2], names_and_texts[1::2]))
+    ends = re.findall(r"((?:^(?!case=).*\n)*)^case=(\S+) run=ended status=(\d+)", err, flags=re.M)
+    ended = {name: (int(status), written.get(name, ""), told) for told, name, status in ends}
+    return [run for run in runs if not is_right(run, *ended.get(run.name, (-1, "", "")))]
+
+
+def print_figures(seconds: float) -> None:
+    print(f"\n{sum(COUNTS.values())} cases in {seconds:.0f} s\n")
+    for name, count in sorted(COUNTS.items()):
+        print(f"{count:7} {name}")
+    print("\nthe largest\n")
+    for name, size in sorted(MOST.items()):
+        print(f"{size:20,} {name.replace('_', ' ')}")
+
+
+def hunted(hunt: Hunt, seed: str, cases: int) -> None:
+    """Writes the files: six in twenty cases are batches, nine are asks and five are messages. The long ones come on top."""
+    if cases >= LONG:
+        hunt.put("long", [long_report(Draw(seed + " long report"), "office", *REPORT).drill("a long report")], 1)
+        hunt.put("long", [longest_session(Draw(seed + " longest session"), "office").drill("the longest session")], 1)
+        hunt.put("long", [talk.case(f"a long exchange {k}") for k, talk in enumerate(long_talks(Draw(seed + " long exchanges")))], 1)
+        hunt.put("long", [plan_case(plan, f"a long batch {k}") for k, plan in enumerate(long_plans(Draw(seed + " long batches")))], 1)
+    hunt.put("batches", plan_cases(Draw(seed + " batches"), cases * 6 // 20), 50)
+    hunt.put("exchanges", exchange_cases(Draw(seed + " exchanges"), cases * 9 // 20), 8)
+    hunt.put("messages", message_cases(Draw(seed + " messages"), cases * 5 // 20), 20)
+
+
+def persod(draw: Draw, cases: int, jobs: int, folder: pathlib.Path) -> list[Run]:
+    """Runs of the program, one for each forty cases; those that were not right."""
+    runs = [plan_run(draw, k) for k in range(cases // 60)] + [drill_run(draw, k) for k in range(cases // 120)]
+    wrong = run_persod(runs, jobs)
+    for run in wrong:
+        (folder / run.name).write_bytes(run.given)
+        print(f"failed: persod {' '.join(run.words)} <{folder / run.name}")
+    print(f"{len(runs)} runs of persod, {len(wrong)} of them wrong", flush=True)
+    return wrong
+
+
+def main() -> None:
+    words = argparse.ArgumentParser(description=__doc__, formatter_class=argparse.RawDescriptionHelpFormatter)
+    words.add_argument("--seed", default=SEED)
+    words.add_argument("--cases", type=int, default=CASES, help=f"the long ones come with {LONG} and more")
+    words.add_argument("--jobs", type=int, default=os.cpu_count() or 1)
+    given = words.parse_args()
+    folder = pathlib.Path(tempfile.mkdtemp(prefix="shapes-"))
+    hunt, start = Hunt(folder, given.jobs), time.monotonic()
+    hunted(hunt, given.seed, given.cases)
+    print(f"seed {given.seed}: {len(hunt.wanted)} files, by the {'proved' if hunt.program else 'tried'} program", flush=True)
+    hunt.run_all()
+    wrong = persod(Draw(given.seed + " persod"), given.cases, given.jobs, folder)
+    print_figures(time.monotonic() - start)
+    if hunt.failed:
+        hunt.alone()
+    if hunt.failed or wrong:
+        sys.exit(f"{len(hunt.failed)} files and {len(wrong)} runs of persod failed; they are in {folder}")
+    shutil.rmtree(folder)
+    print("\nnothing gave up, and no two ways differed")
+
+
+if __name__ == "__main__":
+    main()

@@ -1,0 +1,419 @@
+#!/usr/bin/env python3
+"""Measures how many requests `persod serve` answers in a second, and how long one takes, beside
+three other servers on the same disk in the same run. It takes about an hour.
+
+    bench/run speed [--folder FOLDER] [--few N] [--many N] [--chunks N] [--cards N ..]
+
+1, 4 and 20 machines open and answer whole cards of make_batch.py, N to a batch, over
+loopback, each message on a connection of its own, each commit synced to the disk of FOLDER. The
+others take what was asked of ours, in turns, in chunks of a thousand:
+
+    plain    c/yardstick.c, which keeps each message in one small transaction of C's
+             SQLite
+    same     c/same.c, which runs what our tables need for it (arrivals.py) by C's SQLite
+    kit      programs/measure_kit.txt, which does so by the SQLite that we use: what no server
+             over that can be faster than
+
+A median of chunks is told, the middle and the slowest hundredth of all single times, the
+processor's time of a request, ours as a part of its rate, and the middle time of an opening, an
+answer that goes on, a last answer and an import. This is done on files that hold 1,000 and
+100,000 requests, which were asked before, of the same server on a disk in memory; the rate of
+that is told too. In the end `same` and `kit` hold as many rows as ours and the same counters,
+which is tested. First comes the start on a file of 100,352 good cards with a kept reply for each,
+made by plain SQL, beside `PRAGMA integrity_check` and `foreign_key_check` by C's SQLite. Peak
+memory is the highest resident size."""
+import argparse
+import json
+import os
+import pathlib
+import random
+import shutil
+import sqlite3
+import statistics
+import sys
+import tempfile
+import threading
+import time
+from typing import Any, Generator, NamedTuple
+
+import arrivals
+from adopt import SHAPES, Size, all_good
+from arrivals import ANSWER, IMPORT, KINDS, LAST, OPENING, Card, Kept
+from contents import rows
+from make_batch import card
+from served import Server, exchange, free_port, imported, parts, post, request
+from sound_files import make
+
+MACHINES = 1, 4, 20
+STEP = 1_000
+LEAST = 10
+LOT = 1_000_000
+MEMORY = "/dev/shm"
+PRODUCT = "P1"
+Maker = Generator[bytes, Any, None]
+
+
+class Asked(NamedTuple):
+    """A message of a kind, and the same as what the tables need for it."""
+
+    kind: str
+    message: bytes
+    same: bytes
+
+
+class Chunk(NamedTuple):
+    """Requests in a second, the processor's seconds of each, and how long each took."""
+
+    rate: float
+    processor: float
+    times: list[float]
+
+
+class Yardstick(Server):
+    """The plain server in C. It ends when it is killed."""
+
+    def command(self, program: str, database: pathlib.Path) -> list[str]:
+        return [program, str(database), str(self.port)]
+
+
+class Same(Server):
+    """A server over our tables that runs what a message's body asks for, until it is killed."""
+
+    def command(self, program: str, database: pathlib.Path) -> list[str]:
+        texts = arrivals.write_texts(database.with_suffix(".texts"))
+        return [program, str(database), str(texts), str(self.port)]
+
+
+class Translator:
+    """Says what the tables need for what was asked of ours and told by it. Where a card stands behind
+    an answer is not known here: a place of like size is written."""
+
+    def __init__(self, database: pathlib.Path) -> None:
+        link = sqlite3.connect(f"file:{database}?mode=ro", uri=True)
+        self.batches = dict(link.execute("SELECT name, id FROM batch"))
+        rows = "SELECT session.id, batch, name, place FROM session JOIN batch ON batch.id = batch"
+        self.cards = {session: Card(*card) for session, *card in link.execute(rows)}
+        link.close()
+
+    def asked(self, message: bytes, body: bytes) -> Asked:
+        head, _, sent = message.partition(b"\r\n\r\n")
+        _, _, client, number, *tail = head.split(b" ")[1].decode().split("/")
+        if tail:
+            kept = Kept(client, int(number), f"/{'/'.join(tail)}".encode() + b"\0" + sent, body)
+            return self.imports(message, kept, tail[1], sent)
+        kept = Kept(client, int(number), b"\0" + sent, body)
+        its, told = json.loads(sent), json.loads(body)
+        if its["do"] == "open":
+            return self.opens(message, kept, told)
+        return self.answers(message, kept, its, told)
+
+    def imports(self, message: bytes, kept: Kept, batch: str, raw: bytes) -> Asked:
+        self.batches[batch] = number = len(self.batches) + 1
+        return Asked(IMPORT, message, arrivals.importing(kept, number, batch, PRODUCT, raw))
+
+    def opens(self, message: bytes, kept: Kept, told: dict[str, Any]) -> Asked:
+        card = Card(self.batches[told["batch"]], told["batch"], int(told["record"][1:]))
+        self.cards[told["session"]] = card
+        session, blank = told["session"], told["blank"]
+        same = arrivals.opening(kept, card, session, blank, f"L{blank // LOT}")
+        return Asked(OPENING, message, same)
+
+    def answers(
+        self, message: bytes, kept: Kept, its: dict[str, Any], told: dict[str, Any]
+    ) -> Asked:
+        kind, made = ANSWER, arrivals.answer
+        if told["result"] != "command":
+            kind, made = LAST, arrivals.last_answer
+        session, index = its["session"], its["index"]
+        cursor = (0, 0, 255 * index, index + 1)
+        same = made(kept, self.cards[session], session, PRODUCT, index, cursor)
+        return Asked(kind, message, same)
+
+
+class Shop:
+    """A server with its machines, each of which goes on with its card from chunk to chunk."""
+
+    def __init__(self, server: Server, cards: int) -> None:
+        self.server, self.cards, self.draw, self.batches, self.number = server, cards, random.Random(1), 0, 1
+        self.lock, self.opened, self.size = threading.Lock(), 0, 0
+        self.makers = [self.maker(f"m{place}", place * LOT) for place in range(max(MACHINES))]
+        self.told: list[Any] = [None] * len(self.makers)
+
+    def ask(self, message: bytes, times: list[float]) -> bytes:
+        whole = parts(timed(self.server.port, message, times))
+        if whole is None or whole[0] != 200:
+            sys.exit(f"{message[:200]!r}: {whole}")
+        self.number += 1
+        return whole[1]
+
+    def stock(self) -> None:
+        its = {"product": PRODUCT, "max": 255, "low": 0, "check": False}
+        self.ask(request("office", self.number, do="product", **its), [])
+        for place in range(len(self.makers)):
+            its = {"lot": f"L{place}", "product": PRODUCT, "first": place * LOT, "count": LOT}
+            self.ask(request("office", self.number, do="lot", **its), [])
+
+    def ready(self, times: list[float]) -> list[tuple[bytes, bytes]]:
+        """Imports batches until there are cards enough for a chunk, and answers what was asked and
+        told."""
+        brought = []
+        while self.batches * self.cards < self.opened + STEP // LEAST + len(self.makers):
+            brought.append(self.bring(times))
+        return brought
+
+    def bring(self, times: list[float]) -> tuple[bytes, bytes]:
+        """Imports a batch."""
+        self.batches += 1
+        lines = [line for place in range(self.cards) for line in card(self.draw, f"R{place}", 1)]
+        raw = "\n".join(["record,aid,rank,enc,tol,dgi", *lines, ""]).encode()
+        self.size = len(raw)
+        message = imported("office", self.number, f"B{self.batches}", PRODUCT, raw)
+        return message, self.ask(message, times)
+
+    def next_batch(self) -> str:
+        """The batch of the next card: each has a place for one. Batches are taken in the order in which they came."""
+        with self.lock:
+            self.opened += 1
+            return f"B{1 + (self.opened - 1) // self.cards}"
+
+    def maker(self, name: str, blank: int) -> Maker:
+        """A machine: its next message for each reply."""
+        number = 0
+        while True:
+            number, blank = number + 1, blank + 1
+            told = yield request(name, number, do="open", batch=self.next_batch(), blank=blank)
+            while told["result"] == "command":
+                number += 1
+                told = yield request(name, number, do="answer", session=told["session"], index=told["index"], sw="9000")
+            if told["result"] != "good":
+                sys.exit(f"{name}: {told}")
+
+
+class Taken:
+    """So many turns, taken by whoever comes first."""
+
+    def __init__(self, count: int) -> None:
+        self.left, self.lock = count, threading.Lock()
+
+    def one(self) -> bool:
+        with self.lock:
+            self.left -= 1
+            return self.left >= 0
+
+
+def timed(port: int, message: bytes, times: list[float]) -> bytes:
+    begun = time.perf_counter()
+    reply = exchange(port, message)
+    times.append(time.perf_counter() - begun)
+    return reply
+
+
+def chunk_of(server: Server, works: list[Any], count: int) -> Chunk:
+    """Runs the works side by side, each with a list for its times."""
+    times: list[list[float]] = [[] for _ in works]
+    threads = [threading.Thread(target=work, args=(its,)) for work, its in zip(works, times)]
+    begun, processor = time.perf_counter(), server.processor()
+    for thread in threads:
+        thread.start()
+    for thread in threads:
+        thread.join()
+    took = time.perf_counter() - begun
+    whole = [one for its in times for one in its]
+    if len(whole) != count:
+        sys.exit(f"{len(whole)} of {count} were answered")
+    return Chunk(count / took, (server.processor() - processor) / count, whole)
+
+
+def ours(shop: Shop, machines: int, count: int) -> tuple[Chunk, list[list[tuple[bytes, bytes]]]]:
+    """So many requests by so many machines, and what each of them asked and was told."""
+    taken = Taken(count)
+    asked: list[list[tuple[bytes, bytes]]] = [[] for _ in range(machines)]
+
+    def work(place: int, times: list[float]) -> None:
+        while taken.one():
+            message = shop.makers[place].send(shop.told[place])
+            whole = parts(timed(shop.server.port, message, times))
+            if whole is None or whole[0] != 200:
+                sys.exit(f"{message!r}: {whole}")
+            shop.told[place] = json.loads(whole[1])
+            asked[place].append((message, whole[1]))
+
+    return chunk_of(shop.server, [lambda its, place=place: work(place, its) for place in range(machines)], count), asked
+
+
+def theirs(server: Server, asked: list[list[bytes]]) -> Chunk:
+    def work(messages: list[bytes], times: list[float]) -> None:
+        for message in messages:
+            if parts(timed(server.port, message, times)) is None:
+                sys.exit(f"no reply of {server.process.args}")
+
+    return chunk_of(server, [lambda its, messages=messages: work(messages, its) for messages in asked], sum(map(len, asked)))
+
+
+class Side:
+    """A server, its chunks, and the times of each kind of message."""
+
+    def __init__(self) -> None:
+        self.chunks: list[Chunk] = []
+        self.kinds: dict[str, list[float]] = {kind: [] for kind in KINDS}
+
+    def add(self, chunk: Chunk, kinds: list[str], imports: list[float]) -> None:
+        self.chunks.append(chunk)
+        self.kinds[IMPORT] += imports
+        for kind, time_ in zip(kinds, chunk.times, strict=True):
+            self.kinds[kind].append(time_)
+
+    def told(self, ours: "Side") -> str:
+        rate = statistics.median(chunk.rate for chunk in self.chunks)
+        processor = statistics.median(chunk.processor for chunk in self.chunks)
+        times = sorted(one for chunk in self.chunks for one in chunk.times)
+        part = statistics.median(one.rate / its.rate for one, its in zip(ours.chunks, self.chunks))
+        slow = times[len(times) * 99 // 100]
+        millis = (statistics.median(times), slow, processor)
+        kinds = [statistics.median(its) if its else float("nan") for its in self.kinds.values()]
+        columns = "".join(f"{1e3 * it:9.2f}" for it in (*millis, *kinds))
+        return f"{rate:9.0f}{part:7.2f}{columns}"
+
+
+def replayed(
+    name: str, server: Server, brought: list[Asked], asked: list[list[Asked]]
+) -> tuple[Chunk, list[float]]:
+    """What was asked of ours, of another server: the imports first, and how long they took."""
+
+    def its(one: Asked) -> bytes:
+        return one.message if name == "plain" else post("same", 0, one.same)
+
+    imports: list[float] = []
+    for one in brought:
+        timed(server.port, its(one), imports)
+    return theirs(server, [[its(one) for one in messages] for messages in asked]), imports
+
+
+def measure(
+    name: str, shop: Shop, others: dict[str, Server], translator: Translator, chunks: int
+) -> None:
+    for machines in MACHINES:
+        sides = {server: Side() for server in ("ours", *others)}
+        for _ in range(chunks):
+            imports: list[float] = []
+            brought = [translator.asked(*one) for one in shop.ready(imports)]
+            chunk, told = ours(shop, machines, STEP)
+            asked = [[translator.asked(*one) for one in messages] for messages in told]
+            kinds = [one.kind for messages in asked for one in messages]
+            sides["ours"].add(chunk, kinds, imports)
+            for server, its in others.items():
+                chunk, took = replayed(server, its, brought, asked)
+                sides[server].add(chunk, kinds, took)
+        for server, side in sides.items():
+            print(f"{name:>10}{machines:9}{server:>7}{side.told(sides['ours'])}", flush=True)
+
+
+def test_alike(database: pathlib.Path, other: pathlib.Path) -> None:
+    """Each table has as many rows, and each batch the same counters."""
+    held = []
+    for path in (database, other):
+        link = sqlite3.connect(path)
+        tables = link.execute("SELECT name FROM sqlite_schema WHERE type = 'table'").fetchall()
+        counts = [link.execute(f"SELECT count(*) FROM {name}").fetchone() for (name,) in tables]
+        head = "SELECT id, name, waiting, running, failed, good, sessions, spoiled FROM batch"
+        held.append((counts, link.execute(head).fetchall()))
+        link.close()
+    if held[0] != held[1]:
+        sys.exit(f"{database} and {other} hold {held[0]} and {held[1]}")
+
+
+def moved(folder: pathlib.Path, target: pathlib.Path) -> pathlib.Path:
+    """Copies a file and its log from the disk in memory."""
+    for end in ("", "-wal"):
+        if (path := folder / f"shop.db{end}").exists():
+            shutil.copyfile(path, f"{target}{end}")
+    return target
+
+
+def size_of(database: pathlib.Path) -> str:
+    sizes = [path.stat().st_size / (1 << 20) for path in (database, pathlib.Path(f"{database}-wal")) if path.exists()]
+    return " + ".join(f"{size:.0f}" for size in sizes) + " MiB"
+
+
+def filled(program: str, count: int, cards: int, memory: pathlib.Path) -> Shop:
+    """A shop that was asked so many requests on a disk in memory; its server is killed."""
+    shop = Shop(Server(program, memory / "shop.db", free_port()), cards)
+    shop.stock()
+    rates = []
+    for _ in range(0, count, STEP):
+        shop.ready([])
+        rates.append(ours(shop, max(MACHINES), STEP)[0].rate)
+    ends = f"{rates[0]:.0f} a second the first {STEP}, {rates[-1]:.0f} the last"
+    peak = f"{shop.batches} batches of {shop.size} bytes; peak {shop.server.peak() >> 20} MiB"
+    print(f"{count} requests on a disk in memory: {ends}; {peak}", flush=True)
+    shop.server.kill()
+    return shop
+
+
+def over_file(programs: argparse.Namespace, folder: pathlib.Path, count: int, cards: int) -> None:
+    with tempfile.TemporaryDirectory(dir=MEMORY) as memory:
+        shop = filled(programs.program, count, cards, pathlib.Path(memory))
+        names = ("ours", "same", "kit")
+        database, same, kit = (moved(pathlib.Path(memory), folder / f"{it}.db") for it in names)
+    translator = Translator(same)
+    shop.server = Server(programs.program, database, free_port(), wait=False)
+    took = f"{shop.server.listen():.2f} s, peak {shop.server.peak() >> 20} MiB"
+    print(f"start on the file of {count} requests, {size_of(database)}: {took}", flush=True)
+    others = {
+        "plain": Yardstick(programs.yardstick, folder / "plain.db", free_port()),
+        "same": Same(programs.same, same, free_port()),
+        "kit": Same(programs.kit, kit, free_port()),
+    }
+    measure(str(count), shop, others, translator, programs.chunks)
+    print(f"peak {shop.server.peak() >> 20} MiB, file {size_of(database)}", flush=True)
+    for server in (shop.server, *others.values()):
+        server.kill()
+    for other in (same, kit):
+        test_alike(database, other)
+
+
+def start_on_sessions(program: str, folder: pathlib.Path) -> None:
+    database = folder / "sessions.db"
+    make(database, rows(all_good(Size(98, 1))), SHAPES["our own tables"])
+    link = sqlite3.connect(database)
+    begun = time.process_time()
+    if link.execute("PRAGMA integrity_check").fetchall() != [("ok",)] or link.execute("PRAGMA foreign_key_check").fetchall():
+        sys.exit("sqlite3 finds the file damaged")
+    tested = time.process_time() - begun
+    link.close()
+    server = Server(program, database, free_port(), wait=False)
+    took = server.listen()
+    cost, peak = server.processor(), server.peak() >> 20
+    times = f"{took:.2f} s, {cost:.2f} s of the processor, {cost / tested:.1f} times sqlite3's tests"
+    print(f"start on 100,352 sessions, {size_of(database)}: {times}; peak {peak} MiB", flush=True)
+    server.kill()
+
+
+def main() -> None:
+    words = argparse.ArgumentParser(description=__doc__, formatter_class=argparse.RawDescriptionHelpFormatter)
+    words.add_argument("program")
+    words.add_argument("yardstick")
+    words.add_argument("same")
+    words.add_argument("kit")
+    words.add_argument("--folder")
+    words.add_argument("--few", type=int, default=1_000)
+    words.add_argument("--many", type=int, default=100_000)
+    words.add_argument("--chunks", type=int, default=5)
+    words.add_argument("--cards", type=int, nargs="+", default=[200, 20])
+    given = words.parse_args()
+    print(f"load of the machine {', '.join(f'{load:.1f}' for load in os.getloadavg())}, {os.cpu_count()} processors")
+    names = ("p50", "p99", "cpu", *KINDS)
+    columns = f"{'requests':>10}{'machines':>9}{'':7}{'a second':>9}{'ours':>7}"
+    columns += "".join(f"{name.split()[0]:>9}" for name in names)
+    with tempfile.TemporaryDirectory(dir=given.folder) as folder:
+        start_on_sessions(given.program, pathlib.Path(folder))
+    for cards in given.cards:
+        for count in (given.few, given.many):
+            print(columns, flush=True)
+            with tempfile.TemporaryDirectory(dir=given.folder) as folder:
+                over_file(given, pathlib.Path(folder), count, cards)
+    print(f"load of the machine {', '.join(f'{load:.1f}' for load in os.getloadavg())}")
+
+
+if __name__ == "__main__":
+    main()

@@ -1,0 +1,505 @@
+#!/usr/bin/env python3
+"""Measures durable commits over a file: what answers, openings and imports take; on a file with
+few sessions and on one with many; beside batch files of some sizes, since an opening and the end
+of a card move their batch's counters, which stand in one row with the file's bytes; and with a
+record of 16 MB. Linux alone. It takes about half an hour, most of it for the file with many
+sessions.
+
+    bench/run tables [FOLDER]
+
+The files lie in FOLDER, which has to be on a disk, since a commit waits for a sync of it. They are
+removed.
+
+`measure_tables` serves what it reads over the tables of a new file, a part at a time, and tells
+the time of each part. So its times hold the reading of a message and the writing of its reply,
+but no pipe. Beside it stand two programs that run only what the tables need for each arrival, in
+one transaction (arrivals.py): `measure_kit` by the SQLite that we use, which no server over it
+can beat, and `same` by C's (WAL, synchronous FULL). All three take turns, in chunks of equal
+messages, and what is told is the median chunk; processor time is of all chunks. In the end the
+rows of all files are the same, which is tested, and each file that ours wrote is tested whole by
+C's SQLite.
+"""
+import json
+import os
+import pathlib
+import shutil
+import sqlite3
+import statistics
+import subprocess
+import sys
+import tempfile
+import time
+from typing import Callable, Iterable, NamedTuple
+
+import arrivals
+from arrivals import Card, Kept, Runner
+from make_batch import coded
+from served import post
+
+MEASURE, KIT, SAME = sys.argv[1:4]
+HEADER = "record,aid,rank,enc,tol,dgi"
+AID = "F00000000101"
+FEW = 1_000
+MANY = 100_000
+CARDS = 1_000
+STEP = 1_000
+CHUNKS = 10
+ROWS = 4_096
+MOST_FILE = 16_777_216
+OTHERS = 100
+SELECTED = "00A4040006" + AID
+EACH = 16
+ANSWERS = 40
+
+
+# ---- batch files and messages
+
+
+def batch_file(records: int, rows: int, size: int) -> bytes:
+    """A file of so many records and rows, with so many data bytes in each grouping. The rows of a record follow each other."""
+    lines = [HEADER]
+    each = rows // records
+    for row in range(rows):
+        grouping = coded(f"{0x9001 + row % each:04X}", bytes([row % 256]) * size)
+        lines.append(f"R{row // each},{AID},1,0,0,{grouping}")
+    return ("\n".join(lines) + "\n").encode()
+
+
+def imported(number: int, batch: str, raw: bytes) -> bytes:
+    head = f"POST /c/office/{number}/batch/{batch}/P1 HTTP/1.1\r\nHost: localhost\r\nContent-Length: {len(raw)}\r\n\r\n"
+    return head.encode() + raw
+
+
+def get(target: str) -> bytes:
+    return f"GET {target} HTTP/1.1\r\nHost: localhost\r\n\r\n".encode()
+
+
+def set_up() -> list[bytes]:
+    return [
+        post("office", 1, '{"do":"product","product":"P1","max":255,"low":0,"check":false}'),
+        post("office", 2, lot_body("L1", 0, 1_000_000)),
+    ]
+
+
+def lot_body(name: str, first: int, count: int) -> str:
+    return f'{{"do":"lot","lot":"{name}","product":"P1","first":{first},"count":{count}}}'
+
+
+def open_body(batch: str, blank: int) -> str:
+    return f'{{"do":"open","batch":"{batch}","blank":{blank}}}'
+
+
+def answer_body(session: int, index: int) -> str:
+    return f'{{"do":"answer","session":{session},"index":{index},"sw":"9000"}}'
+
+
+# ---- ours
+
+
+class Ours:
+    """The program `measure_tables`, over a new file."""
+
+    def __init__(self, database: pathlib.Path) -> None:
+        self.database = database
+        self.program = subprocess.Popen([MEASURE, database], stdin=subprocess.PIPE, stdout=subprocess.PIPE)
+
+    def processor(self) -> float:
+        """The processor time so far, in seconds."""
+        return int(pathlib.Path(f"/proc/{self.program.pid}/schedstat").read_text().split()[0]) / 1e9
+
+    def serve(self, messages: list[bytes]) -> float:
+        """Serves these, which are all accepted, and answers how many seconds that took. Messages have no bytes 0 and 1."""
+        assert self.program.stdin and self.program.stdout
+        self.program.stdin.write(b"\0".join(messages) + b"\1")
+        self.program.stdin.flush()
+        told = self.program.stdout.readline().decode().split()
+        wanted = ["served", str(len(messages)), "accepted", str(len(messages)), "microseconds"]
+        if told[:5] != wanted:
+            sys.exit(f"measure_tables: {' '.join(told)}, and not {len(messages)} accepted")
+        return int(told[5]) / 1e6
+
+    def copy(self, target: pathlib.Path) -> None:
+        """Copies the file and its log, while no message is served."""
+        for end in ("", "-wal"):
+            shutil.copyfile(f"{self.database}{end}", f"{target}{end}")
+
+    def end(self) -> None:
+        assert self.program.stdin
+        self.program.stdin.close()
+        if self.program.wait() != 0:
+            sys.exit(f"measure_tables: status {self.program.returncode}")
+        test_file(self.database)
+
+
+def test_file(database: pathlib.Path) -> None:
+    conn = sqlite3.connect(database)
+    if conn.execute("PRAGMA integrity_check").fetchall() != [("ok",)] or conn.execute("PRAGMA foreign_key_check").fetchall():
+        sys.exit(f"{database}: sqlite3 finds it damaged")
+    conn.close()
+
+
+# ---- beside it
+
+
+class Twins:
+    """The kit's floor and C's SQLite, each over a copy of the file."""
+
+    def __init__(self, ours: Ours, folder: pathlib.Path) -> None:
+        self.folder = folder
+        self.kit = self.over_copy(ours, "kit", KIT)
+        self.same = self.over_copy(ours, "same", SAME)
+
+    def over_copy(self, ours: Ours, name: str, program: str) -> Runner:
+        """Both begin with an empty log."""
+        database = self.folder / f"{name}.db"
+        ours.copy(database)
+        conn = sqlite3.connect(database)
+        conn.execute("PRAGMA wal_checkpoint(TRUNCATE)")
+        conn.close()
+        return Runner(program, database, self.folder / "texts")
+
+    def end(self, ours: Ours) -> None:
+        """Ends both, and tests that they hold what ours does."""
+        ours.copy(self.folder / "after.db")
+        for name, runner in (("kit", self.kit), ("same", self.same)):
+            runner.end()
+            test_equal(self.folder / "after.db", self.folder / f"{name}.db")
+
+
+def told(**members) -> bytes:
+    return json.dumps(members, separators=(",", ":"), sort_keys=True).encode()
+
+
+def opened(client: str, card: Card, session: int, blank: int) -> bytes:
+    its = {"batch": card.name, "blank": blank, "command": SELECTED, "index": 0}
+    body = told(record=f"R{card.place}", result="command", session=session, **its)
+    kept = Kept(client, 1, b"\0" + open_body(card.name, blank).encode(), body)
+    return arrivals.opening(kept, card, session, blank, "L1")
+
+
+def answered(client: str, card: Card, session: int, index: int, command: str) -> bytes:
+    """The word for a command, behind which this one is handed out: a piece of the first segment."""
+    body = told(command=command, index=index + 1, result="command", session=session)
+    kept = Kept(client, 2 + index, b"\0" + answer_body(session, index).encode(), body)
+    cursor = (0, 0, 255 * index, index + 1)
+    return arrivals.answer(kept, card, session, "P1", index, cursor)
+
+
+def ended(client: str, card: Card, session: int) -> bytes:
+    """The word for the second command of a card that has two."""
+    ask = b"\0" + answer_body(session, 1).encode()
+    kept = Kept(client, 3, ask, told(result="good", session=session))
+    return arrivals.last_answer(kept, card, session, "P1", 1, (1, 0, 0, 0))
+
+
+def taken(number: int, id_: int, batch: str, raw: bytes) -> bytes:
+    rows = arrivals.rows_of(raw)
+    records = len({row[1] for row in rows})
+    body = told(batch=batch, records=records, result="created", rows=len(rows))
+    kept = Kept("office", number, f"/batch/{batch}/P1".encode() + b"\0" + raw, body)
+    return arrivals.importing(kept, id_, batch, "P1", raw)
+
+
+def test_equal(ours: pathlib.Path, theirs: pathlib.Path) -> None:
+    """The rows of both files are the same, rowids too."""
+    one, other = sqlite3.connect(ours), sqlite3.connect(theirs)
+    for (table,) in one.execute("SELECT name FROM sqlite_schema WHERE type = 'table'").fetchall():
+        query = f"SELECT rowid, * FROM {table} ORDER BY rowid"
+        for mine, their in zip(one.execute(query), other.execute(query), strict=True):
+            if mine != their:
+                sys.exit(f"{table} has other rows:\n{str(mine)[:500]}\n{str(their)[:500]}")
+    one.close()
+    other.close()
+
+
+# ---- both, in turn
+
+
+class Times(NamedTuple):
+    """Seconds for each message: ours, the kit's and C's; and the processor's in the same order."""
+
+    ours: float
+    kit: float
+    same: float
+    processor: float
+    kit_processor: float
+    same_processor: float
+
+
+def in_turn(
+    ours: Ours, twins: Twins, messages: list[bytes], same: list[bytes], chunk: int
+) -> Times:
+    """Serves the messages, and runs the same by both twins, each in chunks that take turns."""
+    runners = [twins.kit, twins.same]
+    begun = [it.processor() for it in (ours, *runners)]
+    times = []
+    for first in range(0, len(messages), chunk):
+        span = slice(first, first + chunk)
+        theirs = [sum(it.run(same[span])) for it in runners]
+        times.append([took / chunk for took in (ours.serve(messages[span]), *theirs)])
+    spent = [(it.processor() - its) / len(messages) for it, its in zip((ours, *runners), begun)]
+    return Times(*(statistics.median(column) for column in zip(*times)), *spent)
+
+
+def heading(what: str) -> None:
+    names = ("ours", "kit", "C", "kit's", "C's", "cpu ms", "kit", "C", "C's")
+    print(f"\n{what:44}" + "".join(f"{name:>9}" for name in names), flush=True)
+
+
+def print_times(name: str, times: Times, shown: Callable[[float], float], digits: int) -> None:
+    """Parts are those of the kit's and of C's rate, and then of C's by the processor's time."""
+    columns = "".join(f"{shown(seconds):9.{digits}f}" for seconds in times[:3])
+    parts = "".join(f"{theirs / times.ours:9.2f}" for theirs in times[1:3])
+    spent = "".join(f"{1e3 * seconds:9.2f}" for seconds in times[3:])
+    last = f"{times.same_processor / times.processor:9.2f}"
+    print(f"{name:44}{columns}{parts}{spent}{last}", flush=True)
+
+
+def print_rates(name: str, times: Times) -> None:
+    print_times(name, times, lambda seconds: 1 / seconds, 1 if times.ours > 0.05 else 0)
+
+
+def print_millis(name: str, times: Times) -> None:
+    print_times(name, times, lambda seconds: 1e3 * seconds, 2)
+
+
+def print_disk(folder: pathlib.Path) -> None:
+    """How long the disk takes to write 4 KiB and sync them, at the end of a file and within it."""
+    where = subprocess.run(["df", "--output=source,fstype,target", folder], capture_output=True, check=True, text=True).stdout
+    source, kind, target = where.splitlines()[1].split()
+    if kind in ("tmpfs", "ramfs"):
+        sys.exit(f"{folder} is no disk")
+    handle = os.open(folder / "probe", os.O_RDWR | os.O_CREAT)
+    synced = []
+    for place in [*range(300)] * 2:
+        start = time.perf_counter()
+        os.pwrite(handle, bytes(4_096), place * 4_096)
+        os.fdatasync(handle)
+        synced.append(time.perf_counter() - start)
+    os.close(handle)
+    grown, within = (1e3 * statistics.median(part) for part in (synced[:300], synced[300:]))
+    print(f"{folder} on {source} ({kind}, {target}): 4 KiB with fdatasync take {grown:.2f} ms behind a file's end, {within:.2f} within")
+
+
+# ---- few sessions and many
+
+
+class Kind(NamedTuple):
+    """Messages of one kind."""
+
+    name: str
+    messages: list[bytes]
+
+
+def others(sessions: int) -> list[Kind]:
+    """Messages of all other kinds, on a file where batch M ran, whose last cards run yet. They are in this order."""
+    span = range(OTHERS)
+    first, second = STEP - 2 * OTHERS, STEP - OTHERS
+    done = [
+        ("abort", [post(f"n{n}", 3, f'{{"do":"abort","session":{sessions + n + 1}}}') for n in range(first, second)]),
+        ("reset", [post(f"n{n}", 3, '{"do":"reset"}') for n in range(second, STEP)]),
+        ("remake", [post("office", 20_000 + n, f'{{"do":"remake","batch":"M","record":"R{n}"}}') for n in range(first, second)]),
+        ("discard", [post("office", 30_000 + n, f'{{"do":"discard","blank":{999_000 + n}}}') for n in span]),
+        ("import of one row", [imported(40_000 + n, f"T{n}", batch_file(1, 1, 2)) for n in span]),
+        ("withdraw", [post("office", 50_000 + n, f'{{"do":"withdraw","batch":"T{n}","record":"R0"}}') for n in span]),
+        ("close", [post("office", 60_000 + n, f'{{"do":"close","batch":"T{n}"}}') for n in span]),
+        ("release", [post(f"n{n}", 9, '{"do":"release","upto":1}') for n in span]),
+        ("repeat", [post(f"n{n}", 2, answer_body(sessions + n + 1, 0)) for n in span]),
+        ("account of a batch", [get("/batch/M") for _ in span]),
+        ("report of a batch", [get("/batch/M/report") for _ in span]),
+        ("account of blanks", [get("/blanks/P1") for _ in span]),
+        ("product", [post("office", 70_000 + n, f'{{"do":"product","product":"Q{n}","max":99,"low":0,"check":true}}') for n in span]),
+        ("lot", [post("office", 80_000 + n, lot_body(f"K{n}", 2_000_000 + n, 1)) for n in span]),
+    ]
+    return [Kind(*it) for it in done]
+
+
+def base_messages(sessions: int) -> Iterable[list[bytes]]:
+    """Batches of cards, each opened by a machine of its own; then batch M."""
+    yield set_up()
+    raw = batch_file(CARDS, CARDS, 2)
+    for batch in range(sessions // CARDS):
+        cards = range(batch * CARDS, (batch + 1) * CARDS)
+        yield [imported(10 + batch, f"B{batch}", raw), *(post(f"m{n}", 1, open_body(f"B{batch}", n)) for n in cards)]
+    yield [imported(9_000, "M", raw)]
+
+
+class Took(NamedTuple):
+    """What a message of a kind took, and of the processor, in seconds."""
+
+    name: str
+    seconds: float
+    processor: float
+
+
+def serve_kind(ours: Ours, kind: Kind) -> Took:
+    processor = ours.processor()
+    seconds = ours.serve(kind.messages)
+    return Took(kind.name, seconds / len(kind.messages), (ours.processor() - processor) / len(kind.messages))
+
+
+def measure_both(folder: pathlib.Path, sessions: int) -> list[Took]:
+    """Prints what commits take where so many sessions were opened before, and answers what all messages take."""
+    folder.mkdir()
+    ours = Ours(folder / "ours.db")
+    spent = sum(ours.serve(messages) for messages in base_messages(sessions))
+    twins = Twins(ours, folder)
+    size = (folder / "same.db").stat().st_size / 1e6
+    heading(f"commits in a second, {sessions} sessions before")
+    tables = {
+        "open": opens_in_turn(ours, twins, sessions),
+        "answer": answers_in_turn(ours, twins, sessions),
+        "last answer": last_answers_in_turn(ours, twins, sessions),
+        f"import of {ROWS} rows": imports_in_turn(ours, twins, sessions),
+    }
+    for name, times in tables.items():
+        print_rates(name, times)
+    twins.end(ours)
+    end = f"a file of {size:.0f} MB, made in {spent:.0f} s; the rows of all files are the same"
+    print(f"({end})", flush=True)
+    took = [Took(name, times.ours, times.processor) for name, times in tables.items()]
+    took += [serve_kind(ours, kind) for kind in others(sessions)]
+    ours.end()
+    return took
+
+
+def last_batch(sessions: int) -> int:
+    """The id of batch M, behind those whose cards were opened before."""
+    return sessions // CARDS + 1
+
+
+def card_of(sessions: int, place: int) -> tuple[str, Card, int]:
+    """A card of batch M: its machine, its record and its session."""
+    return f"n{place}", Card(last_batch(sessions), "M", place), sessions + place + 1
+
+
+def opens_in_turn(ours: Ours, twins: Twins, sessions: int) -> Times:
+    messages = [post(f"n{n}", 1, open_body("M", 900_000 + n)) for n in range(STEP)]
+    same = [opened(*card_of(sessions, n), 900_000 + n) for n in range(STEP)]
+    return in_turn(ours, twins, messages, same, STEP // CHUNKS)
+
+
+def answers_in_turn(ours: Ours, twins: Twins, sessions: int) -> Times:
+    messages = [post(f"n{n}", 2, answer_body(sessions + n + 1, 0)) for n in range(STEP)]
+    handed = [f"80E2800005{coded('9001', bytes([n % 256]) * 2)}" for n in range(STEP)]
+    same = [answered(*card_of(sessions, n), 0, handed[n]) for n in range(STEP)]
+    return in_turn(ours, twins, messages, same, STEP // CHUNKS)
+
+
+def last_answers_in_turn(ours: Ours, twins: Twins, sessions: int) -> Times:
+    span = range(STEP - 2 * OTHERS)
+    messages = [post(f"n{n}", 3, answer_body(sessions + n + 1, 1)) for n in span]
+    same = [ended(*card_of(sessions, n)) for n in span]
+    return in_turn(ours, twins, messages, same, STEP // CHUNKS)
+
+
+def imports_in_turn(ours: Ours, twins: Twins, sessions: int) -> Times:
+    raw = batch_file(1_024, ROWS, 2)
+    messages = [imported(9_100 + n, f"I{n}", raw) for n in range(CHUNKS)]
+    same = [taken(9_100 + n, last_batch(sessions) + 1 + n, f"I{n}", raw) for n in range(CHUNKS)]
+    return in_turn(ours, twins, messages, same, 1)
+
+
+def print_growth(folder: pathlib.Path) -> None:
+    few, many = (measure_both(folder / str(sessions), sessions) for sessions in (FEW, MANY))
+    columns = "".join(f"{name:>9}" for name in (FEW, MANY, "growth", "cpu", "cpu", "growth"))
+    print(f"\n{'milliseconds a message, by sessions before':44}{columns}")
+    for before, after in zip(few, many):
+        wall = f"{1e3 * before.seconds:9.3f}{1e3 * after.seconds:9.3f}{after.seconds / before.seconds:9.2f}"
+        processor = f"{1e3 * before.processor:9.3f}{1e3 * after.processor:9.3f}{after.processor / before.processor:9.2f}"
+        print(f"{before.name:44}{wall}{processor}")
+
+
+# ---- counters beside a batch file
+
+
+class File(NamedTuple):
+    """A batch file, and how many cards of it are opened, in chunks of so many."""
+
+    name: str
+    data: int
+    cards: int
+    chunk: int
+
+
+FILES = [File("0.2 MB", 2, 100, 10), File("0.6 MB", 60, 100, 10), File("16 MB", 2_030, 20, 4)]
+
+
+def measure_file(folder: pathlib.Path, file: File) -> None:
+    """Prints what openings and answers take beside a batch file of 1,024 records and 4,096 rows."""
+    raw = batch_file(1_024, ROWS, file.data)
+    raw += b"\n" * (MOST_FILE - len(raw)) if file.name == "16 MB" else b""
+    ours, twins = beside_file(folder, raw)
+    opens = [post(f"n{n}", 1, open_body("M", n)) for n in range(file.cards)]
+    same = [opened(*card_of(0, n), n) for n in range(file.cards)]
+    print_millis("open, which moves counters", in_turn(ours, twins, opens, same, file.chunk))
+    answers = [post(f"n{n}", 2, answer_body(n + 1, 0)) for n in range(file.cards)]
+    same = [answered(*card_of(0, n), 0, command_of(raw, n)) for n in range(file.cards)]
+    print_millis("answer, which moves none", in_turn(ours, twins, answers, same, file.chunk))
+    twins.end(ours)
+    ours.end()
+
+
+def beside_file(folder: pathlib.Path, raw: bytes) -> tuple[Ours, Twins]:
+    """Imports a file as batch M, which is told."""
+    folder.mkdir()
+    ours = Ours(folder / "ours.db")
+    ours.serve(set_up())
+    twins = Twins(ours, folder)
+    heading(f"milliseconds beside a file of {len(raw)} bytes")
+    asked, same = [imported(3, "M", raw)], [taken(3, 1, "M", raw)]
+    print_millis("its import", in_turn(ours, twins, asked, same, 1))
+    return ours, twins
+
+
+def command_of(raw: bytes, card: int) -> str:
+    """The first STORE DATA of a card with four rows of one rank."""
+    lines = raw.decode().split()[1 + 4 * card:5 + 4 * card]
+    return piece_of("".join(line.rpartition(",")[2] for line in lines), 0)
+
+
+def piece_of(sent: str, block: int) -> str:
+    """A STORE DATA of a segment."""
+    piece = sent[510 * block:510 * (block + 1)]
+    is_last = len(sent) <= 510 * (block + 1)
+    return f"80E2{'80' if is_last else '00'}{block:02X}{len(piece) // 2:02X}{piece}"
+
+
+# ---- a record of 16 MB
+
+
+def measure_record(folder: pathlib.Path) -> None:
+    """Prints what an opening and answers take where one record has all rows, each application 16."""
+    raw = record_file()
+    ours, twins = beside_file(folder, raw)
+    opening = [post("n0", 1, open_body("M", 0))], [opened(*card_of(0, 0), 0)]
+    print_millis("open", in_turn(ours, twins, *opening, 1))
+    sent = "".join(line.rpartition(",")[2] for line in raw.decode().split()[1:1 + EACH])
+    answers = [post("n0", 2 + index, answer_body(1, index)) for index in range(ANSWERS)]
+    same = [answered(*card_of(0, 0), index, piece_of(sent, index)) for index in range(ANSWERS)]
+    print_millis("answer", in_turn(ours, twins, answers, same, 4))
+    twins.end(ours)
+    ours.end()
+
+
+def record_file() -> bytes:
+    lines = [HEADER]
+    for row in range(ROWS):
+        grouping = coded(f"{0x9001 + row % EACH:04X}", bytes([row % 256]) * 2_030)
+        lines.append(f"R0,F000000{0x101 + row // EACH:05X},1,0,0,{grouping}")
+    return ("\n".join(lines) + "\n").encode()
+
+
+def main() -> None:
+    where = sys.argv[4] if len(sys.argv) > 4 else None
+    with tempfile.TemporaryDirectory(dir=where) as name:
+        folder = pathlib.Path(name)
+        print_disk(folder)
+        for file in FILES:
+            measure_file(folder / file.name.replace(" ", "_"), file)
+        measure_record(folder / "record")
+        print_growth(folder)
+
+
+if __name__ == "__main__":
+    main()

@@ -1,0 +1,76 @@
+#!/usr/bin/env python3
+"""Counts the words of the sentences of README.md and of each page of docs/, bench/ and examples/, and fails where a page has long ones.
+
+    bench/run sentences [--show] [PAGE..]
+
+What counts: the running text, that is paragraphs and the items of lists. Code blocks, tables, headings and comments don't count. A paragraph, and each
+item of a list, begins and ends a sentence of its own. Within it a sentence ends at a full stop, a question mark or an exclamation mark, also before a
+closing mark of emphasis, a quote or a bracket, where white space and then no small letter follow. A colon or a semicolon ends none. A word is what
+stands between white space and has a letter or a digit. A span of code is one word, the text of a link counts as it is, and its target doesn't.
+
+A page passes where its sentences have at most 20 words in the mean and none has over 40. --show prints each sentence that is longer than 40
+words, or, where the mean is above 20, each that is longer than 30. The exit status is 1 where a page doesn't pass.
+"""
+import pathlib
+import re
+import sys
+from typing import Iterator
+
+TOP = pathlib.Path(__file__).resolve().parents[2]
+MEAN, MOST, LONG = 20, 40, 30
+ITEM = re.compile(r"^\s*(?:[-*]|\d+\.) ")
+END = re.compile(r"(?<=[.!?])[*\"”)\]]*\s+(?![a-z])")
+ABBREVIATIONS = re.compile(r"\b(e\.g|i\.e|vs)\.")
+
+
+def paragraphs(text: str) -> Iterator[str]:
+    """The paragraphs and items of a page, each as one line."""
+    fenced = False
+    gathered: list[str] = []
+    for line in [*text.split("\n"), ""]:
+        bare = line.strip()
+        fence = bare.startswith("```")
+        plain = fenced or fence or not bare or bare.startswith(("|", "#", "<!--", "![")) or line.startswith("    ")
+        if gathered and (plain or ITEM.match(line)):
+            yield " ".join(gathered)
+            gathered = []
+        fenced ^= fence
+        if not plain:
+            gathered.append(ITEM.sub("", line, count=1).strip())
+
+
+def sentences(text: str) -> Iterator[str]:
+    for paragraph in paragraphs(text):
+        whole = re.sub(r"\[((?:[^\[\]]|\[[^\]]*\])*)\]\([^)]*\)", r"\1", paragraph)
+        whole = re.sub(r"`[^`]*`", lambda span: "Code" + "." * span[0].endswith(".`"), whole)
+        whole = ABBREVIATIONS.sub(r"\1", whole)
+        yield from (sentence for sentence in END.split(whole) if words(sentence))
+
+
+def words(sentence: str) -> int:
+    return sum(any(mark.isalnum() for mark in word) for word in sentence.split())
+
+
+def look(page: pathlib.Path, show: bool) -> bool:
+    """Whether a page passes, which is printed with its numbers."""
+    found = list(sentences(page.read_text()))
+    counts = [words(sentence) for sentence in found] or [0]
+    mean, most = sum(counts) / len(counts), max(counts)
+    passes = mean <= MEAN and most <= MOST
+    over = sum(count > MOST for count in counts)
+    print(f"{'ok  ' if passes else 'LONG'} {page.relative_to(TOP)}: {len(counts)} sentences, mean {mean:.1f}, longest {most}, {over} over {MOST}")
+    for sentence, count in zip(found, counts):
+        if show and count > (LONG if mean > MEAN else MOST):
+            print(f"    {count}: {sentence}")
+    return passes
+
+
+def main() -> int:
+    names = [word for word in sys.argv[1:] if word != "--show"]
+    every = [TOP / "README.md", *(page for folder in ("docs", "bench", "examples") for page in sorted((TOP / folder).glob("*.md")))]
+    pages = [TOP / name for name in names] or every
+    return 0 if all([look(page, "--show" in sys.argv) for page in pages]) else 1
+
+
+if __name__ == "__main__":
+    sys.exit(main())

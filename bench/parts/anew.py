@@ -1,0 +1,43 @@
+"""Everything that was asked, asked once more of a server on a new file, in the order in which it was decided: the same must come."""
+import pathlib
+import sys
+from typing import Any
+
+from files import all_rows, looked
+from served import Server, exchange, free_port, get
+from shop import Sent, Shop
+
+
+def accounts(port: int, batches: list[str]) -> list[bytes]:
+    targets = ["/blanks/P1"] + [f"/batch/{batch}{tail}" for batch in batches for tail in ("", "/report")]
+    return [exchange(port, get(target)) for target in targets]
+
+
+def asked_anew(program: str, database: pathlib.Path, shop: Shop) -> list[bytes]:
+    """Asks all of it again, and answers the accounts at its end. Nothing disturbs the server."""
+    server = Server(program, database, free_port())
+    for sent in sorted(shop.sent, key=Sent.place):
+        came = exchange(server.port, sent.message)
+        if came != sent.reply:
+            sys.exit(f"connection {sent.place()}, {sent.message!r}\n  told   {sent.reply!r}\n  wanted {came!r}")
+    told = accounts(server.port, shop.batches)
+    server.kill()
+    return told
+
+
+def check_same(program: str, server: Server, database: pathlib.Path, shop: Shop, folder: pathlib.Path, others: str = "") -> None:
+    """Kills the server, and compares its file with one in a folder that comes of the same requests; but for what is kept of a client who asked
+    beside them."""
+    told = accounts(server.port, shop.batches)
+    server.kill()
+    whole = folder / "anew.db"
+    if told != asked_anew(program, whole, shop):
+        sys.exit("accounts differ")
+    ours, theirs = looked(database, all_rows), looked(whole, all_rows)
+    ours["reply"] = [row for row in ours["reply"] if row[0] != others]
+    if tables := differing(ours, theirs):
+        sys.exit(f"tables differ: {', '.join(tables)}")
+
+
+def differing(ours: dict[str, list[Any]], theirs: dict[str, list[Any]]) -> list[str]:
+    return [table for table in ours if ours[table] != theirs[table]]

@@ -1,0 +1,218 @@
+"""What the tables need for each arrival: the fewest reads that decide it, its writes and one
+commit, as lines for `measure_kit` and same.c (measure/programs/measure_kit.txt says how they are
+written).
+
+Nothing is decided here: who makes an arrival knows what the reads answer, and gives the values of
+the writes. A text that reads or writes as ours do is taken from the definitions that ours are
+proved by.
+"""
+import pathlib
+import re
+import subprocess
+from typing import NamedTuple, Union
+
+TOP = pathlib.Path(__file__).resolve().parents[2]
+OPENING, ANSWER, LAST, IMPORT = KINDS = ("opening", "answer", "last answer", "import")
+# Counters move by their own values, so that nothing is read for them.
+OWN = {
+    "begin": "BEGIN",
+    "commit": "COMMIT",
+    "lot_at": "SELECT name, product FROM lot WHERE low_serial <= ?1 AND ?1 < low_serial + amount",
+    # With the plus C's SQLite, too, takes the index of the place, and not that of the order.
+    "first_aid": "SELECT aid FROM grouping2 WHERE batch = ?1 AND place = ?2 "
+    "ORDER BY +line LIMIT 1",
+    "groupings": "SELECT line, aid, rank, enc, tol, coded FROM grouping2 WHERE batch = ?1 AND "
+    "place = ?2 ORDER BY +line",
+    # An index alone answers it; of a closed batch a word is taken too.
+    "batch_product": "SELECT id, product FROM batch WHERE name = ?1",
+    "one_runs": "UPDATE batch SET waiting = waiting - 1, running = running + 1, "
+    "sessions = sessions + 1 WHERE id = ?1",
+    "one_is_good": "UPDATE batch SET running = running - 1, good = good + 1 WHERE id = ?1",
+}
+READS = (
+    "mark", "kept", "batch_told", "running", "charged", "waiting", "last_session", "session",
+    "batch_name", "product", "last_batch",
+)
+WRITES = (
+    "add_session", "add_blank", "set_record", "add_word", "set_session", "add_batch", "add_record",
+    "add_grouping", "set_raw", "add_reply",
+)
+RUNNING, GOOD = 1, 4
+
+
+def texts(crate: str) -> dict[str, str]:
+    """The texts of a crate's statements, by the names of their definitions."""
+    found = {}
+    for path in sorted((TOP / "crates" / crate / "specs").glob("*.antt")):
+        found.update(re.findall(r'^(\w+)_text = codes "(.*)"$', path.read_text(), re.MULTILINE))
+    return found
+
+
+def chosen() -> dict[str, str]:
+    reads, writes = texts("row_reads"), texts("row_writes")
+    return {
+        **OWN,
+        **{name: reads[name] for name in READS},
+        **{name: writes[name] for name in WRITES},
+    }
+
+
+TEXTS = chosen()
+NUMBERS = {name: number for number, name in enumerate(TEXTS)}
+
+
+def write_texts(path: pathlib.Path) -> pathlib.Path:
+    """Writes the texts, each on a line."""
+    path.write_text("".join(f"{text}\n" for text in TEXTS.values()))
+    return path
+
+
+# ---- lines
+
+
+def spelt(value: Union[int, str, bytes]) -> str:
+    if isinstance(value, int):
+        return f"i{value}"
+    return f"t{value.encode().hex()}" if isinstance(value, str) else f"b{value.hex()}"
+
+
+def line(name: str, *values: Union[int, str, bytes]) -> str:
+    return " ".join([str(NUMBERS[name]), *map(spelt, values)])
+
+
+class Kept(NamedTuple):
+    """What is kept of an arrival: its client and number, its ask, and the body that is told."""
+
+    client: str
+    number: int
+    ask: bytes
+    body: bytes
+
+
+class Card(NamedTuple):
+    """The record of a session: its batch by id and name, and its place there."""
+
+    batch: int
+    name: str
+    place: int
+
+
+def arrival(kept: Kept, reads: list[str], writes: list[str]) -> bytes:
+    """The lines of an arrival, and the byte 0 behind them."""
+    first = [line("begin"), line("mark", kept.client), line("kept", kept.client, kept.number)]
+    last = [line("add_reply", kept.client, kept.number, kept.ask, 200, kept.body), line("commit")]
+    return "\n".join([*first, *reads, *writes, *last]).encode() + b"\0"
+
+
+# ---- arrivals
+
+
+def opening(kept: Kept, card: Card, session: int, blank: int, lot: str) -> bytes:
+    reads = [
+        line("batch_told", card.name),
+        line("running", kept.client),
+        line("lot_at", blank),
+        line("charged", blank),
+        line("waiting", card.batch),
+        line("last_session"),
+        line("first_aid", card.batch, card.place),
+    ]
+    writes = [
+        line("add_session", session, kept.client, card.batch, card.place, blank),
+        line("add_blank", blank, lot, 0),
+        line("set_record", card.batch, card.place, RUNNING, 0, 0),
+        line("one_runs", card.batch),
+    ]
+    return arrival(kept, reads, writes)
+
+
+def planned(card: Card, session: int, product: str) -> list[str]:
+    """What is read before a word: its session, and what its commands are planned from."""
+    return [
+        line("session", session),
+        line("batch_name", card.batch),
+        line("batch_product", card.name),
+        line("product", product),
+        line("groupings", card.batch, card.place),
+    ]
+
+
+def answer(
+    kept: Kept, card: Card, session: int, product: str, index: int, cursor: tuple[int, ...]
+) -> bytes:
+    """The word 9000, behind which a session goes on with the command at the cursor."""
+    writes = [
+        line("add_word", session, index, 0x9000),
+        line("set_session", session, 0, index + 1, *cursor),
+    ]
+    return arrival(kept, planned(card, session, product), writes)
+
+
+def last_answer(
+    kept: Kept, card: Card, session: int, product: str, index: int, cursor: tuple[int, ...]
+) -> bytes:
+    """The word 9000, with which a card is good."""
+    writes = [
+        line("add_word", session, index, 0x9000),
+        line("set_session", session, 1, index + 1, *cursor),
+        line("set_record", card.batch, card.place, GOOD, 0, 0),
+        line("one_is_good", card.batch),
+    ]
+    return arrival(kept, planned(card, session, product), writes)
+
+
+def rows_of(raw: bytes) -> list[tuple]:
+    """The rows of a batch file as `grouping2` has them, but for the batch. Records are named R0,
+    R1 and so on by their places."""
+    rows = []
+    for number, text in enumerate(raw.decode().split()[1:], 2):
+        record, aid, rank, enc, tol, coded = text.split(",")
+        its = (bytes.fromhex(aid), int(rank), int(enc), int(tol), bytes.fromhex(coded))
+        rows.append((number, int(record[1:]), *its))
+    return rows
+
+
+def importing(kept: Kept, batch: int, name: str, product: str, raw: bytes) -> bytes:
+    """An import. The bytes are set last, as ours are: each row that refers to the batch has its
+    row read whole."""
+    rows = rows_of(raw)
+    records = max(row[1] for row in rows) + 1
+    reads = [line("batch_told", name), line("product", product), line("last_batch")]
+    writes = [
+        line("add_batch", batch, name, product, b"", records),
+        *(line("add_record", batch, place, f"R{place}") for place in range(records)),
+        *(line("add_grouping", batch, *row) for row in rows),
+        line("set_raw", batch, raw),
+    ]
+    return arrival(kept, reads, writes)
+
+
+# ---- who runs them
+
+
+class Runner:
+    """`measure_kit` or `same` over a file, which runs arrivals of its standard input."""
+
+    def __init__(self, program: str, database: pathlib.Path, made: pathlib.Path) -> None:
+        words = [program, str(database), str(write_texts(made))]
+        self.program = subprocess.Popen(words, stdin=subprocess.PIPE, stdout=subprocess.PIPE)
+
+    def run(self, arrivals: list[bytes]) -> list[float]:
+        """Runs these, and answers how many seconds each took."""
+        assert self.program.stdin and self.program.stdout
+        took = []
+        for one in arrivals:
+            self.program.stdin.write(one)
+            self.program.stdin.flush()
+            took.append(int(self.program.stdout.readline()) / 1e9)
+        return took
+
+    def processor(self) -> float:
+        """The processor time so far, in seconds."""
+        told = pathlib.Path(f"/proc/{self.program.pid}/schedstat").read_text()
+        return int(told.split()[0]) / 1e9
+
+    def end(self) -> None:
+        self.program.communicate()
+        if self.program.returncode != 0:
+            raise SystemExit(f"{self.program.args}: status {self.program.returncode}")

@@ -1,0 +1,254 @@
+"""A shop under a seed: machines that make cards, an office that stocks, remakes and closes, and someone who reads accounts, each in a thread of its
+own. What everyone asked and was told is kept, with the place of each connection among all, so that it can be asked once more in the order in which
+it was decided: a server takes connections in the order in which they were made, and serves one at a time."""
+import json
+import random
+import threading
+import time
+from dataclasses import dataclass, field
+from typing import Any, Callable, Optional
+
+from make_batch import coded
+from served import connect, get, imported, parts, received, request
+
+HEADER = "record,aid,rank,enc,tol,dgi"
+AIDS = ("F00000000101", "F0000000020202")
+STARTS = 10_000_000
+LOT = 1_000_000
+PAUSE = 0.005
+MOST = 1024, 4
+
+
+@dataclass
+class Sent:
+    """A request or a GET, the places of its connections, and the whole reply once it came."""
+
+    client: str
+    number: int
+    message: bytes
+    is_first: bool
+    turns: list[int] = field(default_factory=list)
+    decided: Optional[int] = None
+    reply: Optional[bytes] = None
+
+    def place(self) -> int:
+        """The connection in which it was decided."""
+        return self.turns[-1] if self.decided is None else self.decided
+
+
+class Wrong(Exception):
+    """A reply that can't be right."""
+
+
+class Shop:
+    """Everyone's connections to the server on a port, and the batches that are there."""
+
+    def __init__(self, port: int) -> None:
+        self.port = port
+        self.lock = threading.Lock()
+        self.turns = 0
+        self.sent: list[Sent] = []
+        self.batches: list[str] = []
+        self.is_over = threading.Event()
+        self.wrong: list[str] = []
+
+    def ask(self, client: str, number: int, message: bytes, is_first: bool = True) -> tuple[int, Any]:
+        """Asks until there is a whole reply that isn't 503, and gives its status and its JSON, or the text of a report."""
+        sent = Sent(client, number, message, is_first)
+        with self.lock:
+            self.sent.append(sent)
+        while True:
+            reply = self.once(sent)
+            whole = parts(reply)
+            if whole and whole[0] != 503:
+                sent.reply = reply
+                return whole[0], json.loads(whole[1]) if whole[1].startswith(b"{") else whole[1].decode()
+            time.sleep(PAUSE)
+
+    def once(self, sent: Sent) -> bytes:
+        """One try. Connections are made one after the other, so that their places are known."""
+        try:
+            with self.lock:
+                peer = connect(self.port)
+                self.turns += 1
+                sent.turns.append(self.turns)
+            with peer:
+                peer.sendall(sent.message)
+                return received(peer)
+        except OSError:
+            return b""
+
+    def run(self, works: list[Callable[[], None]]) -> list[threading.Thread]:
+        """Starts them, each to be done again and again until it is over."""
+
+        def work(once: Callable[[], None]) -> None:
+            try:
+                while not self.is_over.is_set():
+                    once()
+            except Exception as fault:  # noqa: BLE001 what is wrong with anyone is told by the one who waits
+                self.wrong.append(repr(fault))
+                self.is_over.set()
+
+        threads = [threading.Thread(target=work, args=(once,)) for once in works]
+        for thread in threads:
+            thread.start()
+        return threads
+
+
+class Client:
+    """Who asks under a name, by numbers of its own. Every reply is looked at."""
+
+    def __init__(self, shop: Shop, name: str, seed: str) -> None:
+        self.shop, self.name, self.draw = shop, name, random.Random(f"{seed}/{name}")
+        self.number, self.mark = 0, 0
+        self.told: list[tuple[int, bytes, int, Any]] = []
+
+    def ask(self, *codes: int, **members: Any) -> tuple[int, Any]:
+        """The reply to a request under the next number. It has to be accepted, or refused by one of these codes."""
+        return self.send(request(self.name, self.number + 1, **members), codes)
+
+    def send(self, message: bytes, codes: tuple[int, ...] = ()) -> tuple[int, Any]:
+        self.number += 1
+        status, told = self.shop.ask(self.name, self.number, message)
+        if status != 200 and (status != 409 or told["code"] not in codes):
+            raise Wrong(f"{message!r}: {status} {told}")
+        self.told.append((self.number, message, status, told))
+        return status, told
+
+    def again(self) -> None:
+        """Asks something again that was answered before, or something else under its number."""
+        if not self.told:
+            return
+        number, message, *first = self.draw.choice(self.told[-50:])
+        if self.draw.random() < 0.2:
+            message, first = request(self.name, number, do="reset", again=1), [400, {"code": 400, "refused": "malformed"}]
+            if self.draw.random() < 0.5:
+                message, first = request(self.name, number, do="discard", blank=10**17), [409, {"code": 72, "refused": "number-reused"}]
+        if number <= self.mark and first[0] != 400:
+            first = [409, {"code": 73, "mark": self.mark, "refused": "number-released"}]
+        if (came := list(self.shop.ask(self.name, number, message, is_first=False))) != first:
+            raise Wrong(f"{message!r} again: {came}, and not {first}")
+
+    def release(self, upto: int) -> None:
+        self.mark = max(self.mark, upto)
+        told = self.ask(do="release", upto=upto)[1]
+        if told != {"mark": self.mark, "result": "released"}:
+            raise Wrong(f"release of {upto}: {told}")
+
+
+class Machine(Client):
+    """Makes cards of any batch. Some words stop, some cards are given up, and now and then it starts anew."""
+
+    def __init__(self, shop: Shop, name: str, seed: str, first: int, faults: float = 0.02) -> None:
+        super().__init__(shop, name, seed)
+        self.boot, self.blank, self.faults, self.good = 0, first, faults, 0
+
+    def start(self) -> None:
+        """Gives up the numbers of earlier starts, and the session that runs."""
+        self.boot += 1
+        self.number = self.boot * STARTS
+        self.release(self.number)
+        self.ask(do="reset")
+
+    def make(self) -> None:
+        """Makes one card, or none where the batch wants none."""
+        if self.boot == 0:
+            self.start()
+        if not self.shop.batches:
+            time.sleep(PAUSE)
+            return
+        batch = self.draw.choice(self.shop.batches)
+        status, told = self.ask(57, 62, do="open", batch=batch, blank=self.blank)
+        if status == 409:
+            time.sleep(PAUSE)
+            return
+        self.blank += 1
+        index = 0
+        while told["result"] == "command":
+            if told["index"] != index:
+                raise Wrong(f"{self.name}: {told}, and not index {index}")
+            told = self.step(told)
+            index += 1
+        self.good += told["result"] == "good"
+
+    def step(self, told: Any) -> Any:
+        pick = self.draw.random() / self.faults if self.faults else 9
+        if pick < 1:
+            return self.ask(do="abort", session=told["session"])[1]
+        if pick < 2:
+            self.start()
+            return {"result": "spoiled"}
+        if pick < 6:
+            self.again()
+        word = "6A80" if pick < 3 else self.draw.choice(("9000", "9000", "6110", "61ff"))
+        return self.ask(do="answer", session=told["session"], index=told["index"], sw=word)[1]
+
+
+class Office(Client):
+    """Makes products and lots known, imports batches, one in ten of them as large as may be, remakes or withdraws what failed, discards blanks, closes
+    what is done."""
+
+    def __init__(self, shop: Shop, seed: str, machines: int, batches: int) -> None:
+        super().__init__(shop, "office", seed)
+        self.machines, self.left, self.blank = machines, batches, 0
+
+    def work(self) -> None:
+        if self.number == 0:
+            self.stock()
+        if self.left and (not self.shop.batches or self.draw.random() < 0.05):
+            self.left -= 1
+            self.bring(*(MOST if self.draw.random() < 0.1 else (self.draw.randint(1, 40), self.draw.randint(1, 6))))
+        pick = self.draw.random()
+        if pick < 0.1:
+            self.ask(do="discard", blank=self.blank)
+            self.blank += 1
+        elif pick < 0.2:
+            self.again()
+        elif pick < 0.22:
+            self.release(self.draw.randint(1, self.number))
+        elif self.shop.batches:
+            self.tend(self.draw.choice(self.shop.batches))
+        time.sleep(PAUSE)
+
+    def stock(self) -> None:
+        """Product P1 with commands of 40 bytes, a lot for the office and one for each machine."""
+        self.ask(do="product", product="P1", max=40, low=0, check=False)
+        for lot in range(self.machines + 1):
+            self.ask(do="lot", lot=f"L{lot}", product="P1", first=lot * LOT, count=LOT)
+
+    def bring(self, records: int, rows: int) -> None:
+        """Imports a batch of so many records with so many rows each."""
+        name = f"B{len(self.shop.batches) + 1}"
+        self.send(imported(self.name, self.number + 1, name, "P1", batch_file(self.draw, records, rows)))
+        self.shop.batches.append(name)
+
+    def tend(self, batch: str) -> None:
+        lines = self.shop.ask("", 0, get(f"/batch/{batch}/report"), is_first=False)[1].splitlines()
+        if self.draw.random() < 0.02:
+            self.ask(57, 70, do="close", batch=batch)
+        failed = [line.split()[1] for line in lines if line.startswith("record ") and line.split()[2] == "failed"]
+        for record in failed[:3]:
+            self.ask(57, do=self.draw.choice(("remake", "remake", "withdraw")), batch=batch, record=record)
+
+
+class Reader:
+    """Reads accounts."""
+
+    def __init__(self, shop: Shop, seed: str) -> None:
+        self.shop, self.draw = shop, random.Random(f"{seed}/reader")
+
+    def read(self) -> None:
+        batch = self.draw.choice(self.shop.batches or ["B0"])
+        target = self.draw.choice(("/blanks/P1", f"/batch/{batch}", f"/batch/{batch}/report", "/batch/none"))
+        self.shop.ask("", 0, get(target), is_first=False)
+        time.sleep(2 * PAUSE)
+
+
+def batch_file(draw: random.Random, records: int, rows: int) -> bytes:
+    """A file of so many records with so many rows each, of random data and in one or two applications."""
+    lines = [HEADER]
+    for record in range(records):
+        for row in range(rows):
+            aid = AIDS[row % 2 if rows > 3 else 0]
+            lines.append(f"R{record},{aid},1,0,0,{coded(f'{0x9001 + row:04X}', draw.randbytes(draw.randint(0, 60)))}")
+    return ("\n".join(lines) + "\n").encode()
