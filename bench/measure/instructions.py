@@ -4,7 +4,7 @@
     bench/run instructions [FOLDER]
 
 The count is by valgrind's callgrind, which counts the same each time; the time is the best of several runs. The profiles stay in FOLDER. It wants
-valgrind, cargo, and Debian's librust-csv-dev and librust-hex-dev."""
+valgrind, cargo, and Debian's librust-csv-dev."""
 import pathlib
 import re
 import subprocess

@@ -1,5 +1,6 @@
 //! Prints the commands of a batch as `persod plan` does with no option, as one would write it in plain Rust: the
-//! measure of bench/run instructions. It tests the fields' forms, and none of a record's faults.
+//! measure of bench/run instructions. It codes hexadecimal digits many at once, as ours does, where the crate `hex`
+//! takes one after the other. It tests the fields' forms, and none of a record's faults.
 use std::collections::HashMap;
 use std::error::Error;
 use std::io::{self, Read, Write};
@@ -29,7 +30,7 @@ fn main() -> Result<(), Box<dyn Error>> {
     for record in records(&raw)? {
         writeln!(text, "record {}", record.name)?;
         for application in record.applications {
-            put_application(&mut text, application)?;
+            put_application(&mut text, application);
         }
     }
     Ok(io::stdout().lock().write_all(&text)?)
@@ -72,10 +73,30 @@ fn records(raw: &[u8]) -> Result<Vec<Record>, Box<dyn Error>> {
     Ok(records)
 }
 
-fn bytes_of(field: &[u8]) -> Result<Vec<u8>, hex::FromHexError> {
+fn bytes_of(field: &[u8]) -> Result<Vec<u8>, Box<dyn Error>> {
+    if field.len() % 2 != 0 {
+        return Err("an even number of digits is wanted".into());
+    }
     let mut bytes = vec![0; field.len() / 2];
-    hex::decode_to_slice(field, &mut bytes)?;
+    let mut all = 0;
+    for (byte, pair) in bytes.iter_mut().zip(field.chunks_exact(2)) {
+        let (high, low) = (digit(pair[0]), digit(pair[1]));
+        all |= high | low;
+        *byte = high << 4 | low & 15;
+    }
+    if all > 15 {
+        return Err("hexadecimal digits are wanted".into());
+    }
     Ok(bytes)
+}
+
+// The value of a digit, or 255 of another byte: arithmetic and no table, so that many are taken at once.
+fn digit(c: u8) -> u8 {
+    match c {
+        b'0'..=b'9' => c - b'0',
+        b'A'..=b'F' | b'a'..=b'f' => c % 32 + 9,
+        _ => 255,
+    }
 }
 
 // Bits 7 and 6 of P1.
@@ -96,8 +117,8 @@ fn tolerant(field: &[u8]) -> Result<bool, Box<dyn Error>> {
     }
 }
 
-fn put_application(text: &mut Vec<u8>, mut application: Application) -> io::Result<()> {
-    put_command(text, [0x00, 0xA4, 0x04, 0x00], &application.aid)?;
+fn put_application(text: &mut Vec<u8>, mut application: Application) {
+    put_command(text, [0x00, 0xA4, 0x04, 0x00], &application.aid);
     application.rows.sort_by_key(|row| row.rank);
     let segments: Vec<(u8, Vec<u8>)> = application
         .rows
@@ -112,25 +133,32 @@ fn put_application(text: &mut Vec<u8>, mut application: Application) -> io::Resu
     for (enciphered, bytes) in segments {
         for piece in bytes.chunks(MOST) {
             let last = if block + 1 == count { 0x80 } else { 0 };
-            put_command(text, [0x80, 0xE2, last + enciphered, block as u8], piece)?;
+            put_command(text, [0x80, 0xE2, last + enciphered, block as u8], piece);
             block += 1;
         }
     }
-    Ok(())
 }
 
-fn put_command(text: &mut Vec<u8>, head: [u8; 4], data: &[u8]) -> io::Result<()> {
-    put_hex(text, &head)?;
-    put_hex(text, &[data.len() as u8])?;
-    put_hex(text, data)?;
+fn put_command(text: &mut Vec<u8>, head: [u8; 4], data: &[u8]) {
+    put_hex(text, &head);
+    put_hex(text, &[data.len() as u8]);
+    put_hex(text, data);
     text.push(b'\n');
-    Ok(())
 }
 
-fn put_hex(text: &mut Vec<u8>, bytes: &[u8]) -> io::Result<()> {
+fn put_hex(text: &mut Vec<u8>, bytes: &[u8]) {
     let at = text.len();
     text.resize(at + 2 * bytes.len(), 0);
-    hex::encode_to_slice(bytes, &mut text[at..]).map_err(io::Error::other)?;
-    text[at..].make_ascii_uppercase();
-    Ok(())
+    for (pair, byte) in text[at..].chunks_exact_mut(2).zip(bytes) {
+        pair[0] = upper_digit(byte >> 4);
+        pair[1] = upper_digit(byte & 15);
+    }
+}
+
+fn upper_digit(value: u8) -> u8 {
+    if value < 10 {
+        b'0' + value
+    } else {
+        b'A' + (value - 10)
+    }
 }
