@@ -9,9 +9,6 @@ What must come out is told by small models (shapes_batches.py, shapes_machine.py
 know nothing of the program; where bytes were changed at random it is `any`. At the end stand the cases of each kind and the largest of
 each size. The status is 1 where anything differed; the cases that did then stay in a folder that is named, each in a file of its own:
 shrink such a case by hand into a file of crates/worked/data.
-
-The programs are the proved ones, from `rt run` in crates/worked and in crates/persod, where they are newer than the sources. Else `rt try`
-builds them with checks; they are then some hundred times slower, so give --cases 200 or so.
 """
 import argparse
 import concurrent.futures
@@ -30,8 +27,6 @@ from shapes_draw import COUNTS, MOST, MOST_FILE, Case, Draw, changed, unpacked
 from shapes_exchanges import exchange_cases, long_report, long_talks, longest_session, talk_of
 from shapes_messages import message_cases
 
-TOP = pathlib.Path(__file__).resolve().parents[2]
-CRATES = TOP / "crates"
 SEED = "shapes"
 CASES = 20_000
 # With so many cases come the long ones.
@@ -41,24 +36,6 @@ LONG = 10_000
 REPORT = (840, 184)
 # The most that a program may run.
 SECONDS = 7200
-
-
-def below(crate: str) -> set[str]:
-    """The crate, and those of this repository that it stands on."""
-    lines = [line.split(":") for line in (TOP / "crates.txt").read_text().splitlines() if ":" in line and not line.startswith("#")]
-    named = {name.split()[0]: its.split() for name, its in lines}
-    found, left = set(), [crate]
-    while left:
-        found.add(one := left.pop())
-        left += [it for it in named[one] if it in named and it not in found]
-    return found
-
-
-def proved(crate: str) -> str | None:
-    """The proved program, if it is newer than its sources."""
-    program = CRATES / crate / "out" / crate
-    newest = max(path.stat().st_mtime for name in below(crate) for path in (CRATES / name / "src").glob("**/*.rt"))
-    return str(program) if program.is_file() and program.stat().st_mtime > newest else None
 
 
 def outcome(words: list[str], where: pathlib.Path, given: bytes = b"") -> tuple[int, str, str]:
@@ -73,9 +50,8 @@ def outcome(words: list[str], where: pathlib.Path, given: bytes = b"") -> tuple[
 class Hunt:
     """Files of cases, and what came of them."""
 
-    def __init__(self, folder: pathlib.Path, jobs: int) -> None:
-        self.folder, self.jobs = folder, jobs
-        self.program = proved("worked")
+    def __init__(self, program: str, folder: pathlib.Path, jobs: int) -> None:
+        self.program, self.folder, self.jobs = program, folder, jobs
         self.wanted: dict[str, int] = {}
         self.failed: list[str] = []
 
@@ -87,32 +63,22 @@ class Hunt:
             (self.folder / name).write_text("".join(case.text for case in taken))
             self.wanted[name] = len(taken)
 
-    def run(self, names: list[str]) -> str:
+    def run(self, *names: str) -> str:
         """What `worked` says of these files."""
-        words = [self.program, *names]
-        if self.program is None:
-            words = ["rt", "try", "--seconds", str(SECONDS)]
-            for name in names:
-                words += ["--data", f"{name}={self.folder / name}"]
-            words += ["--", *names]
-        where = self.folder if self.program else CRATES / "worked"
-        status, out, err = outcome(words, where)
+        status, out, err = outcome([self.program, *names], self.folder)
         return out + ("" if status == 0 else f"status {status}\n{err[-3000:]}")
 
     def run_all(self) -> None:
-        """The long ones go first, and of the others the largest. `rt try` builds once for each call, so it gets many files."""
+        """The long ones go first, and of the others the largest."""
         names = sorted(self.wanted, key=lambda name: (not name.startswith("long"), -(self.folder / name).stat().st_size))
-        parts = [[name] for name in names] if self.program else [names[k::self.jobs] for k in range(self.jobs) if names[k::self.jobs]]
         with concurrent.futures.ThreadPoolExecutor(self.jobs) as pool:
-            for part, said in zip(parts, pool.map(self.run, parts)):
-                self.look(part, said)
+            for name, said in zip(names, pool.map(self.run, names)):
+                self.look(name, said)
 
-    def look(self, names: list[str], said: str) -> None:
-        right = {f"{name}: {self.wanted[name]} cases" for name in names}
-        wrong = [line for line in said.splitlines() if line not in right]
-        if wrong or len(said.splitlines()) != len(right):
-            self.failed += [name for name in names if f"{name}: {self.wanted[name]} cases" not in said.splitlines()]
-            print("\n".join(line[:400] for line in wrong[:40]), flush=True)
+    def look(self, name: str, said: str) -> None:
+        if said != f"{name}: {self.wanted[name]} cases\n":
+            self.failed.append(name)
+            print("\n".join(line[:400] for line in said.splitlines()[:40]), flush=True)
 
     def alone(self) -> None:
         """The cases of the files that failed, each in a file of its own, so that those that fail are known."""
@@ -123,7 +89,7 @@ class Hunt:
                 singles[f"{stem}-{k:03}.{kind}"] = text
         for name, text in singles.items():
             (self.folder / name).write_text(text)
-        said = self.run(list(singles)).splitlines()
+        said = self.run(*singles).splitlines()
         for name, text in singles.items():
             if f"{name}: 1 cases" in said:
                 (self.folder / name).unlink()
@@ -171,32 +137,14 @@ def is_right(run: Run, status: int, out: str, err: str) -> bool:
     return (status, out, err) == (run.status, run.out, run.err)
 
 
-def run_persod(runs: list[Run], jobs: int) -> list[Run]:
+def run_persod(program: str, runs: list[Run], jobs: int, folder: pathlib.Path) -> list[Run]:
     """The runs that were not right."""
-    program = proved("persod")
-    if program is None:
-        return tried_persod(runs)
 
     def one(run: Run) -> bool:
-        return is_right(run, *outcome([program, *run.words], CRATES, run.given))
+        return is_right(run, *outcome([program, *run.words], folder, run.given))
 
     with concurrent.futures.ThreadPoolExecutor(jobs) as pool:
         return [run for run, right in zip(runs, pool.map(one, runs)) if not right]
-
-
-def tried_persod(runs: list[Run]) -> list[Run]:
-    """`rt try` runs the program on each file of a folder. What a run writes stands behind its name, what it tells before its end."""
-    with tempfile.TemporaryDirectory() as folder:
-        for run in runs:
-            path = pathlib.Path(folder) / run.name
-            path.write_bytes(run.given)
-            path.with_suffix(".args").write_text("\n".join(run.words) + "\n")
-        _, out, err = outcome(["rt", "try", "--seconds", str(SECONDS), "--cases", folder], CRATES / "persod")
-    _, *names_and_texts = re.split(r"^== (\S+)\n", out, flags=re.M)
-    written = dict(zip(names_and_texts[::2], names_and_texts[1::2]))
-    ends = re.findall(r"((?:^(?!case=).*\n)*)^case=(\S+) run=ended status=(\d+)", err, flags=re.M)
-    ended = {name: (int(status), written.get(name, ""), told) for told, name, status in ends}
-    return [run for run in runs if not is_right(run, *ended.get(run.name, (-1, "", "")))]
 
 
 def print_figures(seconds: float) -> None:
@@ -220,10 +168,10 @@ def hunted(hunt: Hunt, seed: str, cases: int) -> None:
     hunt.put("messages", message_cases(Draw(seed + " messages"), cases * 5 // 20), 20)
 
 
-def persod(draw: Draw, cases: int, jobs: int, folder: pathlib.Path) -> list[Run]:
+def persod(program: str, draw: Draw, cases: int, jobs: int, folder: pathlib.Path) -> list[Run]:
     """Runs of the program, one for each forty cases; those that were not right."""
     runs = [plan_run(draw, k) for k in range(cases // 60)] + [drill_run(draw, k) for k in range(cases // 120)]
-    wrong = run_persod(runs, jobs)
+    wrong = run_persod(program, runs, jobs, folder)
     for run in wrong:
         (folder / run.name).write_bytes(run.given)
         print(f"failed: persod {' '.join(run.words)} <{folder / run.name}")
@@ -233,16 +181,18 @@ def persod(draw: Draw, cases: int, jobs: int, folder: pathlib.Path) -> list[Run]
 
 def main() -> None:
     words = argparse.ArgumentParser(description=__doc__, formatter_class=argparse.RawDescriptionHelpFormatter)
+    words.add_argument("worked")
+    words.add_argument("persod")
     words.add_argument("--seed", default=SEED)
     words.add_argument("--cases", type=int, default=CASES, help=f"the long ones come with {LONG} and more")
     words.add_argument("--jobs", type=int, default=os.cpu_count() or 1)
     given = words.parse_args()
     folder = pathlib.Path(tempfile.mkdtemp(prefix="shapes-"))
-    hunt, start = Hunt(folder, given.jobs), time.monotonic()
+    hunt, start = Hunt(given.worked, folder, given.jobs), time.monotonic()
     hunted(hunt, given.seed, given.cases)
-    print(f"seed {given.seed}: {len(hunt.wanted)} files, by the {'proved' if hunt.program else 'tried'} program", flush=True)
+    print(f"seed {given.seed}: {len(hunt.wanted)} files", flush=True)
     hunt.run_all()
-    wrong = persod(Draw(given.seed + " persod"), given.cases, given.jobs, folder)
+    wrong = persod(given.persod, Draw(given.seed + " persod"), given.cases, given.jobs, folder)
     print_figures(time.monotonic() - start)
     if hunt.failed:
         hunt.alone()
