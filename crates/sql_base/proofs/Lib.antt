@@ -1,6 +1,5 @@
 pub mod Inserting
-pub mod Updating
-pub mod Deleting
+pub mod Editing
 pub mod Selecting
 pub mod Replacing
 pub mod Tests

@@ -4,6 +4,8 @@
 pub mod laws;
 mod making;
 mod reading;
+mod transacting;
 
 pub use making::{is_empty, make};
 pub use reading::{int, rows_of};
+pub use transacting::{UnitOfWork, transact};

@@ -14,7 +14,7 @@ use Rattle.sql_tables.specs.Texts.{earlier_texts, mark_text, our_index_texts, ou
 use Rattle.sql_tables.specs.Versions.{earlier_tables, numbered_version_at, tables_in}
 use Rattle.sql_tables.specs.declared.versions.Version.{Version}
 use Rattle.sql_tables.specs.declared.versions.Version.TheVariants.{One, Three, Two}
-use Rattle.sql_tables.proofs.Each.{parts}
+use Rattle.sql_tables.proofs.EachLemmas.{parts}
 use Rattle.sql_tables.proofs.Growing.{AreDefined, AreIndexed, Keyed, all_grow, all_indexed, more_defined, with_index}
 
 -- ---- versions 1 and 2

@@ -1,6 +1,6 @@
 pub mod Lookups
 pub mod Standing
-pub mod Each
+pub mod EachLemmas
 pub mod Growing
 pub mod Defined
 pub mod VersionRow

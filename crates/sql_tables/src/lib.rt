@@ -3,6 +3,7 @@
 #![tactic(auto)]
 
 mod alike;
+mod each;
 mod opening;
 mod parts;
 mod same;
@@ -11,6 +12,7 @@ mod texts;
 mod versions;
 
 pub use alike::has_just;
+pub use each::{Runs, run_both, run_each};
 pub use opening::{has_our_tables, make_all, make_tables};
 pub use parts::are_same_but_tree;
 pub use versions::{Version, tables_of, version_in};

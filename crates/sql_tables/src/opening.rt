@@ -1,33 +1,29 @@
 //! The tables are made in an empty database.
-ghost use Rattle.std.specs.Prelude.{◌≡◌, ◌↔◌, false, IsTrue, OnErr, OnOk, map};
+ghost use Rattle.std.specs.Prelude.{◌≡◌, ◌↔◌, false, IsTrue, OnErr, OnOk};
 ghost use Rattle.sqlite.specs.Held.{state};
 ghost use Rattle.sqlite.specs.State.{HasCleanDisk, Survives};
 ghost use Rattle.sqlite.specs.Steps.{over_memory};
 ghost use Rattle.sql_base.specs.Ends.{Ends, IsKept, IsLeft, Wrote};
-ghost use Rattle.sql_tables.specs.Each.{WroteEach};
 ghost use Rattle.sql_tables.specs.Opening.{AddsVersion, Makes, MakesAll, MakesVersion};
 ghost use Rattle.sql_tables.specs.Tables.{our_schema};
 
+use crate::each::{Runs, run_both};
 use crate::parts::are_same;
 use crate::texts::texts_of;
 use crate::versions::Version;
-use sql_base::{laws, make};
+use sql_base::{UnitOfWork, make, transact};
 use sqlite::{Alter, Connection, Error, MemStore, Transaction};
 use sqlite_schema::schema::Schema;
 
-// Makes the tables and the indices that texts define, one after the other.
-fn make_each<S: Alter>(tx: &mut Transaction<'_, S>, texts: &[&str]) -> Result<(), Error>
-    ensures same_reference { tx.new.conn.ghost_name ≡ tx.old.conn.ghost_name }
-    ensures made { HasCleanDisk (state S.Store tx.new.conn.now)
-        → WroteEach Makes (map (λ text. text.now) texts.now) (state S.Store tx.old.conn.now)
-        (state S.Store tx.new.conn.now) result }
-    ensures survives { Survives (state S.Store tx.old.conn.now) (state S.Store tx.new.conn.now)
-        (λ _. ⊥) }
-{
-    for text in texts {
-        make(tx, text)?;
+// The statements that make tables and indices, by their texts.
+struct Making;
+
+impl<'a> Runs<&'a str> for Making {
+    ghost makes = { λ text. Makes text.now };
+
+    fn run<S: Alter>(tx: &mut Transaction<'_, S>, text: &&'a str) -> Result<usize, Error> {
+        make(tx, text)
     }
-    Ok(())
 }
 
 // Makes the tables and the indices of a version.
@@ -39,7 +35,8 @@ fn make_version<S: Alter>(tx: &mut Transaction<'_, S>, version: Version) -> Resu
     ensures survives { Survives (state S.Store tx.old.conn.now) (state S.Store tx.new.conn.now)
         (λ _. ⊥) }
 {
-    make_each(tx, texts_of(version))
+    let (first, rest) = texts_of(version);
+    run_both::<Making, &str, S>(tx, first, rest)
 }
 
 // Tells the version of the tables, in an open transaction.
@@ -69,6 +66,17 @@ pub fn make_all<S: Alter>(tx: &mut Transaction<'_, S>) -> Result<(), Error>
     Ok(())
 }
 
+// All that `make_all` makes.
+struct All;
+
+impl UnitOfWork for All {
+    ghost makes = { λ _. MakesAll };
+
+    fn run<S: Alter>(&self, tx: &mut Transaction<'_, S>) -> Result<(), Error> {
+        make_all(tx)
+    }
+}
+
 /// Makes the tables in one transaction, and tells their version. A crash leaves what it could leave
 /// before, or all of it.
 pub fn make_tables<S: Alter>(conn: &mut Connection<S>) -> Result<(), Error>
@@ -81,10 +89,7 @@ pub fn make_tables<S: Alter>(conn: &mut Connection<S>) -> Result<(), Error>
     ensures crash { Survives (state S.Store conn.old) (state S.Store conn.new)
         (IsLeft MakesAll (state S.Store conn.old)) }
 {
-    laws::is_committed(conn);
-    let mut tx = conn.transaction();
-    make_all(&mut tx)?;
-    tx.commit()
+    transact(conn, &All)
 }
 
 // Makes the tables and the indices of a version in memory, in one transaction.

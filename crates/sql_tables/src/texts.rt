@@ -1,5 +1,5 @@
 //! The texts that make the tables of each version, and the indices of our own.
-ghost use Rattle.std.specs.Prelude.{◌≡◌, map};
+ghost use Rattle.std.specs.Prelude.{◌≡◌, ◌++◌, map};
 ghost use Rattle.sql_tables.specs.Texts.{texts_of};
 
 use crate::versions::Version;
@@ -98,7 +98,8 @@ const BATCH_TOLD: &str = "CREATE INDEX batch_told ON batch (name, product, close
 
 const BATCH_NAMED: &str = "CREATE INDEX batch_named ON batch (id, name)";
 
-const ONE: &[&str] = &[
+// Versions 1 and 2 share these.
+const EARLIER: &[&str] = &[
     PRODUCT,
     LOT,
     BATCH,
@@ -109,37 +110,13 @@ const ONE: &[&str] = &[
     REMAKE,
     REPLY,
     UNMIXED_GROUPING,
-    VERSION_ONE,
 ];
 
-const TWO: &[&str] = &[
-    PRODUCT,
-    LOT,
-    BATCH,
-    RECORD,
-    SESSION,
-    WORD,
-    BLANK,
-    REMAKE,
-    REPLY,
-    UNMIXED_GROUPING,
-    MARK,
-    VERSION_TWO,
+const OURS: &[&str] = &[
+    VERSION, PRODUCT, LOT, BATCH, RECORD, GROUPING, SESSION, WORD, BLANK, REMAKE, REPLY, MARK,
 ];
 
-const THREE: &[&str] = &[
-    VERSION,
-    PRODUCT,
-    LOT,
-    BATCH,
-    RECORD,
-    GROUPING,
-    SESSION,
-    WORD,
-    BLANK,
-    REMAKE,
-    REPLY,
-    MARK,
+const OUR_INDICES: &[&str] = &[
     SESSION_RUNNING,
     GROUPING_PLACE,
     SESSION_STANDS,
@@ -149,12 +126,12 @@ const THREE: &[&str] = &[
 
 // The texts that make the tables of a version, each after those that it refers to, and then its
 // indices.
-pub(crate) fn texts_of(version: Version) -> &'static [&'static str]
-    ensures { map (λ text. text.now) result.now ≡ texts_of version }
+pub(crate) fn texts_of(version: Version) -> (&'static [&'static str], &'static [&'static str])
+    ensures { map (λ text. text.now) (result.0.now ++ result.1.now) ≡ texts_of version }
 {
     match version {
-        Version::One => ONE,
-        Version::Two => TWO,
-        Version::Three => THREE,
+        Version::One => (EARLIER, &[VERSION_ONE]),
+        Version::Two => (EARLIER, &[MARK, VERSION_TWO]),
+        Version::Three => (OURS, OUR_INDICES),
     }
 }

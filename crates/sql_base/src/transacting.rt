@@ -1,0 +1,47 @@
+//! A unit of work is done in one transaction.
+ghost use Rattle.std.specs.Prelude.{◌≡◌, false, OnErr, OnOk};
+ghost use Rattle.sqlite.specs.Held.{state};
+ghost use Rattle.sqlite.specs.State.{HasCleanDisk, Survives};
+ghost use Rattle.sql_base.specs.Ends.{Ends, IsKept, IsLeft};
+
+use crate::laws;
+use sqlite::{Alter, Connection, Error, Transaction};
+
+/// What is done in one transaction.
+pub trait UnitOfWork {
+    ghost use Rattle.std.specs.Prelude.{◌≡◌};
+    ghost use Rattle.sqlite.specs.Effect.{Database};
+    ghost use Rattle.sqlite.specs.Held.{state};
+    ghost use Rattle.sqlite.specs.State.{HasCleanDisk, Survives};
+    ghost use Rattle.sql_base.specs.Ends.{Wrote};
+
+    /// What it makes of the database.
+    ghost makes: { Self → Database → Database → Type 0 };
+
+    /// Does it, in an open transaction. A crash leaves nothing of it.
+    fn run<S: Alter>(&self, tx: &mut Transaction<'_, S>) -> Result<(), Error>
+        ensures same_reference { tx.new.conn.ghost_name ≡ tx.old.conn.ghost_name }
+        ensures made { HasCleanDisk (state S.Store tx.new.conn.now)
+            → Wrote (makes self.now) (state S.Store tx.old.conn.now)
+            (state S.Store tx.new.conn.now) result }
+        ensures survives { Survives (state S.Store tx.old.conn.now)
+            (state S.Store tx.new.conn.now) (λ _. ⊥) };
+}
+
+/// Does the work in a transaction of its own, or nothing. A crash leaves what it could leave before,
+/// or all of it.
+pub fn transact<W: UnitOfWork, S: Alter>(conn: &mut Connection<S>, work: &W) -> Result<(), Error>
+    requires { conn.old.in_transaction ≡ false }
+    ensures ok { HasCleanDisk (state S.Store conn.new) → OnOk result
+        (Ends (W.makes work.now) (state S.Store conn.old) (state S.Store conn.new)) }
+    ensures err { HasCleanDisk (state S.Store conn.new) → OnErr result
+        (IsKept (state S.Store conn.old) (state S.Store conn.new)) }
+    ensures idle { conn.new.in_transaction ≡ false }
+    ensures crash { Survives (state S.Store conn.old) (state S.Store conn.new)
+        (IsLeft (W.makes work.now) (state S.Store conn.old)) }
+{
+    laws::is_committed(conn);
+    let mut tx = conn.transaction();
+    work.run(&mut tx)?;
+    tx.commit()
+}

@@ -1,0 +1,16 @@
+use Rattle.std.proofs.Common.{arith}
+use Rattle.sqlite.specs.Held.{state}
+use Rattle.sqlite.specs.State.{HasCleanDisk}
+use Rattle.sql_tables.proofs.EachLemmas.{failed_each, wrote_then}
+use Rattle.sql_tables.proofs.each.run_both.Goals as goal
+
+pub returns-clause-made : goal.returns-clause-made
+returns-clause-made g c clean =
+    let a = state g.S.Store c.args.tx.now.conn.now in
+    let b = state g.S.Store c.run_each.new.tx.conn.now in
+    let d = state g.S.Store c.run_each-2.new.tx.conn.now in
+    let early : HasCleanDisk b = omega (arith, c.run_each-2.ensures.survives.clean) in
+    wrote_then g.R.Runs.makes c.args.first.now c.args.rest.now a b d _ c.run_each-2.result (c.in_ok-run_each.ensures.made early) (c.run_each-2.ensures.made clean)
+
+pub returns-in_err-run_each-clause-made : goal.returns-in_err-run_each-clause-made
+returns-in_err-run_each-clause-made g c clean = failed_each g.R.Runs.makes _ _ _ c.from_residual.result c.from_residual.ensures.0 (c.in_err-run_each.ensures.made clean).kept

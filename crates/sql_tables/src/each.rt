@@ -1,0 +1,65 @@
+//! Statements that run one after the other, in an open transaction.
+ghost use Rattle.std.specs.Prelude.{◌≡◌, ◌++◌};
+ghost use Rattle.sqlite.specs.Held.{state};
+ghost use Rattle.sqlite.specs.State.{HasCleanDisk, Survives};
+ghost use Rattle.sql_tables.specs.Each.{WroteEach};
+
+use sqlite::{Alter, Error, Transaction};
+
+/// A statement that each item of a list stands for.
+pub trait Runs<X> {
+    ghost use Rattle.std.specs.Prelude.{◌≡◌};
+    ghost use Rattle.sqlite.specs.Effect.{Database};
+    ghost use Rattle.sqlite.specs.Held.{state};
+    ghost use Rattle.sqlite.specs.State.{HasCleanDisk, Survives};
+    ghost use Rattle.sql_base.specs.Ends.{Wrote};
+
+    /// What the statement of an item makes of the database.
+    ghost makes: { X → Database → Database → Type 0 };
+
+    /// Runs the statement of an item. A crash leaves nothing of it.
+    fn run<S: Alter>(tx: &mut Transaction<'_, S>, item: &X) -> Result<usize, Error>
+        ensures same_reference { tx.new.conn.ghost_name ≡ tx.old.conn.ghost_name }
+        ensures made { HasCleanDisk (state S.Store tx.new.conn.now)
+            → Wrote (makes item.now) (state S.Store tx.old.conn.now)
+            (state S.Store tx.new.conn.now) result }
+        ensures survives { Survives (state S.Store tx.old.conn.now)
+            (state S.Store tx.new.conn.now) (λ _. ⊥) };
+}
+
+/// Runs the statement of each item, one after the other, up to the first error. A crash leaves
+/// nothing of it.
+pub fn run_each<R: Runs<X>, X, S: Alter>(
+    tx: &mut Transaction<'_, S>,
+    items: &[X],
+) -> Result<(), Error>
+    ensures same_reference { tx.new.conn.ghost_name ≡ tx.old.conn.ghost_name }
+    ensures made { HasCleanDisk (state S.Store tx.new.conn.now)
+        → WroteEach R.makes items.now (state S.Store tx.old.conn.now)
+        (state S.Store tx.new.conn.now) result }
+    ensures survives { Survives (state S.Store tx.old.conn.now) (state S.Store tx.new.conn.now)
+        (λ _. ⊥) }
+{
+    for item in items {
+        R::run(tx, item)?;
+    }
+    Ok(())
+}
+
+/// Runs the statements of one list, and then those of another, up to the first error. A crash
+/// leaves nothing of it.
+pub fn run_both<R: Runs<X>, X, S: Alter>(
+    tx: &mut Transaction<'_, S>,
+    first: &[X],
+    rest: &[X],
+) -> Result<(), Error>
+    ensures same_reference { tx.new.conn.ghost_name ≡ tx.old.conn.ghost_name }
+    ensures made { HasCleanDisk (state S.Store tx.new.conn.now)
+        → WroteEach R.makes (first.now ++ rest.now) (state S.Store tx.old.conn.now)
+        (state S.Store tx.new.conn.now) result }
+    ensures survives { Survives (state S.Store tx.old.conn.now) (state S.Store tx.new.conn.now)
+        (λ _. ⊥) }
+{
+    run_each::<R, X, S>(tx, first)?;
+    run_each::<R, X, S>(tx, rest)
+}
