@@ -18,7 +18,7 @@ use Rattle.image_laws.proofs.Lots.{rows_after_discard, rows_after_lot}
 use Rattle.image_laws.proofs.Opening.{rows_after_opening}
 use Rattle.image_laws.proofs.Products.{rows_after_product}
 use Rattle.image_laws.proofs.Remaking.{rows_after_remake, rows_after_withdrawal}
-use Rattle.image_laws.proofs.Words.{rows_after_good_word, rows_after_spoiled_word, rows_after_word}
+use Rattle.image_laws.proofs.Words.{rows_after_last_word, rows_after_word}
 
 -- the rows after a writing are those after what it is
 abbrev AreAfter : Contents → Change → Writing → Type 0
@@ -32,16 +32,14 @@ pub rows_after_change_are : (c : Contents) (change : Change) (w : Writing) → I
 rows_after_change_are c change.Nothing w sound keeps is = by c change.Nothing w _ is (itself (image c))
 rows_after_change_are c (change.AddsProduct p) w sound keeps is = by c (change.AddsProduct p) w _ is (rows_after_product c p sound)
 rows_after_change_are c (change.AddsLot l) w sound keeps is = by c (change.AddsLot l) w _ is (rows_after_lot c l sound keeps)
-rows_after_change_are c (change.AddsBatch number b p records raw) w sound keeps is =
-    by c (change.AddsBatch number b p records raw) w _ is (rows_after_batch c number b p records raw sound keeps)
-rows_after_change_are c (change.Opens s machine b r blank lot) w sound keeps is =
-    by c (change.Opens s machine b r blank lot) w _ is.2 (rows_after_opening c s machine b r blank lot is.0 sound keeps is.1)
-rows_after_change_are c (change.AddsWord s b r index sw session.Running cursor) w sound keeps is =
-    by c (change.AddsWord s b r index sw session.Running cursor) w _ is (rows_after_word c s b r index sw cursor sound keeps)
-rows_after_change_are c (change.AddsWord s b r index sw session.Good cursor) w sound keeps is =
-    by c (change.AddsWord s b r index sw session.Good cursor) w _ is.2 (rows_after_good_word c s b r index sw cursor is.0 sound keeps is.1)
-rows_after_change_are c (change.AddsWord s b r index sw session.Spoiled cursor) w sound keeps is =
-    by c (change.AddsWord s b r index sw session.Spoiled cursor) w _ is.2 (rows_after_spoiled_word c s b r index sw cursor is.0 sound keeps is.1)
+rows_after_change_are c (change.AddsBatch b) w sound keeps is = by c (change.AddsBatch b) w _ is (rows_after_batch c b sound keeps)
+rows_after_change_are c (change.Opens s b r) w sound keeps is = by c (change.Opens s b r) w _ is.2 (rows_after_opening c s b r is.0 sound keeps is.1)
+rows_after_change_are c (change.AddsWord word b r session.Running) w sound keeps is =
+    by c (change.AddsWord word b r session.Running) w _ is (rows_after_word c word b r sound keeps)
+rows_after_change_are c (change.AddsWord word b r session.Good) w sound keeps is =
+    by c (change.AddsWord word b r session.Good) w _ is.2 (rows_after_last_word c word b r session.Good is.0 (λ e. cc) sound keeps is.1)
+rows_after_change_are c (change.AddsWord word b r session.Spoiled) w sound keeps is =
+    by c (change.AddsWord word b r session.Spoiled) w _ is.2 (rows_after_last_word c word b r session.Spoiled is.0 (λ e. cc) sound keeps is.1)
 rows_after_change_are c (change.Ends s) w sound keeps is = by c (change.Ends s) w _ is.2 (rows_after_end c s is.0 sound keeps is.1)
 rows_after_change_are c (change.Discards blank lot) w sound keeps is = by c (change.Discards blank lot) w _ is.2 (rows_after_discard c blank lot is.0 sound keeps is.1)
 rows_after_change_are c (change.Remakes b r) w sound keeps is = by c (change.Remakes b r) w _ is.2 (rows_after_remake c b r is.0 sound keeps is.1)

@@ -19,9 +19,9 @@ use Rattle.step_laws.proofs.Kept.{no_more, one_more}
 use Rattle.table_rows.specs.After.{rows_after}
 use Rattle.table_rows.specs.Tables.{HaveSameRows, StoredBatch, closed_set}
 use Rattle.table_rows.specs.declared.writing.Writing.TheVariants as writing
-use Rattle.image_laws.specs.Image.{batches_by_id, image, stored_batch, stored_batches, stored_blanks, stored_lots, stored_words}
+use Rattle.image_laws.specs.Image.{batch_by, batches_by_id, image, stored_batch, stored_batches, stored_blanks, stored_lots}
 use Rattle.image_laws.proofs.Lists.{knows_later, unmoved}
-use Rattle.image_laws.proofs.Staying.{batch_by, groupings_stay, records_stay, remakes_stay, session_states_same, sessions_stay, totals_same}
+use Rattle.image_laws.proofs.Staying.{rows_stay, session_states_same, totals_same}
 
 module _ (f : Facts) (name : List ℕ) where
   abbrev with_closed : Facts
@@ -63,22 +63,9 @@ module _ (f : Facts) (name : List ℕ) where
 
 pub rows_after_close : (c : Contents) (name : List ℕ) → IsSound c.facts
     → HaveSameRows (image (record c { facts = changed c.facts (change.Closes name) })) (rows_after (writing.Closes name) (image c))
-unfolding stored_lots stored_blanks stored_words
+unfolding stored_lots stored_blanks
 rows_after_close c name sound =
     let f = c.facts in
     let g = with_close f name in
     let stands : (b r : List ℕ) → StandsSame f g b r = stand f name sound in
-    let more = knows f name in
-    record {
-      products = unmoved _ _ refl;
-      lots = unmoved _ _ refl;
-      batches = unmoved _ _ (batches_set f name sound);
-      records = unmoved _ _ (records_stay f g sound more refl stands);
-      groupings = unmoved _ _ (groupings_stay f g sound more refl stands);
-      sessions = unmoved _ _ (sessions_stay f g sound more refl stands refl);
-      words = unmoved _ _ refl;
-      blanks = unmoved _ _ refl;
-      remakes = unmoved _ _ (remakes_stay f g sound more refl stands);
-      replies = unmoved _ _ refl;
-      marks = unmoved _ _ refl;
-    }
+    rows_stay f g sound (knows f name) refl stands refl c.kept c.marks (unmoved _ _ refl) (unmoved _ _ refl) (unmoved _ _ (batches_set f name sound)) (unmoved _ _ refl)

@@ -1,6 +1,5 @@
 -- The rows after a batch was imported.
 use Rattle.std.proofs.Common.{◌≡◌, ℕ, ◌+◌, Bool, true, false, cond, List, [], ◌∷◌, ◌++◌, length, map, All, Option, Some, None, refl, sym, ap, subst, ◌∙◌, arith, append-nil, IsPermutation}
-use Rattle.std.specs.Borrow.{Bor}
 use Rattle.std.specs.Prelude.{AllPairs, IsSome, IsTrue, bytes_eq, count_by}
 use Rattle.std.specs.List.{enumerate_from, flat_map, list_any, range_with_len}
 use Rattle.std.specs.Option.{option_or}
@@ -18,13 +17,14 @@ use Rattle.store_data.proofs.CommandLemmas.{enumerate_from-append}
 use Rattle.store_data.proofs.GroupLemmas.{bytes_eq-same, same-bytes_eq}
 use Rattle.batch_import.specs.Batch.{batch_of, coming_of}
 use Rattle.job_facts.specs.declared.change.Change.TheVariants as change
+use Rattle.job_facts.specs.declared.change.NewBatch.{NewBatch}
 use Rattle.job_facts.specs.declared.facts.RecordState.{RecordState}
 use Rattle.job_facts.specs.declared.facts.RecordState.TheVariants as rec
-use Rattle.job_facts.specs.Accounts.{batch_totals, record_states, session_states}
+use Rattle.job_facts.specs.Accounts.{batch_totals, record_states, session_states, totals_by}
 use Rattle.job_facts.specs.Contents.{Contents}
 use Rattle.job_facts.specs.Facts.{Batch, Facts, RecordName, Session, with_batch}
 use Rattle.job_facts.specs.Sound.{IsRecord, IsSession, IsSound, IsSoundChange, changed}
-use Rattle.job_facts.specs.States.{batch_named, is_closed, is_record, is_withdrawn, product_named, record_state, records_named, records_of, records_under, remakes_of, rows_of, rows_or_none, rows_under, same_record_state, session_cursor, session_state, state_by, states_of}
+use Rattle.job_facts.specs.States.{batch_named, is_closed, is_record, is_withdrawn, product_named, record_state, records_named, records_of, records_under, remakes_of, rows_of, rows_or_none, rows_under, same_record_state, session_state, state_by, states_of}
 use Rattle.job_facts.proofs.Lists.{count_by_none, find-All, map_same}
 use Rattle.job_facts.proofs.SoundFacts.{is_for, states_are}
 use Rattle.step_laws.specs.Later.{KnowsMore}
@@ -37,12 +37,12 @@ use Rattle.table_rows.specs.After.{batch_rows_after, new_batch, new_grouping, ne
 use Rattle.table_rows.specs.Tables.{HaveSameRows, StoredBatch, StoredRemake}
 use Rattle.table_rows.specs.declared.writing.Writing.TheVariants as writing
 use Rattle.table_rows.proofs.Found.{filter_none, find_none}
-use Rattle.image_laws.specs.Image.{batch_id, batches_by_id, groupings_in, image, place_in, placed_records, records_in, remakes_at, remakes_in, sessions_by_id, stored_batch, stored_batches, stored_blanks, stored_groupings, stored_lots, stored_record, stored_records, stored_remakes, stored_session, stored_sessions, stored_words}
+use Rattle.image_laws.specs.Image.{batch_by, batches_by_id, groupings_in, image, placed_records, records_in, remakes_at, remakes_in, sessions_by_id, stored_batch, stored_batches, stored_blanks, stored_groupings, stored_lots, stored_record, stored_records, stored_remakes, stored_session, stored_sessions, stored_words}
 use Rattle.image_laws.proofs.FileRows.{each_record_named, rows_come}
 use Rattle.image_laws.proofs.Found.{found_alone, place_kept, some_there, to_last}
 use Rattle.image_laws.proofs.Lists.{All-numbered, flat_map_same, pushed, unmoved}
 use Rattle.image_laws.proofs.OneRecord.{turned}
-use Rattle.image_laws.proofs.Staying.{batch_by, cursor_kept, record_kept, session_by, session_states_kept, totals_are, totals_by}
+use Rattle.image_laws.proofs.Staying.{cursor_kept, record_kept, session_alike, session_states_kept, totals_are}
 
 -- ---- records that all wait
 
@@ -144,11 +144,9 @@ module _ (f : Facts) (new : Batch) (sound : IsSound f) (after : IsSound (with_ba
   session_other : (e : ℕ × Session) → IsSession f e.1 → stored_session g e ≡ stored_session f e
   session_other e is =
       let s = e.1 in
-      ap (λ id. session_by e id (place_in (records_named g s.batch) s.rec) (session_state g s) (session_cursor g s))
+      session_alike f g e
       (ap (λ n. 1 + n) (place_kept (λ (b : Batch). bytes_eq b.name s.batch) f.batches (new ∷ []) is.batch is.batch_is))
-      ∙ ap (λ names. session_by e (batch_id f.batches s.batch) (place_in names s.rec) (session_state g s) (session_cursor g s)) (records_other s.batch (other_there s.batch is.batch is.batch_is))
-      ∙ ap (λ state. session_by e (batch_id f.batches s.batch) (place_in (records_named f s.batch) s.rec) state (session_cursor g s)) (state_kept f g knows sound s is)
-      ∙ ap (session_by e (batch_id f.batches s.batch) (place_in (records_named f s.batch) s.rec) (session_state f s)) (cursor_kept f g sound knows s is)
+      (records_other s.batch (other_there s.batch is.batch is.batch_is)) (state_kept f g knows sound s is) (cursor_kept f g sound knows s is)
 
   pub sessions_old : stored_sessions g ≡ stored_sessions f
   unfolding stored_sessions
@@ -280,27 +278,28 @@ rows_read : (products : List Product) (new : Batch) (product : Product) → prod
 unfolding rows_of
 rows_read products new product there = ap (λ p. rows_under p new.raw) there
 
-pub rows_after_batch : (c : Contents) (number : ℕ) (b : List ℕ) (p : Product) (records : ℕ) (raw : Bor (List ℕ)) → IsSound c.facts → IsSoundChange c.facts (change.AddsBatch number b p records raw)
-    → HaveSameRows (image (record c { facts = changed c.facts (change.AddsBatch number b p records raw) }))
-    (rows_after (writing.AddsBatch (record { id = number; name = b; product = p; records = records; raw = raw })) (image c))
+pub rows_after_batch : (c : Contents) (b : NewBatch) → IsSound c.facts → IsSoundChange c.facts (change.AddsBatch b)
+    → HaveSameRows (image (record c { facts = changed c.facts (change.AddsBatch b) })) (rows_after (writing.AddsBatch b) (image c))
 unfolding stored_lots stored_blanks stored_words
-rows_after_batch c number b p records raw sound keeps =
+rows_after_batch c b sound keeps =
     let f = c.facts in
-    let new : Batch = record { name = b; product = p.code; raw = raw.now } in
+    let p = b.product in
+    let raw = b.raw.now in
+    let new : Batch = record { name = b.name; product = p.code; raw = raw } in
     let owed = keeps.before in
-    let rows : List Row = (coming_of p.check raw.now).rows in
-    let come : rows ≡ owed.rows = rows_come p raw.now owed.rows owed.read in
+    let rows : List Row = (coming_of p.check raw).rows in
+    let come : rows ≡ owed.rows = rows_come p raw owed.rows owed.read in
     let read : rows_of f.products new ≡ rows = rows_read f.products new p owed.product ∙ ap rows_or_none owed.read ∙ sym come in
     let found : List (List ℕ) = first_appearances (map (λ (row : Row). row.rec) rows) in
-    let counted : length found ≡ records =
+    let counted : length found ≡ b.records =
     sym (owed.counted ∙ each_record_named owed.rows ∙ ap (λ (rs : List Row). length (first_appearances (map (λ (row : Row). row.rec) rs))) (sym come)) in
     let id : ℕ = last f new sound keeps.sound in
-    let is_next : id ≡ number = omega (arith, owed.next) in
-    let same : HaveSameRows (image (record c { facts = with_batch f new })) (batch_rows_after id b p.code raw.now (length found) rows (image c)) = record {
+    let is_next : id ≡ b.number = omega (arith, owed.next) in
+    let same : HaveSameRows (image (record c { facts = with_batch f new })) (batch_rows_after id b.name p.code raw (length found) rows (image c)) = record {
       products = unmoved _ _ refl;
       lots = unmoved _ _ refl;
-      batches = subst (λ bs. IsPermutation bs (new_batch id b p.code raw.now (length found) ∷ stored_batches f)) (sym (batches_more f new sound keeps.sound rows read))
-          (pushed (stored_batches f) (new_batch id b p.code raw.now (length found)));
+      batches = subst (λ bs. IsPermutation bs (new_batch id b.name p.code raw (length found) ∷ stored_batches f)) (sym (batches_more f new sound keeps.sound rows read))
+          (pushed (stored_batches f) (new_batch id b.name p.code raw (length found)));
       records = behind (stored_records f) (map (new_record id) (enumerate_from 0 found)) _ (records_more f new sound keeps.sound rows read);
       groupings = behind (stored_groupings f) (map (new_grouping id found) (enumerate_from 2 rows)) _ (groupings_more f new sound keeps.sound rows read);
       sessions = unmoved _ _ (sessions_old f new sound keeps.sound);
@@ -310,5 +309,5 @@ rows_after_batch c number b p records raw sound keeps =
       replies = unmoved _ _ refl;
       marks = unmoved _ _ refl;
     } in
-    subst (λ n. HaveSameRows (image (record c { facts = with_batch f new })) (batch_rows_after n b p.code raw.now records rows (image c))) is_next
-    (subst (λ k. HaveSameRows (image (record c { facts = with_batch f new })) (batch_rows_after id b p.code raw.now k rows (image c))) counted same)
+    subst (λ n. HaveSameRows (image (record c { facts = with_batch f new })) (batch_rows_after n b.name p.code raw b.records rows (image c))) is_next
+    (subst (λ k. HaveSameRows (image (record c { facts = with_batch f new })) (batch_rows_after id b.name p.code raw k rows (image c))) counted same)

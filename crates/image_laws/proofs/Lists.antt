@@ -3,11 +3,9 @@ use Rattle.std.proofs.Common.{◌≡◌, ℕ, ◌+◌, List, [], ◌∷◌, ◌+
 use Rattle.std.specs.List.{enumerate_from, flat_map}
 use Rattle.std.proofs.lemmas.List.Elements.{All-append, All-cons, All-head, All-nil, All-tail}
 use Rattle.std.proofs.lemmas.List.Sorted.{IsPermutation-push_more, IsPermutation-refl}
-use Rattle.job_facts.specs.Contents.{Entry, Mark}
 use Rattle.job_facts.specs.Facts.{Facts, Session}
 use Rattle.step_laws.specs.Later.{IsMore, KnowsMore}
 use Rattle.step_laws.proofs.Kept.{no_more}
-use Rattle.table_rows.specs.Tables.{HaveSameRows, Tables}
 
 module _ {X : Type 0} where
   -- what holds of each holds of each with its number
@@ -44,20 +42,4 @@ knows_later f sessions discarded closed more_discarded more_closed = record {
   remakes = no_more f.remakes;
   withdrawn = no_more f.withdrawn;
   closed = more_closed;
-}
-
--- only the kept replies and the marks move
-pub replies_move : (t : Tables) (es fs : List Entry) (ms ns : List Mark) → IsPermutation es fs → IsPermutation ms ns → HaveSameRows (record t { replies = es; marks = ms }) (record t { replies = fs; marks = ns })
-replies_move t es fs ms ns replies marks = record {
-  products = IsPermutation-refl t.products;
-  lots = IsPermutation-refl t.lots;
-  batches = IsPermutation-refl t.batches;
-  records = IsPermutation-refl t.records;
-  groupings = IsPermutation-refl t.groupings;
-  sessions = IsPermutation-refl t.sessions;
-  words = IsPermutation-refl t.words;
-  blanks = IsPermutation-refl t.blanks;
-  remakes = IsPermutation-refl t.remakes;
-  replies = replies;
-  marks = marks;
 }

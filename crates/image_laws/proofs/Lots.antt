@@ -25,11 +25,11 @@ use Rattle.step_laws.proofs.Permuted.{PassAlone}
 use Rattle.table_rows.specs.After.{new_lot, rows_after}
 use Rattle.table_rows.specs.Tables.{HaveSameRows, StoredBlank, StoredLot, lot_set}
 use Rattle.table_rows.specs.declared.writing.Writing.TheVariants as writing
-use Rattle.image_laws.specs.Image.{image, name_of, stored_blank, stored_blanks, stored_lot, stored_lots, stored_words}
+use Rattle.image_laws.specs.Image.{image, name_of, stored_blank, stored_blanks, stored_lot, stored_lots}
 use Rattle.image_laws.specs.WritingOf.{AreDiscardedOf}
 use Rattle.image_laws.proofs.Found.{found_alone, some_there, to_last}
 use Rattle.image_laws.proofs.Lists.{knows_later, pushed, unmoved}
-use Rattle.image_laws.proofs.Staying.{batches_stay, groupings_stay, records_stay, remakes_stay, session_states_same, sessions_stay}
+use Rattle.image_laws.proofs.Staying.{batches_stay, rows_stay, session_states_same}
 
 -- a blank lies in one lot at most
 lots_once : (f : Facts) → IsSound f → (blank : ℕ) → AllPairs (PassAlone (is_in blank)) f.lots
@@ -80,10 +80,6 @@ module _ (f : Facts) (l : Lot) (sound : IsSound f) (after : IsSound (with_lot f 
       ap (λ bs. bs ++ map (stored_blank with_new true) f.discarded) (map_same (opened with_new) (opened f) f.sessions one)
       ∙ ap (λ bs. map (opened f) f.sessions ++ bs) (map_same (stored_blank with_new true) (stored_blank f true) f.discarded other)
 
-  words_stay : stored_words with_new ≡ stored_words f
-  unfolding stored_words
-  words_stay = refl
-
 pub rows_after_lot : (c : Contents) (l : Lot) → IsSound c.facts → IsSoundChange c.facts (change.AddsLot l)
     → HaveSameRows (image (record c { facts = changed c.facts (change.AddsLot l) })) (rows_after (writing.AddsLot l) (image c))
 rows_after_lot c l sound keeps =
@@ -91,19 +87,10 @@ rows_after_lot c l sound keeps =
     let g = with_lot f l in
     let stands : (b r : List ℕ) → StandsSame f g b r = λ b r. others_same f (change.AddsLot l) sound tt b r refl in
     let more = lot_knows f l in
-    record {
-      products = unmoved _ _ refl;
-      lots = subst (λ ls. IsPermutation ls (new_lot l ∷ stored_lots f)) (sym (lots_more f l sound keeps.sound)) (pushed (stored_lots f) (new_lot l));
-      batches = unmoved _ _ (batches_stay f g sound more refl stands (session_states_same f g sound more refl stands refl) refl);
-      records = unmoved _ _ (records_stay f g sound more refl stands);
-      groupings = unmoved _ _ (groupings_stay f g sound more refl stands);
-      sessions = unmoved _ _ (sessions_stay f g sound more refl stands refl);
-      words = unmoved _ _ (words_stay f l sound keeps.sound);
-      blanks = unmoved _ _ (blanks_stay f l sound keeps.sound);
-      remakes = unmoved _ _ (remakes_stay f g sound more refl stands);
-      replies = unmoved _ _ refl;
-      marks = unmoved _ _ refl;
-    }
+    rows_stay f g sound more refl stands refl c.kept c.marks (unmoved _ _ refl)
+    (subst (λ ls. IsPermutation ls (new_lot l ∷ stored_lots f)) (sym (lots_more f l sound keeps.sound)) (pushed (stored_lots f) (new_lot l)))
+    (unmoved _ _ (batches_stay f g sound more refl stands (session_states_same f g sound more refl stands refl) refl))
+    (unmoved _ _ (blanks_stay f l sound keeps.sound))
 
 -- ---- a blank was taken out of use
 
@@ -169,10 +156,6 @@ module _ (f : Facts) (blank : ℕ) (name : List ℕ) (sound : IsSound f) (of_lot
       ∙ ap (λ b. opened ++ (map (stored_blank f true) f.discarded ++ b ∷ [])) blank_row
       ∙ sym (append_assoc opened (map (stored_blank f true) f.discarded) (out ∷ []))
 
-  words_same : stored_words with_out ≡ stored_words f
-  unfolding stored_words
-  words_same = refl
-
   knows_out : KnowsMore f with_out
   knows_out = knows_later f _ _ _ (one_more f.discarded blank) (no_more f.closed)
 
@@ -183,17 +166,8 @@ rows_after_discard c blank name discarded sound keeps is =
     let g = with_discard f blank in
     let stands : (b r : List ℕ) → StandsSame f g b r = λ b r. others_same f (change.Discards blank name) sound keeps.before b r refl in
     let more = knows_out f blank name sound keeps.before is.0 is.1 in
-    record {
-      products = unmoved _ _ refl;
-      lots = unmoved _ _ (lots_set f blank name sound keeps.before is.0 is.1 ∙ ap (λ n. map (lot_set name (n + 1)) (stored_lots f)) (sym is.2));
-      batches = unmoved _ _ (batches_stay f g sound more refl stands (session_states_same f g sound more refl stands refl) refl);
-      records = unmoved _ _ (records_stay f g sound more refl stands);
-      groupings = unmoved _ _ (groupings_stay f g sound more refl stands);
-      sessions = unmoved _ _ (sessions_stay f g sound more refl stands refl);
-      words = unmoved _ _ (words_same f blank name sound keeps.before is.0 is.1);
-      blanks = subst (λ bs. IsPermutation bs (out f blank name sound keeps.before is.0 is.1 ∷ stored_blanks f)) (sym (blanks_more f blank name sound keeps.before is.0 is.1))
-          (pushed (stored_blanks f) (record { serial = blank; lot = name; discarded = true }));
-      remakes = unmoved _ _ (remakes_stay f g sound more refl stands);
-      replies = unmoved _ _ refl;
-      marks = unmoved _ _ refl;
-    }
+    rows_stay f g sound more refl stands refl c.kept c.marks (unmoved _ _ refl)
+    (unmoved _ _ (lots_set f blank name sound keeps.before is.0 is.1 ∙ ap (λ n. map (lot_set name (n + 1)) (stored_lots f)) (sym is.2)))
+    (unmoved _ _ (batches_stay f g sound more refl stands (session_states_same f g sound more refl stands refl) refl))
+    (subst (λ bs. IsPermutation bs (out f blank name sound keeps.before is.0 is.1 ∷ stored_blanks f)) (sym (blanks_more f blank name sound keeps.before is.0 is.1))
+    (pushed (stored_blanks f) (record { serial = blank; lot = name; discarded = true })))

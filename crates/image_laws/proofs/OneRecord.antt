@@ -13,7 +13,7 @@ use Rattle.store_data.specs.declared.row.Row.{Row}
 use Rattle.job_facts.specs.declared.facts.RecordState.{RecordState}
 use Rattle.job_facts.specs.declared.facts.SessionState.{SessionState}
 use Rattle.job_facts.specs.declared.rows.BatchTotals.{BatchTotals}
-use Rattle.job_facts.specs.Accounts.{batch_totals, record_states, session_states}
+use Rattle.job_facts.specs.Accounts.{batch_totals, record_states, session_states, totals_by}
 use Rattle.job_facts.specs.Facts.{Batch, Facts, RecordName, Session}
 use Rattle.job_facts.specs.Sound.{IsRecord, IsSound}
 use Rattle.job_facts.specs.States.{batch_named, is_closed, is_record, is_spoiled, record_state, records_named, records_of, records_under, remakes_of, rows_of, states_of}
@@ -23,10 +23,10 @@ use Rattle.step_laws.proofs.BlankSums.{bytes_eq_either, named_once}
 use Rattle.step_laws.proofs.RecordStands.{named}
 use Rattle.table_rows.specs.After.{less, more}
 use Rattle.table_rows.specs.Tables.{StoredBatch, StoredRecord, record_set, totals_set}
-use Rattle.image_laws.specs.Image.{batch_id, batches_by_id, place_in, placed_records, records_in, stored_batch, stored_batches, stored_record, stored_records}
+use Rattle.image_laws.specs.Image.{batch_by, batch_id, batches_by_id, place_in, placed_records, records_in, stored_batch, stored_batches, stored_record, stored_records}
 use Rattle.image_laws.proofs.Lists.{All-numbered, flat_map_same}
 use Rattle.image_laws.proofs.Places.{HasPlace, IsAround, Once, around, found_alone, map_joined, once_of, placed}
-use Rattle.image_laws.proofs.Staying.{batch_by, totals_are, totals_by}
+use Rattle.image_laws.proofs.Staying.{totals_are}
 use Rattle.image_laws.proofs.Totals.{passes_to}
 
 -- ---- where a record stands

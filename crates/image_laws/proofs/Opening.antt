@@ -13,10 +13,11 @@ use Rattle.store_data.proofs.CommandLemmas.{enumerate_from-append}
 use Rattle.store_data.proofs.CursorLemmas.{first_there_of}
 use Rattle.store_data.proofs.GroupLemmas.{bytes_eq-same}
 use Rattle.job_facts.specs.declared.change.Change.TheVariants as change
+use Rattle.job_facts.specs.declared.change.NewSession.{NewSession}
 use Rattle.job_facts.specs.declared.facts.RecordState.TheVariants as rec
 use Rattle.job_facts.specs.declared.facts.SessionState.{SessionState}
 use Rattle.job_facts.specs.declared.facts.SessionState.TheVariants as session
-use Rattle.job_facts.specs.Accounts.{batch_totals, record_states, session_states}
+use Rattle.job_facts.specs.Accounts.{batch_totals, record_states, session_states, totals_by}
 use Rattle.job_facts.specs.Contents.{Contents}
 use Rattle.job_facts.specs.Facts.{Facts, Session, new_session, with_session}
 use Rattle.job_facts.specs.Sound.{IsRecord, IsSound, IsSoundChange, changed}
@@ -39,7 +40,7 @@ use Rattle.image_laws.specs.WritingOf.{IsPlaceOf}
 use Rattle.image_laws.specs.Image.{image, name_of, stored_blank, stored_blanks, stored_session, stored_sessions, stored_words, words_in}
 use Rattle.image_laws.proofs.Lists.{pushed, unmoved}
 use Rattle.image_laws.proofs.OneRecord.{batches_set, records_set, totals_pass}
-use Rattle.image_laws.proofs.Staying.{totals_are, totals_by}
+use Rattle.image_laws.proofs.Staying.{totals_are}
 use Rattle.image_laws.proofs.Totals.{session_opened}
 use Rattle.image_laws.proofs.Touching.{groupings_stay, is_place, lots_stay, place_of, remakes_stay}
 
@@ -124,13 +125,14 @@ module _ (f : Facts) (machine b r : List ℕ) (blank : ℕ) where
 
 -- ---- the change
 
-pub rows_after_opening : (c : Contents) (s : ℕ) (machine b r : List ℕ) (blank : ℕ) (lot : List ℕ) (p : RecordPlace) → IsSound c.facts
-    → IsSoundChange c.facts (change.Opens s machine b r blank lot) → IsPlaceOf c.facts b r p
-    → HaveSameRows (image (record c { facts = changed c.facts (change.Opens s machine b r blank lot) }))
-    (rows_after (writing.Opens (record { id = s; machine = machine; blank = blank; lot = lot; place = p })) (image c))
-rows_after_opening c s machine b r blank lot p sound keeps is =
+pub rows_after_opening : (c : Contents) (s : NewSession) (b r : List ℕ) (p : RecordPlace) → IsSound c.facts
+    → IsSoundChange c.facts (change.Opens s b r) → IsPlaceOf c.facts b r p
+    → HaveSameRows (image (record c { facts = changed c.facts (change.Opens s b r) })) (rows_after (writing.Opens s p) (image c))
+rows_after_opening c s b r p sound keeps is =
     let f : Facts = c.facts in
-    let opens = change.Opens s machine b r blank lot in
+    let machine = s.machine in
+    let blank = s.blank in
+    let opens = change.Opens s b r in
     let g : Facts = changed f opens in
     let new : Session = new_session machine b r blank in
     let sessions : List Session = f.sessions ++ new ∷ [] in
@@ -144,11 +146,11 @@ rows_after_opening c s machine b r blank lot p sound keeps is =
     ∙ ap (λ ss. one_opened (totals_by (record_states g b) ss)) (append-nil (session_states f b))
     ∙ ap one_opened (totals_pass f sessions f.remakes f.withdrawn b r sound others told.0 rec.Waiting rec.Running told.1 now (session_states f b))
     ∙ ap (λ n. one_opened (more rec.Running (less rec.Waiting n))) (sym (totals_are f b)) in
-    let blank_row : stored_blank f false blank ≡ record { serial = blank; lot = lot; discarded = false } =
+    let blank_row : stored_blank f false blank ≡ record { serial = blank; lot = s.lot; discarded = false } =
     ap (λ n. record { serial = blank; lot = n; discarded = false }) (ap name_of keeps.before.1.1 ∙ keeps.before.1.2) in
     let at : RecordPlace = place_of f b r in
-    let wrote : ℕ → RecordPlace → Writing = λ id q. writing.Opens (record { id = id; machine = machine; blank = blank; lot = lot; place = q }) in
-    subst (λ q. HaveSameRows (image (record c { facts = g })) (rows_after (wrote s q) (image c))) (sym (is_place f b r p is))
+    let wrote : ℕ → RecordPlace → Writing = λ number q. writing.Opens (record s { number = number }) q in
+    subst (λ q. HaveSameRows (image (record c { facts = g })) (rows_after (wrote s.number q) (image c))) (sym (is_place f b r p is))
     (subst (λ n. HaveSameRows (image (record c { facts = g })) (rows_after (wrote n at) (image c))) (sym keeps.before.2)
     (record {
       products = unmoved _ _ refl;

@@ -12,31 +12,21 @@ use Rattle.table_rows.specs.After.{rows_after}
 use Rattle.table_rows.specs.Tables.{HaveSameRows}
 use Rattle.table_rows.specs.Tables as tables
 use Rattle.table_rows.specs.declared.writing.Writing.TheVariants as writing
-use Rattle.image_laws.specs.Image.{image, stored_blanks, stored_lots, stored_words}
-use Rattle.image_laws.proofs.Lists.{pushed, replies_move, unmoved}
-use Rattle.image_laws.proofs.Staying.{batches_stay, groupings_stay, records_stay, remakes_stay, session_states_same, sessions_stay}
+use Rattle.table_rows.proofs.Same.{replies_move}
+use Rattle.image_laws.specs.Image.{image, stored_blanks, stored_lots}
+use Rattle.image_laws.proofs.Lists.{pushed, unmoved}
+use Rattle.image_laws.proofs.Staying.{batches_stay, rows_stay, session_states_same}
 
 pub rows_with_reply : (c : Contents) (entry : Entry) → HaveSameRows (image (committed c change.Nothing entry)) (tables.with_reply entry (image c))
 rows_with_reply c entry = replies_move (image c) _ _ _ _ (pushed c.kept entry) (unmoved _ _ refl)
 
 pub rows_after_product : (c : Contents) (p : Product) → IsSound c.facts
     → HaveSameRows (image (record c { facts = changed c.facts (change.AddsProduct p) })) (rows_after (writing.AddsProduct p) (image c))
-unfolding stored_lots stored_blanks stored_words
+unfolding stored_lots stored_blanks
 rows_after_product c p sound =
     let f = c.facts in
     let g = with_product f p in
     let stands : (b r : List ℕ) → StandsSame f g b r = λ b r. others_same f (change.AddsProduct p) sound tt b r refl in
     let more = product_knows f p in
-    record {
-      products = pushed f.products p;
-      lots = unmoved _ _ refl;
-      batches = unmoved _ _ (batches_stay f g sound more refl stands (session_states_same f g sound more refl stands refl) refl);
-      records = unmoved _ _ (records_stay f g sound more refl stands);
-      groupings = unmoved _ _ (groupings_stay f g sound more refl stands);
-      sessions = unmoved _ _ (sessions_stay f g sound more refl stands refl);
-      words = unmoved _ _ refl;
-      blanks = unmoved _ _ refl;
-      remakes = unmoved _ _ (remakes_stay f g sound more refl stands);
-      replies = unmoved _ _ refl;
-      marks = unmoved _ _ refl;
-    }
+    rows_stay f g sound more refl stands refl c.kept c.marks (pushed f.products p) (unmoved _ _ refl)
+    (unmoved _ _ (batches_stay f g sound more refl stands (session_states_same f g sound more refl stands refl) refl)) (unmoved _ _ refl)

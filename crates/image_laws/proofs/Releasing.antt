@@ -10,8 +10,9 @@ use Rattle.table_rows.specs.After.{rows_written}
 use Rattle.table_rows.specs.declared.writing.Writing.TheVariants as writing
 use Rattle.table_rows.specs.Tables.{HaveSameRows, is_released}
 use Rattle.table_rows.proofs.Found.{filter_alike}
+use Rattle.table_rows.proofs.Same.{replies_move}
 use Rattle.image_laws.specs.Image.{image}
-use Rattle.image_laws.proofs.Lists.{pushed, replies_move}
+use Rattle.image_laws.proofs.Lists.{pushed}
 
 abbrev upto_of : Option Mark → ℕ
 upto_of o = unwrap_or (option_map (λ (m : Mark). m.upto) o) 0

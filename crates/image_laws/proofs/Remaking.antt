@@ -10,7 +10,7 @@ use Rattle.store_data.specs.declared.row.Product.{Product}
 use Rattle.job_facts.specs.declared.change.Change.TheVariants as change
 use Rattle.job_facts.specs.declared.facts.RecordState.{RecordState}
 use Rattle.job_facts.specs.declared.facts.RecordState.TheVariants as rec
-use Rattle.job_facts.specs.Accounts.{batch_totals, record_states, session_states}
+use Rattle.job_facts.specs.Accounts.{batch_totals, record_states, session_states, totals_by}
 use Rattle.job_facts.specs.Contents.{Contents}
 use Rattle.job_facts.specs.Facts.{Batch, Facts, RecordName, with_remake}
 use Rattle.job_facts.specs.Sound.{IsRecord, IsSound, IsSoundChange, changed}
@@ -27,7 +27,7 @@ use Rattle.image_laws.specs.Image.{batch_id, batches_by_id, image, place_in, pla
 use Rattle.image_laws.proofs.Lists.{flat_map_same, pushed, unmoved}
 use Rattle.image_laws.proofs.OneRecord.{batch_once, batches_set, has_name, ids, named_alone, places_in, records_once, records_set, totals_pass, turned}
 use Rattle.image_laws.proofs.Places.{AddsOne, StaysBut, any_numbered, once_numbered, one_added}
-use Rattle.image_laws.proofs.Staying.{totals_are, totals_by}
+use Rattle.image_laws.proofs.Staying.{totals_are}
 use Rattle.image_laws.proofs.Touching.{blanks_stay, groupings_stay, is_place, lots_stay, place_of, remakes_stay, sessions_stay, words_stay}
 
 -- ---- the batch and the record are there

@@ -1,19 +1,15 @@
 -- Rows that stay, where batches, sessions and what is told of records stay.
-use Rattle.std.proofs.Common.{◌≡◌, ℕ, Bool, List, All, map, Option, Some, None, refl, sym, ap, ◌∙◌}
+use Rattle.std.proofs.Common.{◌≡◌, ℕ, Bool, List, All, map, Option, Some, None, refl, sym, ap, ◌∙◌, IsPermutation}
 use Rattle.std.specs.Prelude.{bytes_eq, filter, length, option_and_then, unwrap_or}
 use Rattle.std.specs.List.{enumerate_from, flat_map, list_any}
 use Rattle.std.proofs.lemmas.List.Elements.{All-filter, All-weaker}
 use Rattle.store_data.specs.Cursor.{cursor_at, select_cursor}
 use Rattle.store_data.specs.Groups.{first_appearances}
 use Rattle.store_data.specs.Sequence.{Plan, commands_of}
-use Rattle.store_data.specs.declared.cursor.Cursor.{Cursor}
+use Rattle.store_data.specs.declared.row.Product.{Product}
 use Rattle.store_data.specs.declared.row.Row.{Row}
-use Rattle.job_facts.specs.declared.facts.RecordState.{RecordState}
-use Rattle.job_facts.specs.declared.facts.RecordState.TheVariants as rec
-use Rattle.job_facts.specs.declared.facts.SessionState.{SessionState}
-use Rattle.job_facts.specs.declared.facts.SessionState.TheVariants as session
-use Rattle.job_facts.specs.declared.rows.BatchTotals.{BatchTotals}
-use Rattle.job_facts.specs.Accounts.{batch_totals, count_records, count_sessions, record_states, session_states}
+use Rattle.job_facts.specs.Accounts.{batch_totals, record_states, session_states, totals_by}
+use Rattle.job_facts.specs.Contents.{Entry, Mark}
 use Rattle.job_facts.specs.Facts.{Batch, Facts, Session}
 use Rattle.job_facts.specs.Sound.{IsBatch, IsSession, IsSound}
 use Rattle.job_facts.specs.States.{batch_named, going, is_closed, product_named, record_state, records_named, records_of, records_under, rows_of, rows_under, session_cursor, session_state}
@@ -21,55 +17,30 @@ use Rattle.job_facts.proofs.Lists.{find-All, map_same}
 use Rattle.step_laws.specs.Later.{KnowsMore}
 use Rattle.step_laws.specs.Records.{StandsSame}
 use Rattle.step_laws.proofs.Kept.{plan_kept, product_kept, state_kept}
-use Rattle.table_rows.specs.Tables.{StoredBatch, StoredSession}
-use Rattle.image_laws.specs.Image.{batch_id, batches_by_id, groupings_in, place_in, placed_records, records_in, remakes_at, remakes_in, sessions_by_id, stored_batch, stored_batches, stored_grouping, stored_groupings, stored_record, stored_records, stored_remakes, stored_session, stored_sessions}
-use Rattle.image_laws.proofs.Lists.{All-numbered, flat_map_same}
+use Rattle.table_rows.specs.After.{new_grouping}
+use Rattle.table_rows.specs.Tables.{HaveSameRows, StoredBatch, StoredBlank, StoredLot}
+use Rattle.image_laws.specs.Image.{batch_by, batch_id, batches_by_id, groupings_in, image, place_in, placed_records, records_in, remakes_at, remakes_in, sessions_by_id, stored_batch, stored_batches, stored_blanks, stored_groupings, stored_lots, stored_record, stored_records, stored_remakes, stored_session, stored_sessions, stored_words, words_in}
+use Rattle.image_laws.proofs.Lists.{All-numbered, flat_map_same, unmoved}
 
 -- ---- what an account is made of
-
-abbrev pub totals_by : List RecordState → List SessionState → BatchTotals
-totals_by records sessions = record {
-  records = length records;
-  waiting = count_records records rec.Waiting;
-  running = count_records records rec.Running;
-  failed = count_records records rec.Failed;
-  withdrawn = count_records records rec.Withdrawn;
-  good = count_records records rec.Good;
-  sessions = length sessions;
-  spoiled = count_sessions sessions session.Spoiled;
-}
 
 pub totals_are : (f : Facts) (b : List ℕ) → batch_totals f b ≡ totals_by (record_states f b) (session_states f b)
 unfolding batch_totals
 totals_are f b = refl
 
-abbrev pub batch_by : ℕ × Batch → Bool → BatchTotals → StoredBatch
-batch_by e closed totals = record {
-  id = e.0;
-  name = e.1.name;
-  product = e.1.product;
-  raw = e.1.raw;
-  closed = closed;
-  waiting = totals.waiting;
-  running = totals.running;
-  failed = totals.failed;
-  withdrawn = totals.withdrawn;
-  good = totals.good;
-  sessions = totals.sessions;
-  spoiled = totals.spoiled;
-}
-
-abbrev pub session_by : ℕ × Session → ℕ → ℕ → SessionState → Cursor → StoredSession
-session_by e batch place state cursor = record {
+-- a session's row, where what it is made of is the same
+pub session_alike : (f g : Facts) (e : ℕ × Session) → batch_id g.batches e.1.batch ≡ batch_id f.batches e.1.batch → records_named g e.1.batch ≡ records_named f e.1.batch
+    → session_state g e.1 ≡ session_state f e.1 → session_cursor g e.1 ≡ session_cursor f e.1 → stored_session g e ≡ stored_session f e
+session_alike f g e batch names state cursor = λ i. record {
   id = e.0;
   machine = e.1.machine;
-  batch = batch;
-  place = place;
+  batch = batch i;
+  place = place_in (names i) e.1.rec;
   serial = e.1.blank;
-  state = state;
+  state = state i;
   ended = e.1.ended;
   words = length e.1.words;
-  cursor = cursor;
+  cursor = cursor i;
 }
 
 -- ---- where sessions stay, and what is known stays known
@@ -157,42 +128,35 @@ module _ (f g : Facts) (sound : IsSound f) (more : KnowsMore f g)
       ∙ map_same (stored_batch g) (stored_batch f) (batches_by_id f)
       (λ k d within. batch_same states closed _)
 
+  -- what is listed of each batch in turn
+  of_batches_stay : {Y : Type 0} (rows : Facts → ℕ × Batch → List Y) → ((e : ℕ × Batch) → IsBatch f.products e.1 → rows g e ≡ rows f e)
+      → flat_map (rows g) (batches_by_id g) ≡ flat_map (rows f) (batches_by_id f)
+  of_batches_stay rows same =
+      ap (λ bs. flat_map (rows g) (enumerate_from 1 bs)) batches
+      ∙ flat_map_same (rows g) (rows f) (batches_by_id f)
+      (All-weaker (λ (e : ℕ × Batch). IsBatch f.products e.1) (λ e. rows g e ≡ rows f e) same (batches_by_id f) each_batch)
+
   pub records_stay : stored_records g ≡ stored_records f
   unfolding stored_records
   records_stay =
-      ap (λ bs. flat_map (records_in g) (enumerate_from 1 bs)) batches
-      ∙ flat_map_same (records_in g) (records_in f) (batches_by_id f)
-      (All-weaker (λ (e : ℕ × Batch). IsBatch f.products e.1) (λ e. records_in g e ≡ records_in f e)
+      of_batches_stay records_in
       (λ e is. ap (λ names. map (stored_record g e) (enumerate_from 0 names)) (records_same e.1 is)
       ∙ map_same (stored_record g e) (stored_record f e) (placed_records f e) (λ k d within. record_kept f g stands e _))
-      (batches_by_id f) each_batch)
 
   pub remakes_stay : stored_remakes g ≡ stored_remakes f
   unfolding stored_remakes
   remakes_stay =
-      ap (λ bs. flat_map (remakes_in g) (enumerate_from 1 bs)) batches
-      ∙ flat_map_same (remakes_in g) (remakes_in f) (batches_by_id f)
-      (All-weaker (λ (e : ℕ × Batch). IsBatch f.products e.1) (λ e. remakes_in g e ≡ remakes_in f e)
+      of_batches_stay remakes_in
       (λ e is. ap (λ names. flat_map (remakes_at g e) (enumerate_from 0 names)) (records_same e.1 is)
       ∙ flat_map_same (remakes_at g e) (remakes_at f e) (placed_records f e) (λ k d within. rw (stands e.1.name _).remakes refl))
-      (batches_by_id f) each_batch)
 
   pub groupings_stay : stored_groupings g ≡ stored_groupings f
   unfolding stored_groupings
-  groupings_stay =
-      ap (λ bs. flat_map (groupings_in g) (enumerate_from 1 bs)) batches
-      ∙ flat_map_same (groupings_in g) (groupings_in f) (batches_by_id f)
-      (All-weaker (λ (e : ℕ × Batch). IsBatch f.products e.1) (λ e. groupings_in g e ≡ groupings_in f e)
-      (λ e is. ap (λ rows. map (stored_grouping g e) (enumerate_from 2 rows)) (rows_same e.1 is)
-      ∙ map_same (stored_grouping g e) (stored_grouping f e) (enumerate_from 2 (rows_of f.products e.1)) (λ k d within. rw (records_same e.1 is) refl))
-      (batches_by_id f) each_batch)
+  groupings_stay = of_batches_stay groupings_in (λ e is i. map (new_grouping e.0 (records_same e.1 is i)) (enumerate_from 2 (rows_same e.1 is i)))
 
   session_same : (e : ℕ × Session) → IsSession f e.1 → stored_session g e ≡ stored_session f e
   session_same e is =
-      ap (λ bs. session_by e (batch_id bs e.1.batch) (place_in (records_named g e.1.batch) e.1.rec) (session_state g e.1) (session_cursor g e.1)) batches
-      ∙ ap (λ names. session_by e (batch_id f.batches e.1.batch) (place_in names e.1.rec) (session_state g e.1) (session_cursor g e.1)) (named_same e.1.batch)
-      ∙ ap (λ state. session_by e (batch_id f.batches e.1.batch) (place_in (records_named f e.1.batch) e.1.rec) state (session_cursor g e.1)) (state_kept f g more sound e.1 is)
-      ∙ ap (session_by e (batch_id f.batches e.1.batch) (place_in (records_named f e.1.batch) e.1.rec) (session_state f e.1)) (cursor_kept f g sound more e.1 is)
+      session_alike f g e (ap (λ bs. batch_id bs e.1.batch) batches) (named_same e.1.batch) (state_kept f g more sound e.1 is) (cursor_kept f g sound more e.1 is)
 
   pub sessions_stay : g.sessions ≡ f.sessions → stored_sessions g ≡ stored_sessions f
   unfolding stored_sessions
@@ -201,3 +165,26 @@ module _ (f g : Facts) (sound : IsSound f) (more : KnowsMore f g)
       ∙ map_same (stored_session g) (stored_session f) (sessions_by_id f)
       (All-weaker (λ (e : ℕ × Session). IsSession f e.1) (λ e. stored_session g e ≡ stored_session f e) session_same
       (sessions_by_id f) (All-numbered (IsSession f) 1 f.sessions sound.sessions.each))
+
+  words_stay : g.sessions ≡ f.sessions → stored_words g ≡ stored_words f
+  unfolding stored_words
+  words_stay sessions = ap (λ xs. flat_map words_in (enumerate_from 1 xs)) sessions
+
+  -- all tables, where the sessions stay too: four may have other rows
+  pub rows_stay : g.sessions ≡ f.sessions → (kept : List Entry) (marks : List Mark) {ps : List Product} {ls : List StoredLot} {bs : List StoredBatch} {blanks : List StoredBlank}
+      → IsPermutation g.products ps → IsPermutation (stored_lots g) ls → IsPermutation (stored_batches g) bs → IsPermutation (stored_blanks g) blanks
+      → HaveSameRows (image (record { facts = g; kept = kept; marks = marks }))
+      (record (image (record { facts = f; kept = kept; marks = marks })) { products = ps; lots = ls; batches = bs; blanks = blanks })
+  rows_stay sessions kept marks products_now lots_now batches_now blanks_now = record {
+    products = products_now;
+    lots = lots_now;
+    batches = batches_now;
+    records = unmoved _ _ records_stay;
+    groupings = unmoved _ _ groupings_stay;
+    sessions = unmoved _ _ (sessions_stay sessions);
+    words = unmoved _ _ (words_stay sessions);
+    blanks = blanks_now;
+    remakes = unmoved _ _ remakes_stay;
+    replies = unmoved _ _ refl;
+    marks = unmoved _ _ refl;
+  }

@@ -6,7 +6,7 @@ use Rattle.job_facts.specs.declared.change.Change.{Change}
 use Rattle.job_facts.specs.declared.facts.RecordState.TheVariants as rec
 use Rattle.job_facts.specs.declared.facts.SessionState.{SessionState}
 use Rattle.job_facts.specs.declared.facts.SessionState.TheVariants as session
-use Rattle.job_facts.specs.Accounts.{batch_totals, record_states, session_states}
+use Rattle.job_facts.specs.Accounts.{batch_totals, record_states, session_states, totals_by}
 use Rattle.job_facts.specs.Facts.{Facts, Session, at_session}
 use Rattle.job_facts.specs.Sound.{IsRecord, IsSound, TellsBefore, changed}
 use Rattle.job_facts.specs.States.{is_record, is_spoiled, record_state, session_numbered, session_state, states_of}
@@ -20,7 +20,7 @@ use Rattle.table_rows.specs.declared.writing.RecordPlace.{RecordPlace}
 use Rattle.image_laws.specs.WritingOf.{IsPlaceOf, IsPlaceOfSession}
 use Rattle.image_laws.proofs.OneRecord.{totals_pass}
 use Rattle.image_laws.proofs.OneSession.{AreAround, record_around, sessions_around}
-use Rattle.image_laws.proofs.Staying.{totals_are, totals_by}
+use Rattle.image_laws.proofs.Staying.{totals_are}
 use Rattle.image_laws.proofs.Totals.{session_good, session_spoiled}
 use Rattle.image_laws.proofs.Touching.{is_place, place_of}
 

@@ -8,11 +8,10 @@ use Rattle.job_facts.specs.declared.facts.RecordState.TheVariants as rec
 use Rattle.job_facts.specs.declared.facts.SessionState.{SessionState}
 use Rattle.job_facts.specs.declared.facts.SessionState.TheVariants as session
 use Rattle.job_facts.specs.declared.rows.BatchTotals.{BatchTotals}
-use Rattle.job_facts.specs.Accounts.{count_records}
+use Rattle.job_facts.specs.Accounts.{count_records, totals_by}
 use Rattle.job_facts.specs.States.{is_spoiled, same_record_state}
 use Rattle.job_facts.proofs.Lists.{count_by-at}
 use Rattle.table_rows.specs.After.{less, more, one_opened, one_spoiled}
-use Rattle.image_laws.proofs.Staying.{totals_by}
 
 -- ---- one among others
 

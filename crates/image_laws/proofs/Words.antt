@@ -1,33 +1,30 @@
 -- The rows after a word.
-use Rattle.std.proofs.Common.{◌≡◌, ℕ, ◌+◌, false, List, ◌∷◌, map, refl, sym, ap, subst, ◌∙◌, IsPermutation}
+use Rattle.std.proofs.Common.{◌≡◌, ◌≢◌, ℕ, ◌+◌, false, List, ◌∷◌, map, refl, sym, ap, subst, ◌∙◌, IsPermutation}
 use Rattle.std.specs.Prelude.{bytes_eq, count_by, option_map}
 use Rattle.std.proofs.lemmas.Option.{same_Some}
-use Rattle.store_data.specs.declared.cursor.Cursor.{Cursor}
 use Rattle.job_facts.specs.declared.change.Change.{Change}
 use Rattle.job_facts.specs.declared.change.Change.TheVariants as change
+use Rattle.job_facts.specs.declared.change.NewWord.{NewWord}
 use Rattle.job_facts.specs.declared.facts.RecordState.{RecordState}
 use Rattle.job_facts.specs.declared.facts.RecordState.TheVariants as rec
 use Rattle.job_facts.specs.declared.facts.SessionState.{SessionState}
 use Rattle.job_facts.specs.declared.facts.SessionState.TheVariants as session
-use Rattle.job_facts.specs.declared.rows.BatchTotals.{BatchTotals}
 use Rattle.job_facts.specs.declared.rows.SessionRow.{SessionRow}
 use Rattle.job_facts.specs.Accounts.{batch_totals, session_states}
 use Rattle.job_facts.specs.Contents.{Contents, Entry, Mark}
 use Rattle.job_facts.specs.Facts.{Facts, Session, with_word, worded}
 use Rattle.job_facts.specs.Rows.{session_row}
 use Rattle.job_facts.specs.Sound.{IsSound, IsSoundChange, changed}
-use Rattle.job_facts.specs.States.{is_record, is_spoiled, plan_for, record_state, remakes_of, session_cursor, session_state, states_of}
+use Rattle.job_facts.specs.States.{is_record, is_spoiled, plan_for, record_state, session_cursor, session_state, states_of}
 use Rattle.job_facts.proofs.SessionLemmas.{session_changed}
 use Rattle.step_laws.specs.Later.{KnowsMore}
-use Rattle.step_laws.specs.Records.{StandsSame}
+use Rattle.step_laws.specs.Records.{StandsSame, record_by}
 use Rattle.step_laws.proofs.ChangeStands.{record_of_there, touched_stands, touched_stood}
 use Rattle.step_laws.proofs.Kept.{no_more, state_same}
 use Rattle.step_laws.proofs.RecordStands.{named}
-use Rattle.table_rows.specs.After.{record_after, rows_after}
-use Rattle.table_rows.specs.Tables.{HaveSameRows, session_set, with_session_set}
-use Rattle.table_rows.specs.Tables as tables
+use Rattle.table_rows.specs.After.{record_after, rows_after, stopped, word_rows_after}
+use Rattle.table_rows.specs.Tables.{HaveSameRows, Tables, session_set}
 use Rattle.table_rows.specs.declared.writing.Writing.TheVariants as writing
-use Rattle.table_rows.specs.declared.writing.NewWord.{NewWord}
 use Rattle.table_rows.specs.declared.writing.RecordPlace.{RecordPlace}
 use Rattle.image_laws.specs.WritingOf.{IsPlaceOf}
 use Rattle.image_laws.specs.Image.{image, stored_blanks, stored_groupings, stored_lots, stored_remakes, stored_sessions, stored_words}
@@ -39,9 +36,15 @@ use Rattle.image_laws.proofs.Staying.{batches_stay, records_stay}
 use Rattle.image_laws.proofs.Stopping.{other_records, spoiled_good, spoiled_more, totals_good, totals_spoiled}
 use Rattle.image_laws.proofs.Touching.{groupings_stay, is_place, lots_stay, place_of, remakes_stay}
 
-module _ (f : Facts) (s : ℕ) (b r : List ℕ) (index sw : ℕ) (stands : SessionState) (cursor : Cursor) (keeps : IsSoundChange f (change.AddsWord s b r index sw stands cursor)) where
+module _ (f : Facts) (w : NewWord) (b r : List ℕ) (stands : SessionState) (keeps : IsSoundChange f (change.AddsWord w b r stands)) where
+  abbrev s : ℕ
+  s = w.session
+
+  abbrev sw : ℕ
+  sw = w.sw
+
   abbrev word_change : Change
-  word_change = change.AddsWord s b r index sw stands cursor
+  word_change = change.AddsWord w b r stands
 
   abbrev worded_facts : Facts
   worded_facts = with_word f s sw
@@ -62,13 +65,13 @@ module _ (f : Facts) (s : ℕ) (b r : List ℕ) (index sw : ℕ) (stands : Sessi
   unfolding session_cursor plan_for
   cursor_alone sessions z = refl
 
-  cursor_then : session_cursor f (worded sw own) ≡ cursor
+  cursor_then : session_cursor f (worded sw own) ≡ w.cursor
   cursor_then = sym (cursor_alone worded_facts.sessions (worded sw own)) ∙ sym (ap (λ (r : SessionRow). r.cursor) row_then) ∙ keeps.after.3
 
-  sessions_then : stored_sessions worded_facts ≡ map (session_set s stands (index + 1) cursor) (stored_sessions f)
-  sessions_then = word_set f s own keeps.before.1 sw stands (index + 1) cursor stands_then (ap (λ n. n + 1) keeps.before.3) cursor_then
+  sessions_then : stored_sessions worded_facts ≡ map (session_set s stands (w.index + 1) w.cursor) (stored_sessions f)
+  sessions_then = word_set f s own keeps.before.1 sw stands (w.index + 1) w.cursor stands_then (ap (λ n. n + 1) keeps.before.3) cursor_then
 
-  words_then : IsPermutation (stored_words worded_facts) (record { session = s; place = index; sw = sw } ∷ stored_words f)
+  words_then : IsPermutation (stored_words worded_facts) (record { session = s; place = w.index; sw = sw } ∷ stored_words f)
   words_then = subst (λ n. IsPermutation (stored_words worded_facts) (record { session = s; place = n; sw = sw } ∷ stored_words f)) keeps.before.3
       (word_put f s own (worded sw) keeps.before.1 sw refl)
 
@@ -104,17 +107,36 @@ module _ (f : Facts) (s : ℕ) (b r : List ℕ) (index sw : ℕ) (stands : Sessi
     ran : record_state f own.batch own.rec ≡ rec.Running
     ran = touched_stood f word_change sound keeps.before (named own.batch own.rec) rec.Running (record_of_there f s own keeps.before.1) refl
 
-    -- the rows, where its record comes to stand so
-    rows_over : (kept : List Entry) (marks : List Mark) (state : RecordState) (spoiled : ℕ) (totals : BatchTotals) → record_state worded_facts own.batch own.rec ≡ state
-        → count_by is_spoiled (states_of worded_facts own.batch own.rec) ≡ spoiled → batch_totals worded_facts own.batch ≡ totals
+    abbrev at : RecordPlace
+    at = place_of f own.batch own.rec
+
+    -- its record's row and its batch's, as they count after the word
+    abbrev recounted : RecordState → Tables → Tables
+    recounted state t = record_after at state (count_by is_spoiled (states_of worded_facts own.batch own.rec)) at.remakes (batch_totals worded_facts own.batch) t
+
+    -- they count so where a session stops
+    recounted_stop : (t : SessionState) → t ≢ session.Running → stands ≡ t → record_state worded_facts own.batch own.rec ≡ record_by t
+        → (u : Tables) → recounted (record_by t) u ≡ stopped at t u
+    recounted_stop session.Running over is now u = absurd (over refl)
+    recounted_stop session.Good over is now u =
+        ap (λ n. record_after at rec.Good n at.remakes (batch_totals worded_facts own.batch) u)
+        (spoiled_good f s own (worded sw) keeps.before.1 refl refl keeps.before.2 (stands_then ∙ is))
+        ∙ ap (λ totals. record_after at rec.Good at.spoiled at.remakes totals u)
+        (totals_good f s own (worded sw) keeps.before.1 refl refl keeps.before.2 sound others ran (stands_then ∙ is) now)
+    recounted_stop session.Spoiled over is now u =
+        ap (λ n. record_after at rec.Failed n at.remakes (batch_totals worded_facts own.batch) u)
+        (spoiled_more f s own (worded sw) keeps.before.1 refl refl keeps.before.2 (stands_then ∙ is))
+        ∙ ap (λ totals. record_after at rec.Failed (at.spoiled + 1) at.remakes totals u)
+        (totals_spoiled f s own (worded sw) keeps.before.1 refl refl keeps.before.2 sound others ran (stands_then ∙ is) now)
+
+    rows_recounted : (kept : List Entry) (marks : List Mark) (state : RecordState) → record_state worded_facts own.batch own.rec ≡ state
         → HaveSameRows (image (record { facts = worded_facts; kept = kept; marks = marks }))
-        (record_after (place_of f own.batch own.rec) state spoiled (remakes_of f own.batch own.rec) totals
-        (with_session_set s stands (index + 1) cursor (tables.with_word (record { session = s; place = index; sw = sw }) (image (record { facts = f; kept = kept; marks = marks })))))
-    rows_over kept marks state spoiled totals now spoiled_are totals_are = record {
+        (recounted state (word_rows_after w stands (image (record { facts = f; kept = kept; marks = marks }))))
+    rows_recounted kept marks state now = record {
       products = unmoved _ _ refl;
       lots = unmoved _ _ lots_then;
-      batches = unmoved _ _ (batches_set f worded_facts.sessions f.remakes f.withdrawn own.batch own.rec sound others elsewhere totals totals_are);
-      records = unmoved _ _ (records_set f worded_facts.sessions f.remakes f.withdrawn own.batch own.rec sound others state spoiled (remakes_of f own.batch own.rec) now spoiled_are refl);
+      batches = unmoved _ _ (batches_set f worded_facts.sessions f.remakes f.withdrawn own.batch own.rec sound others elsewhere _ refl);
+      records = unmoved _ _ (records_set f worded_facts.sessions f.remakes f.withdrawn own.batch own.rec sound others state _ at.remakes now refl refl);
       groupings = unmoved _ _ groupings_then;
       sessions = unmoved _ _ sessions_then;
       words = words_then;
@@ -124,61 +146,44 @@ module _ (f : Facts) (s : ℕ) (b r : List ℕ) (index sw : ℕ) (stands : Sessi
       marks = unmoved _ _ refl;
     }
 
-abbrev word_of : ℕ → ℕ → ℕ → Cursor → NewWord
-word_of s index sw cursor = record { session = s; index = index; sw = sw; cursor = cursor }
-
-pub rows_after_word : (c : Contents) (s : ℕ) (b r : List ℕ) (index sw : ℕ) (cursor : Cursor) → IsSound c.facts → IsSoundChange c.facts (change.AddsWord s b r index sw session.Running cursor)
-    → HaveSameRows (image (record c { facts = changed c.facts (change.AddsWord s b r index sw session.Running cursor) })) (rows_after (writing.AddsWord (word_of s index sw cursor)) (image c))
-rows_after_word c s b r index sw cursor sound keeps =
+pub rows_after_word : (c : Contents) (w : NewWord) (b r : List ℕ) → IsSound c.facts → IsSoundChange c.facts (change.AddsWord w b r session.Running)
+    → HaveSameRows (image (record c { facts = changed c.facts (change.AddsWord w b r session.Running) })) (rows_after (writing.AddsWord w) (image c))
+rows_after_word c w b r sound keeps =
     let f : Facts = c.facts in
+    let s = w.session in
+    let sw = w.sw in
     let runs = session.Running in
     let x : Session = keeps.before.0 in
     let g : Facts = with_word f s sw in
-    let stands : session_state f (worded sw x) ≡ session_state f x = stands_then f s b r index sw runs cursor keeps ∙ sym keeps.before.2 in
+    let stands : session_state f (worded sw x) ≡ session_state f x = stands_then f w b r runs keeps ∙ sym keeps.before.2 in
     let same : (d q : List ℕ) → StandsSame f g d q = stand_same f s x (worded sw) keeps.before.1 refl refl stands in
-    let more_known = knows f s b r index sw runs cursor keeps in
+    let more_known = knows f w b r runs keeps in
     record {
       products = unmoved _ _ refl;
-      lots = unmoved _ _ (lots_then f s b r index sw runs cursor keeps);
+      lots = unmoved _ _ (lots_then f w b r runs keeps);
       batches = unmoved _ _ (batches_stay f g sound more_known refl same (sessions_same f s x (worded sw) keeps.before.1 refl refl stands) refl);
       records = unmoved _ _ (records_stay f g sound more_known refl same);
-      groupings = unmoved _ _ (groupings_then f s b r index sw runs cursor keeps);
-      sessions = unmoved _ _ (sessions_then f s b r index sw runs cursor keeps);
-      words = words_then f s b r index sw runs cursor keeps;
-      blanks = unmoved _ _ (blanks_then f s b r index sw runs cursor keeps);
-      remakes = unmoved _ _ (remakes_then f s b r index sw runs cursor keeps);
+      groupings = unmoved _ _ (groupings_then f w b r runs keeps);
+      sessions = unmoved _ _ (sessions_then f w b r runs keeps);
+      words = words_then f w b r runs keeps;
+      blanks = unmoved _ _ (blanks_then f w b r runs keeps);
+      remakes = unmoved _ _ (remakes_then f w b r runs keeps);
       replies = unmoved _ _ refl;
       marks = unmoved _ _ refl;
     }
 
-pub rows_after_good_word : (c : Contents) (s : ℕ) (b r : List ℕ) (index sw : ℕ) (cursor : Cursor) (p : RecordPlace) → IsSound c.facts
-    → IsSoundChange c.facts (change.AddsWord s b r index sw session.Good cursor) → IsPlaceOf c.facts b r p
-    → HaveSameRows (image (record c { facts = changed c.facts (change.AddsWord s b r index sw session.Good cursor) })) (rows_after (writing.AddsLastWord (word_of s index sw cursor) session.Good p) (image c))
-rows_after_good_word c s b r index sw cursor p sound keeps is =
+pub rows_after_last_word : (c : Contents) (w : NewWord) (b r : List ℕ) (stands : SessionState) (p : RecordPlace) → stands ≢ session.Running → IsSound c.facts
+    → IsSoundChange c.facts (change.AddsWord w b r stands) → IsPlaceOf c.facts b r p
+    → HaveSameRows (image (record c { facts = changed c.facts (change.AddsWord w b r stands) })) (rows_after (writing.AddsLastWord w stands p) (image c))
+rows_after_last_word c w b r stands p over sound keeps is =
     let f : Facts = c.facts in
-    let good = session.Good in
+    let s = w.session in
+    let sw = w.sw in
+    let word = change.AddsWord w b r stands in
     let x : Session = keeps.before.0 in
-    let there = keeps.before.1 in
-    let word = change.AddsWord s b r index sw good cursor in
-    let stands = stands_then f s b r index sw good cursor keeps in
-    let now : record_state (with_word f s sw) x.batch x.rec ≡ rec.Good = touched_stands f word sound keeps.before keeps.after (named x.batch x.rec) rec.Good (record_of_there f s x there) refl in
-    let spoiled = spoiled_good f s x (worded sw) there refl refl keeps.before.2 stands in
-    let totals = totals_good f s x (worded sw) there refl refl keeps.before.2 sound (others f s b r index sw good cursor keeps sound) (ran f s b r index sw good cursor keeps sound) stands now in
-    subst (λ q. HaveSameRows (image (record c { facts = with_word f s sw })) (rows_after (writing.AddsLastWord (word_of s index sw cursor) good q) (image c))) (sym (own_placed f s b r index sw good cursor keeps p is))
-    (rows_over f s b r index sw good cursor keeps sound c.kept c.marks rec.Good _ _ now spoiled totals)
-
-pub rows_after_spoiled_word : (c : Contents) (s : ℕ) (b r : List ℕ) (index sw : ℕ) (cursor : Cursor) (p : RecordPlace) → IsSound c.facts
-    → IsSoundChange c.facts (change.AddsWord s b r index sw session.Spoiled cursor) → IsPlaceOf c.facts b r p
-    → HaveSameRows (image (record c { facts = changed c.facts (change.AddsWord s b r index sw session.Spoiled cursor) })) (rows_after (writing.AddsLastWord (word_of s index sw cursor) session.Spoiled p) (image c))
-rows_after_spoiled_word c s b r index sw cursor p sound keeps is =
-    let f : Facts = c.facts in
-    let over = session.Spoiled in
-    let x : Session = keeps.before.0 in
-    let there = keeps.before.1 in
-    let word = change.AddsWord s b r index sw over cursor in
-    let stands = stands_then f s b r index sw over cursor keeps in
-    let now : record_state (with_word f s sw) x.batch x.rec ≡ rec.Failed = touched_stands f word sound keeps.before keeps.after (named x.batch x.rec) rec.Failed (record_of_there f s x there) refl in
-    let spoiled = spoiled_more f s x (worded sw) there refl refl keeps.before.2 stands in
-    let totals = totals_spoiled f s x (worded sw) there refl refl keeps.before.2 sound (others f s b r index sw over cursor keeps sound) (ran f s b r index sw over cursor keeps sound) stands now in
-    subst (λ q. HaveSameRows (image (record c { facts = with_word f s sw })) (rows_after (writing.AddsLastWord (word_of s index sw cursor) over q) (image c))) (sym (own_placed f s b r index sw over cursor keeps p is))
-    (rows_over f s b r index sw over cursor keeps sound c.kept c.marks rec.Failed _ _ now spoiled totals)
+    let now : record_state (with_word f s sw) x.batch x.rec ≡ record_by stands =
+    touched_stands f word sound keeps.before keeps.after (named x.batch x.rec) (record_by stands) (record_of_there f s x keeps.before.1) refl in
+    subst (λ q. HaveSameRows (image (record c { facts = with_word f s sw })) (rows_after (writing.AddsLastWord w stands q) (image c)))
+    (sym (own_placed f w b r stands keeps p is))
+    (subst (HaveSameRows (image (record c { facts = with_word f s sw }))) (recounted_stop f w b r stands keeps sound stands over refl now _)
+    (rows_recounted f w b r stands keeps sound c.kept c.marks (record_by stands) now))

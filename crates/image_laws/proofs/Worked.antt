@@ -13,6 +13,7 @@ use Rattle.job_facts.specs.declared.facts.SessionState.TheVariants as session
 use Rattle.job_facts.specs.Accounts.{batch_totals, record_states, session_states}
 use Rattle.job_facts.specs.Facts.{Batch, Facts}
 use Rattle.job_facts.specs.States.{plan_for, record_state, records_of, rows_of, session_cursor, session_state, states_of}
+use Rattle.table_rows.specs.After.{new_batch}
 use Rattle.table_rows.specs.Tables.{StoredBatch}
 use Rattle.image_laws.specs.Image.{stored_batches, stored_blanks, stored_groupings, stored_lots, stored_records, stored_remakes, stored_sessions, stored_words}
 
@@ -54,7 +55,7 @@ module _ (raw : List ℕ) where
     groupings_are : stored_groupings facts
         ≡ record { batch = 1; line = 2; place = 0; aid = 240 ∷ 0 ∷ 0 ∷ 0 ∷ 1 ∷ 1 ∷ []; rank = 1; enc = Plain; tol = false; coded = 1 ∷ 1 ∷ 2 ∷ 112 ∷ 0 ∷ [] } ∷ []
     unfolding stored_groupings records_of
-    groupings_are = rw rows_are (rw rows_are refl)
+    groupings_are = rw rows_are refl
 
     sessions_are : stored_sessions facts
         ≡ record { id = 1; machine = codes "m1"; batch = 1; place = 0; serial = 1000; state = session.Spoiled; ended = false; words = 2; cursor = record { app = 0; segment = 0; offset = 0; block = 1 } } ∷ []
@@ -70,20 +71,7 @@ module _ (raw : List ℕ) where
     remakes_are = rw rows_are refl
 
     abbrev counted : StoredBatch
-    counted = record {
-      id = 1;
-      name = codes "B1";
-      product = codes "P1";
-      raw = raw;
-      closed = false;
-      waiting = 1;
-      running = 0;
-      failed = 0;
-      withdrawn = 0;
-      good = 0;
-      sessions = 1;
-      spoiled = 1;
-    }
+    counted = record (new_batch 1 (codes "B1") (codes "P1") raw 1) { sessions = 1; spoiled = 1 }
 
     batches_are : stored_batches facts ≡ counted ∷ []
     unfolding stored_batches batch_totals record_states session_states records_of record_state states_of session_state plan_for applications_of segments_of grouped by_rank ranks piece_count

@@ -4,11 +4,13 @@ use Rattle.std.specs.Prelude.{◌+◌, ℕ, Bool, true, false, List, [], ◌++�
 use Rattle.std.specs.List.{enumerate_from, position_or_len, range_with_len}
 use Rattle.store_data.specs.declared.row.Row.{Row}
 use Rattle.job_facts.specs.declared.facts.Lot.{Lot}
+use Rattle.job_facts.specs.declared.rows.BatchTotals.{BatchTotals}
 use Rattle.job_facts.specs.Accounts.{batch_totals}
 use Rattle.job_facts.specs.Contents.{Contents}
 use Rattle.job_facts.specs.Facts.{Batch, Facts, Session}
 use Rattle.job_facts.specs.States.{is_closed, is_spoiled, lot_of, record_state, records_named, records_of, remakes_of, rows_of, session_cursor, session_state, states_of}
 use Rattle.step_laws.specs.Sums.{discarded_in}
+use Rattle.table_rows.specs.After.{new_grouping}
 use Rattle.table_rows.specs.Tables.{StoredBatch, StoredBlank, StoredGrouping, StoredLot, StoredRecord, StoredRemake, StoredSession, StoredWord, Tables}
 
 -- ---- numbers in place of names
@@ -55,24 +57,26 @@ stored_blanks f = map (λ (s : Session). stored_blank f false s.blank) f.session
 
 -- ---- batches, their records and their groupings
 
--- a batch with its counters: its records by state, its sessions, and how many of these are spoiled
+-- a batch that stands so
+abbrev pub batch_by : ℕ × Batch → Bool → BatchTotals → StoredBatch
+batch_by e closed totals = record {
+  id = e.0;
+  name = e.1.name;
+  product = e.1.product;
+  raw = e.1.raw;
+  closed = closed;
+  waiting = totals.waiting;
+  running = totals.running;
+  failed = totals.failed;
+  withdrawn = totals.withdrawn;
+  good = totals.good;
+  sessions = totals.sessions;
+  spoiled = totals.spoiled;
+}
+
+-- with its counters: its records by state, its sessions, and how many of these are spoiled
 abbrev pub stored_batch : Facts → ℕ × Batch → StoredBatch
-stored_batch f e =
-    let totals = batch_totals f e.1.name in
-    record {
-      id = e.0;
-      name = e.1.name;
-      product = e.1.product;
-      raw = e.1.raw;
-      closed = is_closed f e.1.name;
-      waiting = totals.waiting;
-      running = totals.running;
-      failed = totals.failed;
-      withdrawn = totals.withdrawn;
-      good = totals.good;
-      sessions = totals.sessions;
-      spoiled = totals.spoiled;
-    }
+stored_batch f e = batch_by e (is_closed f e.1.name) (batch_totals f e.1.name)
 
 unfoldable pub stored_batches : Facts → List StoredBatch
 stored_batches f = map (stored_batch f) (batches_by_id f)
@@ -110,16 +114,7 @@ stored_remakes f = flat_map (remakes_in f) (batches_by_id f)
 
 -- the row of a batch file with this row number
 abbrev pub stored_grouping : Facts → ℕ × Batch → ℕ × Row → StoredGrouping
-stored_grouping f e row = record {
-  batch = e.0;
-  line = row.0;
-  place = place_in (records_of f.products e.1) row.1.rec;
-  aid = row.1.aid;
-  rank = row.1.rank;
-  enc = row.1.enc;
-  tol = row.1.tol;
-  coded = row.1.coded;
-}
+stored_grouping f e = new_grouping e.0 (records_of f.products e.1)
 
 -- row 1 is the header
 abbrev pub groupings_in : Facts → ℕ × Batch → List StoredGrouping

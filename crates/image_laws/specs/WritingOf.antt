@@ -2,6 +2,7 @@
 use Rattle.std.specs.Prelude.{◌≡◌, ℕ, List, count_by, Some}
 use Rattle.job_facts.specs.declared.change.Change.{Change}
 use Rattle.job_facts.specs.declared.change.Change.TheVariants as change
+use Rattle.job_facts.specs.declared.change.NewWord.{NewWord}
 use Rattle.job_facts.specs.declared.facts.Lot.{Lot}
 use Rattle.job_facts.specs.declared.facts.SessionState.{SessionState}
 use Rattle.job_facts.specs.declared.facts.SessionState.TheVariants as session
@@ -9,7 +10,6 @@ use Rattle.job_facts.specs.Accounts.{batch_totals}
 use Rattle.job_facts.specs.Facts.{Facts, Session}
 use Rattle.job_facts.specs.States.{is_spoiled, lot_named, records_named, remakes_of, session_numbered, states_of}
 use Rattle.step_laws.specs.Sums.{discarded_in}
-use Rattle.table_rows.specs.declared.writing.NewWord.{NewWord}
 use Rattle.table_rows.specs.declared.writing.RecordPlace.{RecordPlace}
 use Rattle.table_rows.specs.declared.writing.Writing.{Writing}
 use Rattle.table_rows.specs.declared.writing.Writing.TheVariants as writing
@@ -50,10 +50,9 @@ abbrev pub IsWritingOf : Facts → Change → Writing → Type 0
 IsWritingOf f change.Nothing w = w ≡ writing.Nothing
 IsWritingOf f (change.AddsProduct p) w = w ≡ writing.AddsProduct p
 IsWritingOf f (change.AddsLot l) w = w ≡ writing.AddsLot l
-IsWritingOf f (change.AddsBatch number b p records raw) w = w ≡ writing.AddsBatch (record { id = number; name = b; product = p; records = records; raw = raw })
-IsWritingOf f (change.Opens s machine b r blank lot) w =
-    IsOfRecord f b r (λ p. writing.Opens (record { id = s; machine = machine; blank = blank; lot = lot; place = p })) w
-IsWritingOf f (change.AddsWord s b r index sw stands cursor) w = IsOfWord f b r (record { session = s; index = index; sw = sw; cursor = cursor }) stands w
+IsWritingOf f (change.AddsBatch b) w = w ≡ writing.AddsBatch b
+IsWritingOf f (change.Opens s b r) w = IsOfRecord f b r (writing.Opens s) w
+IsWritingOf f (change.AddsWord word b r stands) w = IsOfWord f b r word stands w
 IsWritingOf f (change.Ends s) w = (p : RecordPlace) × IsPlaceOfSession f s p × (w ≡ writing.Ends s p)
 IsWritingOf f (change.Discards blank lot) w = (n : ℕ) × AreDiscardedOf f lot n × (w ≡ writing.Discards blank lot n)
 IsWritingOf f (change.Remakes b r) w = IsOfRecord f b r writing.Remakes w

@@ -9,6 +9,7 @@ use Rattle.store_data.specs.declared.status.Class.TheVariants as status
 use Rattle.store_data.specs.Sequence.{Command, Plan, commands_of, goes_on, sequence}
 use Rattle.store_data.proofs.CursorLemmas.{length-cursors_of, length-sequence}
 use Rattle.job_facts.specs.declared.change.Change.TheVariants as change
+use Rattle.job_facts.specs.declared.change.NewWord.{NewWord}
 use Rattle.job_facts.specs.declared.facts.RecordState.TheVariants as rec
 use Rattle.job_facts.specs.declared.facts.SessionState.{SessionState}
 use Rattle.job_facts.specs.declared.facts.SessionState.TheVariants as session
@@ -74,6 +75,9 @@ runs_there f s x sound there runs =
 
 -- ---- one word more
 
+abbrev pub word_at : ℕ → ℕ → ℕ → Cursor → NewWord
+word_at s k sw c = record { session = s; index = k; sw = sw; cursor = c }
+
 pub last_stops_push : (commands : List Command) (k : ℕ) (words : List ℕ) (sw : ℕ)
     → last_stops_from commands k (words ++ sw ∷ []) ≡ not (goes_at commands (k + length words) sw)
 last_stops_push commands k [] sw = let e : k ≡ k + 0 = omega arith in ap (λ n. not (goes_at commands n sw)) e
@@ -117,7 +121,7 @@ module _ (f : Facts) (s sw : ℕ) (x : Session) (plan : Plan) (b r : List ℕ) (
   row_after = ap (option_map (session_row g)) (word_after f s sw x is.there)
 
   makes : (told : reply.the_data) (stands : SessionState) (c : Cursor) → (take_word f s k sw x).1 ≡ told → session_state g y ≡ stands → session_cursor g y ≡ c
-      → Makes f (take_word f s k sw x) told (change.AddsWord s b r k sw stands c)
+      → Makes f (take_word f s k sw x) told (change.AddsWord (word_at s k sw c) b r stands)
   makes told stands c same is_state is_cursor = record {
     step_is = ap (λ r. (g, r)) same;
     keeps = record { before = (x, is.there, is.runs, refl, of_batch, of_record); sound = sound_word f s sw x sound is.there is.runs small; after = (session_row g y, row_after, is_state, is_cursor) };
@@ -125,7 +129,7 @@ module _ (f : Facts) (s sw : ℕ) (x : Session) (plan : Plan) (b r : List ℕ) (
 
   -- a word that does not go
   pub spoiled_word : (c : Cursor) → goes_at (commands_of plan) k sw ≡ false → c ≡ session_cursor f x
-      → Makes f (take_word f s k sw x) (reply.Spoiled s) (change.AddsWord s b r k sw session.Spoiled c)
+      → Makes f (take_word f s k sw x) (reply.Spoiled s) (change.AddsWord (word_at s k sw c) b r session.Spoiled)
   spoiled_word c stops same =
       let stopped : last_stops (commands_of plan) y.words ≡ true = stops_after ∙ ap not stops in
       let back : going (commands_of plan) y.words ≡ k = cond-true (last_stops (commands_of plan) y.words) (length y.words - 1) (length y.words) stopped ∙ (omega (arith, more_words)) in
@@ -142,7 +146,7 @@ module _ (f : Facts) (s sw : ℕ) (x : Session) (plan : Plan) (b r : List ℕ) (
     on = cond-false (last_stops (commands_of plan) y.words) (length y.words - 1) (length y.words) went_on ∙ more_words
 
     -- the last word
-    pub good_word : None ≡ slice_get (sequence plan) (k + 1) → Makes f (take_word f s k sw x) (reply.Good s) (change.AddsWord s b r k sw session.Good next)
+    pub good_word : None ≡ slice_get (sequence plan) (k + 1) → Makes f (take_word f s k sw x) (reply.Good s) (change.AddsWord (word_at s k sw next) b r session.Good)
     good_word none =
         let all : k + 1 ≡ length (commands_of plan) = elim (cases_lt (k + 1) (length (commands_of plan))) [
           | inl more ↦ let item = item_there (sequence plan) (k + 1) (omega (arith, length-sequence plan)) in absurd (none-some item.0 (none ∙ item.1))
@@ -156,7 +160,7 @@ module _ (f : Facts) (s sw : ℕ) (x : Session) (plan : Plan) (b r : List ℕ) (
 
     -- a word before the last
     pub next_word : (command : List ℕ) → Some command ≡ slice_get (sequence plan) (k + 1)
-        → Makes f (take_word f s k sw x) (reply.Next command (k + 1) s) (change.AddsWord s b r k sw session.Running next)
+        → Makes f (take_word f s k sw x) (reply.Next command (k + 1) s) (change.AddsWord (word_at s k sw next) b r session.Running)
     next_word command more =
         let within : k + 1 < length (commands_of plan) = omega (arith, length-sequence plan, slice_get_within (sequence plan) (k + 1) command (sym more)) in
         let differ : eqb (k + 1) (length (commands_of plan)) ≡ false = ne_eqb (k + 1) (length (commands_of plan)) (λ e. omega (arith, within, e)) in

@@ -13,7 +13,7 @@ mod rows;
 mod server_store;
 mod store;
 
-pub use change::Change;
+pub use change::{Change, NewBatch, NewSession, NewWord};
 pub use facts::{Lot, RecordState, SessionState};
 pub use lots::{any_overlaps, lot_among};
 pub use refusal::{MACHINE_BUSY, NUMBER_RELEASED, Refusal};

@@ -24,31 +24,24 @@ pub(crate) fn change_facts(
         Change::Nothing => (),
         Change::AddsProduct { product } => facts.products.push(KnownProduct::new(product)?)?,
         Change::AddsLot { lot } => facts.lots.push(lot)?,
-        Change::AddsBatch {
-            batch,
-            product,
-            raw,
-            ..
-        } => facts.batches.push(KeptBatch {
-            name: batch,
-            product: product.code,
-            raw: copied(alloc, raw)?,
+        Change::AddsBatch { ref batch } => facts.batches.push(KeptBatch {
+            name: batch.name,
+            product: batch.product.code,
+            raw: copied(alloc, batch.raw)?,
         })?,
         Change::Opens {
-            machine,
+            session,
             batch,
             rec,
-            blank,
-            ..
         } => facts.sessions.push(KeptSession {
-            machine,
+            machine: session.machine,
             batch,
             rec,
-            blank,
+            blank: session.blank,
             words: Vec::new(alloc),
             ended: false,
         })?,
-        Change::AddsWord { session, sw, .. } => add_word(&mut facts.sessions, session, sw)?,
+        Change::AddsWord { word, .. } => add_word(&mut facts.sessions, word.session, word.sw)?,
         Change::Ends { session } => end(&mut facts.sessions, session),
         Change::Discards { blank, .. } => facts.discarded.push(blank)?,
         Change::Remakes { batch, rec } => facts.remakes.push(KeptRecord { batch, rec })?,

@@ -1,8 +1,8 @@
 -- How many of a record's sessions are spoiled, and how many have a card.
-use Rattle.std.proofs.Common.{◌≡◌, ℕ, ◌+◌, Bool, true, false, cond, List, [], ◌∷◌, length, inl, inr, refl, sym, ◌∙◌, arith}
+use Rattle.std.proofs.Common.{◌≡◌, ℕ, ◌+◌, ◌≤◌, Bool, true, false, cond, List, [], ◌∷◌, length, inl, inr, refl, sym, ap, ◌∙◌, arith}
 use Rattle.std.specs.Prelude.{count_by}
 use Rattle.std.specs.List.{list_any}
-use Rattle.std.proofs.lemmas.Bool.{cases_Bool}
+use Rattle.std.proofs.lemmas.Bool.{cases_Bool, false_from_ne_true}
 use Rattle.std.proofs.lemmas.List.Sums.{sum_by-cons}
 use Rattle.job_facts.specs.declared.facts.RecordState.{RecordState}
 use Rattle.job_facts.specs.declared.facts.RecordState.TheVariants as rec
@@ -47,49 +47,43 @@ abbrev pub IsCardOf : SessionState → RecordState → Type 0
 IsCardOf state stands = (states : List SessionState) (withdrawn : Bool) (remakes : ℕ) → IsSoundRecord states withdrawn remakes
     → count_by (same_session_state state) states ≡ one (same_record_state stands (state_by states withdrawn remakes))
 
-not_good : (withdrawn failed : Bool) → one (same_record_state rec.Good (cond withdrawn rec.Withdrawn (cond failed rec.Failed rec.Waiting))) ≡ 0
-not_good true failed = refl
-not_good false true = refl
-not_good false false = refl
+-- where one session at most passes a test, they count as one or none
+counted_once : (q : SessionState → Bool) (states : List SessionState) → count_by q states ≤ 1 → count_by q states ≡ one (list_any q states)
+counted_once q states most = elim (cases_Bool (list_any q states)) [
+  | inl some ↦
+      let single : count_by q states ≡ 1 = omega (arith, most, count_by_any q states some) in
+      single ∙ sym (ap one some)
+  | inr none ↦ count_by_none q states none ∙ sym (ap one none)
+]
 
-not_running : (withdrawn failed : Bool) → one (same_record_state rec.Running (cond withdrawn rec.Withdrawn (cond failed rec.Failed rec.Waiting))) ≡ 0
-not_running true failed = refl
-not_running false true = refl
-not_running false false = refl
+-- a record's state, by whether it has a good session, a running one, and so on
+abbrev state_where : Bool → Bool → Bool → Bool → RecordState
+state_where good runs withdrawn failed = cond good rec.Good (cond runs rec.Running (cond withdrawn rec.Withdrawn (cond failed rec.Failed rec.Waiting)))
+
+good_where : (good runs withdrawn failed : Bool) → one good ≡ one (same_record_state rec.Good (state_where good runs withdrawn failed))
+good_where true runs withdrawn failed = refl
+good_where false true withdrawn failed = refl
+good_where false false true failed = refl
+good_where false false false true = refl
+good_where false false false false = refl
+
+running_where : (good runs withdrawn failed : Bool) → (good ≡ true → runs ≡ false) → one runs ≡ one (same_record_state rec.Running (state_where good runs withdrawn failed))
+running_where true runs withdrawn failed apart = ap one (apart refl)
+running_where false true withdrawn failed apart = refl
+running_where false false true failed apart = refl
+running_where false false false true apart = refl
+running_where false false false false apart = refl
 
 pub good_counted : IsCardOf session.Good rec.Good
 good_counted states withdrawn remakes is =
-    let both = two_cards states in
-    let most = is.one_card in
-    elim (cases_Bool (list_any is_good states)) [
-      | inl good ↦
-          let single : count_by is_good states ≡ 1 = omega (arith, both, most, count_by_any is_good states good) in
-          single ∙ sym (rw good refl)
-      | inr ungood ↦
-          let none : count_by is_good states ≡ 0 = count_by_none is_good states ungood in
-          elim (cases_Bool (list_any is_running states)) [
-            | inl runs ↦ none ∙ sym (rw (ungood, runs) refl)
-            | inr idle ↦ none ∙ sym (rw (ungood, idle) (not_good withdrawn _))
-          ]
-    ]
+    counted_once is_good states (omega (arith, two_cards states, is.one_card)) ∙ good_where (list_any is_good states) (list_any is_running states) withdrawn _
 
 pub running_counted : IsCardOf session.Running rec.Running
 running_counted states withdrawn remakes is =
-    let both = two_cards states in
-    let most = is.one_card in
-    elim (cases_Bool (list_any is_good states)) [
-      | inl good ↦
-          let none : count_by is_running states ≡ 0 = omega (arith, both, most, count_by_any is_good states good) in
-          none ∙ sym (rw good refl)
-      | inr ungood ↦ elim (cases_Bool (list_any is_running states)) [
-        | inl runs ↦
-            let single : count_by is_running states ≡ 1 = omega (arith, both, most, count_by_any is_running states runs) in
-            single ∙ sym (rw (ungood, runs) refl)
-        | inr idle ↦
-            let none : count_by is_running states ≡ 0 = count_by_none is_running states idle in
-            none ∙ sym (rw (ungood, idle) (not_running withdrawn _))
-      ]
-    ]
+    counted_once is_running states (omega (arith, two_cards states, is.one_card))
+    ∙ running_where (list_any is_good states) (list_any is_running states) withdrawn _
+    (λ good. false_from_ne_true (list_any is_running states) (λ runs.
+    omega (arith, two_cards states, is.one_card, count_by_any is_good states good, count_by_any is_running states runs)))
 
 -- ---- both
 

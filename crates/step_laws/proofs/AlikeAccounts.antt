@@ -3,9 +3,8 @@ use Rattle.std.proofs.Common.{◌≡◌, ◌&&◌, ℕ, List, length, map, sym, 
 use Rattle.std.specs.Prelude.{bytes_eq, count_by, filter, find, option_map}
 use Rattle.std.proofs.lemmas.List.Sorted.{length_permutation, sum_by-IsPermutation}
 use Rattle.job_facts.specs.declared.facts.Lot.{Lot}
-use Rattle.job_facts.specs.declared.facts.RecordState.TheVariants as rec
 use Rattle.job_facts.specs.declared.facts.SessionState.TheVariants as session
-use Rattle.job_facts.specs.Accounts.{batch_totals, blank_states, blank_totals, count_records, count_sessions, is_blank_of, is_lot_of, lots_of, record_lines, record_states, session_states}
+use Rattle.job_facts.specs.Accounts.{batch_totals, blank_states, blank_totals, count_sessions, is_blank_of, is_lot_of, lots_of, record_lines, record_states, session_states, totals_by}
 use Rattle.job_facts.specs.Contents.{AreSameFacts}
 use Rattle.job_facts.specs.Facts.{Facts, Session}
 use Rattle.job_facts.specs.Sound.{IsSound}
@@ -25,16 +24,7 @@ module _ (f g : Facts) (sound : IsSound f) (same : AreSameFacts f g) where
 
   batch_alike : (b : List ℕ) → batch_totals f b ≡ batch_totals g b
   unfolding batch_totals
-  batch_alike b = λ i. record {
-    records = length (records_alike b i);
-    waiting = count_records (records_alike b i) rec.Waiting;
-    running = count_records (records_alike b i) rec.Running;
-    failed = count_records (records_alike b i) rec.Failed;
-    withdrawn = count_records (records_alike b i) rec.Withdrawn;
-    good = count_records (records_alike b i) rec.Good;
-    sessions = length (sessions_alike b i);
-    spoiled = count_sessions (sessions_alike b i) session.Spoiled;
-  }
+  batch_alike b = λ i. totals_by (records_alike b i) (sessions_alike b i)
 
   lines_alike : (b : List ℕ) → record_lines f b ≡ record_lines g b
   unfolding record_lines

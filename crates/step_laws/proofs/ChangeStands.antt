@@ -38,10 +38,10 @@ pub others_same : (f : Facts) (change : Change) → IsSound f → TellsBefore f 
 others_same f change.Nothing sound tells b r other = as_much f f b r refl refl refl
 others_same f (change.AddsProduct p) sound tells b r other = as_much f _ b r (states_known f _ b r sound (product_knows f p) refl) refl refl
 others_same f (change.AddsLot l) sound tells b r other = as_much f _ b r (states_known f _ b r sound (lot_knows f l) refl) refl refl
-others_same f (change.AddsBatch number n p records raw) sound tells b r other = as_much f _ b r (states_known f _ b r sound (batch_knows f _) refl) refl refl
-others_same f (change.Opens o machine c q blank lot) sound tells b r other = as_much f _ b r (opened_states f (new_session machine c q blank) b r other) refl refl
-others_same f (change.AddsWord s d q index sw stands cursor) sound tells b r other =
-    as_much f _ b r (changed_states f s tells.0 (worded sw) tells.1 refl refl b r (not_for f s tells.0 b r tells.1 other)) refl refl
+others_same f (change.AddsBatch n) sound tells b r other = as_much f _ b r (states_known f _ b r sound (batch_knows f _) refl) refl refl
+others_same f (change.Opens s c q) sound tells b r other = as_much f _ b r (opened_states f (new_session s.machine c q s.blank) b r other) refl refl
+others_same f (change.AddsWord w d q stands) sound tells b r other =
+    as_much f _ b r (changed_states f w.session tells.0 (worded w.sw) tells.1 refl refl b r (not_for f w.session tells.0 b r tells.1 other)) refl refl
 others_same f (change.Ends s) sound tells b r other =
     let x = tells.1 in
     as_much f _ b r (changed_states f s x.0 ended x.1 refl refl b r (not_for f s x.0 b r x.1 other)) refl refl
@@ -82,10 +82,10 @@ word_left f s sw x stands row there is state =
     sym (state_same f g.sessions (worded sw x)) ∙ ap (λ (r : SessionRow). r.stands) (same_Some (session_row g (worded sw x)) row (sym now ∙ is)) ∙ state
 
 pub touched_stood : (f : Facts) (change : Change) → IsSound f → TellsBefore f change → TouchedStands f f change (stood_before change)
-touched_stood f (change.Opens o machine b r blank lot) sound tells n t name is = at_name f (named b r) n rec.Waiting t (told_state f b r rec.Waiting tells.0).1 name is
-touched_stood f (change.AddsWord s d q index sw stands cursor) sound tells n t name is =
+touched_stood f (change.Opens s b r) sound tells n t name is = at_name f (named b r) n rec.Waiting t (told_state f b r rec.Waiting tells.0).1 name is
+touched_stood f (change.AddsWord w d q stands) sound tells n t name is =
     let x = tells.0 in
-    at_name f (named x.batch x.rec) n rec.Running t (session_stood f s x sound tells.1 tells.2) (sym (record_of_there f s x tells.1) ∙ name) is
+    at_name f (named x.batch x.rec) n rec.Running t (session_stood f w.session x sound tells.1 tells.2) (sym (record_of_there f w.session x tells.1) ∙ name) is
 touched_stood f (change.Ends s) sound tells n t name is =
     let x = tells.1.0 in
     at_name f (named x.batch x.rec) n rec.Running t (session_stood f s x sound tells.1.1 tells.1.2) (sym (record_of_there f s x tells.1.1) ∙ name) is
@@ -103,12 +103,13 @@ withdrawn_now f b r was stood either = elim either [
 
 pub touched_stands : (f : Facts) (change : Change) → IsSound f → TellsBefore f change → TellsAfter (changed f change) change
     → TouchedStands f (changed f change) change (stands_after change)
-touched_stands f (change.Opens o machine b r blank lot) sound tells after n t name is =
+touched_stands f (change.Opens s b r) sound tells after n t name is =
     let was = told_state f b r rec.Waiting tells.0 in
-    at_name _ (named b r) n rec.Running t (new_record f machine b blank r sound was.0 was.1) name is
-touched_stands f (change.AddsWord s d q index sw stands cursor) sound tells after n t name is =
+    at_name _ (named b r) n rec.Running t (new_record f s.machine b s.blank r sound was.0 was.1) name is
+touched_stands f (change.AddsWord w d q stands) sound tells after n t name is =
+    let s = w.session in
     let x = tells.0 in
-    let now = word_is f x.machine s x sound (own_of f s x tells.1 tells.2) sw stands (word_left f s sw x stands after.0 tells.1 after.1 after.2) in
+    let now = word_is f x.machine s x sound (own_of f s x tells.1 tells.2) w.sw stands (word_left f s w.sw x stands after.0 tells.1 after.1 after.2) in
     at_name _ (named x.batch x.rec) n (record_by stands) t now.rec (sym (record_of_there f s x tells.1) ∙ name) is
 touched_stands f (change.Ends s) sound tells after n t name is =
     let x = tells.1.0 in

@@ -52,8 +52,8 @@ OtherRecordsStand f g reply = (b r : List ℕ) → is_told b r (record_told g re
 
 -- the record that a change touches, by the facts before it
 abbrev pub touches : Facts → Change → Option RecordName
-touches f (change.Opens s machine b r blank lot) = Some (record { batch = b; rec = r })
-touches f (change.AddsWord s b r index sw stands cursor) = record_of_session f s
+touches f (change.Opens s b r) = Some (record { batch = b; rec = r })
+touches f (change.AddsWord w b r stands) = record_of_session f w.session
 touches f (change.Ends s) = record_of_session f s
 touches f (change.Remakes b r) = Some (record { batch = b; rec = r })
 touches f (change.Withdraws b r was) = Some (record { batch = b; rec = r })
@@ -61,8 +61,8 @@ touches f _ = None
 
 -- how that record stands before the change
 abbrev pub stood_before : Change → Option RecordState
-stood_before (change.Opens s machine b r blank lot) = Some rec.Waiting
-stood_before (change.AddsWord s b r index sw stands cursor) = Some rec.Running
+stood_before (change.Opens s b r) = Some rec.Waiting
+stood_before (change.AddsWord w b r stands) = Some rec.Running
 stood_before (change.Ends s) = Some rec.Running
 stood_before (change.Remakes b r) = Some rec.Failed
 stood_before (change.Withdraws b r was) = Some was
@@ -70,8 +70,8 @@ stood_before _ = None
 
 -- and after it
 abbrev pub stands_after : Change → Option RecordState
-stands_after (change.Opens s machine b r blank lot) = Some rec.Running
-stands_after (change.AddsWord s b r index sw stands cursor) = Some (record_by stands)
+stands_after (change.Opens s b r) = Some rec.Running
+stands_after (change.AddsWord w b r stands) = Some (record_by stands)
 stands_after (change.Ends s) = Some rec.Failed
 stands_after (change.Remakes b r) = Some rec.Waiting
 stands_after (change.Withdraws b r was) = Some rec.Withdrawn

@@ -1,9 +1,12 @@
 -- The same rows.
+use Rattle.std.proofs.Common.{List, IsPermutation}
 use Rattle.std.proofs.lemmas.List.Sorted.{IsPermutation-refl}
+use Rattle.job_facts.specs.Contents.{Entry, Mark}
 use Rattle.table_rows.specs.Tables.{HaveSameRows, Tables}
 
-pub itself : (t : Tables) → HaveSameRows t t
-itself t = record {
+-- only the kept replies and the marks move
+pub replies_move : (t : Tables) (es fs : List Entry) (ms ns : List Mark) → IsPermutation es fs → IsPermutation ms ns → HaveSameRows (record t { replies = es; marks = ms }) (record t { replies = fs; marks = ns })
+replies_move t es fs ms ns replies marks = record {
   products = IsPermutation-refl t.products;
   lots = IsPermutation-refl t.lots;
   batches = IsPermutation-refl t.batches;
@@ -13,6 +16,10 @@ itself t = record {
   words = IsPermutation-refl t.words;
   blanks = IsPermutation-refl t.blanks;
   remakes = IsPermutation-refl t.remakes;
-  replies = IsPermutation-refl t.replies;
-  marks = IsPermutation-refl t.marks;
+  replies = replies;
+  marks = marks;
 }
+
+-- none moves
+pub itself : (t : Tables) → HaveSameRows t t
+itself t = replies_move t t.replies t.replies t.marks t.marks (IsPermutation-refl t.replies) (IsPermutation-refl t.marks)

@@ -5,6 +5,8 @@ use Rattle.store_data.specs.Cursor.{select_cursor}
 use Rattle.store_data.specs.Groups.{first_appearances}
 use Rattle.store_data.specs.declared.row.Row.{Row}
 use Rattle.batch_import.specs.Batch.{coming_of}
+use Rattle.job_facts.specs.declared.change.NewSession.{NewSession}
+use Rattle.job_facts.specs.declared.change.NewWord.{NewWord}
 use Rattle.job_facts.specs.declared.facts.Lot.{Lot}
 use Rattle.job_facts.specs.declared.facts.RecordState.{RecordState}
 use Rattle.job_facts.specs.declared.facts.RecordState.TheVariants as rec
@@ -12,8 +14,6 @@ use Rattle.job_facts.specs.declared.facts.SessionState.{SessionState}
 use Rattle.job_facts.specs.declared.facts.SessionState.TheVariants as session
 use Rattle.job_facts.specs.declared.rows.BatchTotals.{BatchTotals}
 use Rattle.job_facts.specs.Contents.{Entry}
-use Rattle.table_rows.specs.declared.writing.NewSession.{NewSession}
-use Rattle.table_rows.specs.declared.writing.NewWord.{NewWord}
 use Rattle.table_rows.specs.declared.writing.RecordPlace.{RecordPlace}
 use Rattle.table_rows.specs.declared.writing.Writing.{Writing}
 use Rattle.table_rows.specs.declared.writing.Writing.TheVariants as writing
@@ -124,11 +124,10 @@ new_session id p machine blank = record {
 }
 
 -- a session on a blank of its own, whose record no longer waits
-abbrev pub session_rows_after : NewSession → Tables → Tables
-session_rows_after s t =
-    let p = s.place in
+abbrev pub session_rows_after : NewSession → RecordPlace → Tables → Tables
+session_rows_after s p t =
     record_after p rec.Running p.spoiled p.remakes (one_opened (more rec.Running (less rec.Waiting p.totals)))
-    (with_blank (record { serial = s.blank; lot = s.lot; discarded = false }) (with_session (new_session s.id p s.machine s.blank) t))
+    (with_blank (record { serial = s.blank; lot = s.lot; discarded = false }) (with_session (new_session s.number p s.machine s.blank) t))
 
 -- a word after which its session stands so
 abbrev pub word_rows_after : NewWord → SessionState → Tables → Tables
@@ -142,8 +141,8 @@ abbrev pub rows_after : Writing → Tables → Tables
 rows_after writing.Nothing t = t
 rows_after (writing.AddsProduct p) t = with_product p t
 rows_after (writing.AddsLot l) t = with_lot (new_lot l) t
-rows_after (writing.AddsBatch b) t = batch_rows_after b.id b.name b.product.code b.raw.now b.records (coming_of b.product.check b.raw.now).rows t
-rows_after (writing.Opens s) t = session_rows_after s t
+rows_after (writing.AddsBatch b) t = batch_rows_after b.number b.name b.product.code b.raw.now b.records (coming_of b.product.check b.raw.now).rows t
+rows_after (writing.Opens s p) t = session_rows_after s p t
 rows_after (writing.AddsWord w) t = word_rows_after w session.Running t
 rows_after (writing.AddsLastWord w stands p) t = stopped p stands (word_rows_after w stands t)
 rows_after (writing.Ends s p) t = stopped p session.Spoiled (with_end_set s t)

@@ -11,4 +11,4 @@ pub use rows::{
     StoredBatch, StoredBlank, StoredGrouping, StoredLot, StoredMark, StoredProduct, StoredRecord,
     StoredRemake, StoredReply, StoredSession, StoredWord, Tables,
 };
-pub use writing::{NewBatch, NewSession, NewWord, RecordPlace, Writing};
+pub use writing::{RecordPlace, Writing};

@@ -1,6 +1,6 @@
 //! What is written with a reply, and how what it touches stood before it.
-use job_facts::{BatchTotals, Lot, RecordState, SessionState};
-use store_data::{Cursor, Name, Product};
+use job_facts::{BatchTotals, Lot, NewBatch, NewSession, NewWord, RecordState, SessionState};
+use store_data::{Name, Product};
 
 /// Where a record stands in its tables, and how.
 #[derive(Clone, Copy)]
@@ -15,43 +15,6 @@ pub struct RecordPlace {
     pub remakes: u64,
     /// How its batch stands.
     pub totals: BatchTotals,
-}
-
-/// A batch that is imported.
-#[derive(Clone, Copy)]
-pub struct NewBatch<'a> {
-    /// One more than there are batches.
-    pub id: u64,
-    pub name: Name,
-    /// The product that its file is read under.
-    pub product: Product,
-    /// How many records its file has.
-    pub records: u32,
-    pub raw: &'a [u8],
-}
-
-/// A session that is opened.
-#[derive(Clone, Copy)]
-pub struct NewSession {
-    /// One more than there are sessions.
-    pub id: u64,
-    pub machine: Name,
-    pub blank: u64,
-    /// The name of the blank's lot.
-    pub lot: Name,
-    /// Its record, which waits.
-    pub place: RecordPlace,
-}
-
-/// A word that a session takes.
-#[derive(Clone, Copy)]
-pub struct NewWord {
-    pub session: u64,
-    /// How many words the session has.
-    pub index: u32,
-    pub sw: u16,
-    /// Where its card stands then.
-    pub cursor: Cursor,
 }
 
 /// What is written with a reply: a change of the facts, with how what it touches stood before it,
@@ -71,6 +34,8 @@ pub enum Writing<'a> {
     },
     Opens {
         session: NewSession,
+        /// Its record, which waits.
+        place: RecordPlace,
     },
     /// A word after which its session runs on.
     AddsWord {

@@ -14,7 +14,9 @@ ghost use Rattle.job_facts.specs.declared.store.StoreFault.TheVariants.{Memory};
 
 use super::{Decision, refused};
 use batch_import::{ImportFault, check_batch};
-use job_facts::{BatchRow, BatchSize, Change, JobStore, Lot, Made, Refusal, Reply, StoreFault};
+use job_facts::{
+    BatchRow, BatchSize, Change, JobStore, Lot, Made, NewBatch, Refusal, Reply, StoreFault,
+};
 use std::alloc::Global;
 use store_data::{Name, Product, laws};
 
@@ -259,23 +261,23 @@ fn taken_in<'a>(
     ensures cause { IfErr result (λ fault. fault ≡ Memory) }
 {
     laws::is_a_name(batch);
-    let batch = *batch;
     match check_batch(alloc, raw, &product) {
-        Ok(totals) => Ok((
-            Reply::Import {
-                batch,
+        Ok(totals) => {
+            let reply = Reply::Import {
+                batch: *batch,
                 records: totals.records,
                 made: Made::Created,
                 rows: totals.rows,
-            },
-            Change::AddsBatch {
+            };
+            let batch = NewBatch {
                 number,
-                batch,
+                name: *batch,
                 product,
                 records: totals.records,
                 raw,
-            },
-        )),
+            };
+            Ok((reply, Change::AddsBatch { batch }))
+        }
         Err(ImportFault::At(fault)) => Ok((Reply::Faulty { fault }, Change::Nothing)),
         Err(ImportFault::Memory) => Err(StoreFault::Memory),
     }

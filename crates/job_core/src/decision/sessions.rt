@@ -23,8 +23,8 @@ use super::commands::{command, command_from, view};
 use super::records::in_batch;
 use super::{Decision, refused};
 use job_facts::{
-    BatchRow, Change, JobStore, Lot, Refusal, Reply, SegmentRow, SessionRow, SessionState,
-    StoreFault,
+    BatchRow, Change, JobStore, Lot, NewSession, NewWord, Refusal, Reply, SegmentRow, SessionRow,
+    SessionState, StoreFault,
 };
 use std::alloc::Global;
 use store_data::{Bytes, Class, Cursor, Name, class, laws};
@@ -208,13 +208,16 @@ fn opened(
         rec,
         session,
     };
-    let change = Change::Opens {
-        session,
+    let session = NewSession {
+        number: session,
         machine,
-        batch,
-        rec,
         blank,
         lot,
+    };
+    let change = Change::Opens {
+        session,
+        batch,
+        rec,
     };
     (reply, change)
 }
@@ -343,47 +346,40 @@ fn took_word(
         → Went plan index sw next → Hands plan index next command
         → Makes f (take_word f session index sw x) result.0 result.1 }
 {
-    let Some(next) = next else {
-        let reply = Reply::Spoiled { session };
-        let stands = SessionState::Spoiled;
-        return word(session, row, index, sw, reply, stands, row.cursor);
+    let word = NewWord {
+        session,
+        index,
+        sw,
+        cursor: next.unwrap_or(row.cursor),
     };
-    match command {
-        None => {
-            let reply = Reply::Good { session };
-            word(session, row, index, sw, reply, SessionState::Good, next)
-        }
-        Some(command) => {
+    match (next, command) {
+        (None, _) => adds_word(row, word, SessionState::Spoiled, Reply::Spoiled { session }),
+        (Some(_), None) => adds_word(row, word, SessionState::Good, Reply::Good { session }),
+        (Some(_), Some(command)) => {
             let reply = Reply::Next {
                 command,
                 index: u64::from(index) + 1,
                 session,
             };
-            word(session, row, index, sw, reply, SessionState::Running, next)
+            adds_word(row, word, SessionState::Running, reply)
         }
     }
 }
 
-fn word(
-    session: u64,
+// The word is added to the session of this row, which stands so then.
+fn adds_word(
     row: &SessionRow,
-    index: u32,
-    sw: u16,
-    reply: Reply,
+    word: NewWord,
     stands: SessionState,
-    cursor: Cursor,
+    reply: Reply,
 ) -> Decision<'static>
-    ensures { result
-        ≡ (reply, AddsWord session row.now.batch row.now.rec index sw stands cursor) }
+    ensures { result ≡ (reply, AddsWord word row.now.batch row.now.rec stands) }
 {
     let change = Change::AddsWord {
-        session,
+        word,
         batch: row.batch,
         rec: row.rec,
-        index,
-        sw,
         stands,
-        cursor,
     };
     (reply, change)
 }
