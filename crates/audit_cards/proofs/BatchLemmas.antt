@@ -29,10 +29,10 @@ use Rattle.image_laws.specs.Decided.{batch_of_row}
 use Rattle.table_rows.specs.Keys.{is_batch, is_grouping_of, is_record_at, is_record_of}
 use Rattle.row_laws.proofs.Finding.{find-filter}
 use Rattle.row_laws.proofs.TotalRows.{sum_by-map}
-use Rattle.audit_laws.specs.Audited.{IsAuditedBatch, IsAuditedRecord, IsAuditedSession, file_groupings, file_keys, file_records, file_rows, grouping_of, is_session_at, is_session_of, key_of, record_states_of, session_states_of}
+use Rattle.audit_laws.specs.Audited.{IsAuditedBatch, IsAuditedRecord, IsAuditedSession, file_groupings, file_keys, file_records, file_rows, is_session_at, is_session_of, key_of, record_states_of, session_states_of}
 use Rattle.audit_cards.specs.Files.{CountsBy, HasFile, IsFileOf, IsUnread, groupings_in, keys_of, names_in, records_so, sessions_so}
 use Rattle.audit_cards.specs.Sessions.{AreByRecord, HasRows, IsAuditedFile, IsAuditedWith}
-use Rattle.audit_cards.proofs.FileLemmas.{batch_of, place_of, rows_are_read}
+use Rattle.audit_cards.proofs.FileLemmas.{batch_of, groups_count, has_rows, place_of, rows_are_read}
 use Rattle.audit_order.proofs.SameLists.{get_or-map}
 use Rattle.audit_order.proofs.Pieces.{All-passed, filter-both, filter-filter}
 
@@ -58,9 +58,7 @@ module _ (t : Tables) (b : StoredBatch) where
       keys_here = ap (keys_of b.id) names_here
 
       pub groupings_here : file_groupings t b ≡ groupings_in b.id rows
-      groupings_here =
-          ap (λ rs. map (grouping_of t b) (enumerate_from 2 rs)) rows_here
-          ∙ ap (λ names. map (new_grouping b.id names) (enumerate_from 2 rows)) names_here
+      groupings_here = λ i. map (new_grouping b.id (names_here i)) (enumerate_from 2 (rows_here i))
 
       pub batch_read : IsName b.name → IsBatch t.products (batch_of_row b)
       batch_read named = record { named = named; product = p; there = there; rows = rows; read = file.read; ranged = file.ranged }
@@ -268,5 +266,14 @@ module _ (t : Tables) (b : StoredBatch) (p : Product) (rows : List Row) (r : Sto
   pub own_with : IsAuditedWith t r → IsAuditedRecord t r × All (IsAuditedSession t) own
   own_with a = (a.0, subst (All (IsAuditedSession t)) (sym has.own_are) a.1)
 
-pub at_place : {G : Type 0} (items : G → List Row) (groups : List G) (k : ℕ) (g : G) → k < length groups → g ≡ get_or groups k g → (rows : List Row) → rows ≡ items g → rows ≡ get_or (map items groups) k rows
-at_place items groups k g within is rows rows_are = rows_are ∙ ap items is ∙ sym (get_or-map items groups k g rows within)
+-- the rows of the record at a place, where the rows of each stand in a list of their own
+module _ {G : Type 0} (items : G → List Row) (groups : List G) (t : Tables) (b : StoredBatch) (p : Product) (records : List StoredRecord) (sessions : List StoredSession)
+    (has : HasFile t b p (map items groups) records sessions) where
+  pub groups_many : length groups ≡ length records
+  groups_many = sym (length-map groups items) ∙ groups_count t b p (map items groups) records sessions has
+
+  pub rows_at : (k : ℕ) → k < length records → (r : StoredRecord) → r ≡ get_or records k r → (g : G) → g ≡ get_or groups k g → (rows : List Row) → rows ≡ items g
+      → (own : List StoredSession) → own ≡ filter (λ (s : StoredSession). s.place == k) sessions → HasRows t b p rows r own
+  rows_at k within r r_is g g_is rows rows_are own own_are =
+      has_rows t b p (map items groups) records sessions has k r within r_is rows
+      (rows_are ∙ ap items g_is ∙ sym (get_or-map items groups k g rows (omega (arith, groups_many)))) own own_are

@@ -1,5 +1,5 @@
 //! Where the words of a session leave its card.
-ghost use Rattle.std.specs.Prelude.{◌≡◌, ◌∷◌, ◌++◌, [], ℕ, List, IfSome, None, Some, slice_get};
+ghost use Rattle.std.specs.Prelude.{◌≡◌, ◌∷◌, ◌++◌, [], ℕ, List, false, IfSome, None, Some, slice_get};
 ghost use Rattle.store_data.specs.Cursor.{IsSegmentAt, cursor_at};
 ghost use Rattle.store_data.specs.Sequence.{IsPlan, Plan, commands_of};
 ghost use Rattle.job_facts.specs.Facts.{Session};
@@ -95,6 +95,19 @@ pub(crate) fn card_after(plan: &RecordPlan<'_>, words: &[StoredWord]) -> Option<
     Some(card)
 }
 
+// The state of a session that goes on with the command at the cursor, or is good where there is none.
+fn state_at(plan: &RecordPlan<'_>, cursor: &Cursor) -> SessionState
+    requires { IsPlan plan.now }
+    ensures { (s : Session) → Leaves plan.now s.words cursor.now false → s.ended ≡ false
+        → result ≡ state_with (commands_of plan.now) s }
+{
+    if plan.segment(cursor.app, cursor.segment).is_none() {
+        SessionState::Good
+    } else {
+        SessionState::Running
+    }
+}
+
 /// The state of a session whose words leave its card so.
 pub(crate) fn state_of(plan: &RecordPlan<'_>, card: &Card, session: &StoredSession) -> SessionState
     requires { IsPlan plan.now }
@@ -103,9 +116,7 @@ pub(crate) fn state_of(plan: &RecordPlan<'_>, card: &Card, session: &StoredSessi
 {
     if session.ended || card.stops {
         SessionState::Spoiled
-    } else if plan.segment(card.cursor.app, card.cursor.segment).is_none() {
-        SessionState::Good
     } else {
-        SessionState::Running
+        state_at(plan, &card.cursor)
     }
 }

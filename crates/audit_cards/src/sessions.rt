@@ -1,14 +1,13 @@
 //! Sessions, and what their words say of them.
-ghost use Rattle.std.specs.Prelude.{◌≡◌, ◌↔◌, IsTrue, option_map};
+ghost use Rattle.std.specs.Prelude.{◌≡◌, ◌↔◌, IsTrue};
 ghost use Rattle.job_facts.specs.Sound.{IsName};
-ghost use Rattle.job_facts.specs.States.{lot_of};
 ghost use Rattle.audit_laws.specs.Audited.{IsAuditedSession, words_of};
 ghost use Rattle.audit_cards.specs.Cards.{status_words};
-ghost use Rattle.audit_order.specs.Order.{AreReady, lots_of};
+ghost use Rattle.audit_order.specs.Order.{AreReady};
 ghost use Rattle.audit_cards.specs.Sessions.{HasPlan, IsFor};
 
 use crate::cards::{card_after, state_of};
-use audit_order::{is_name, lot_of, range_of};
+use audit_order::{is_name, lot_for, range_of};
 use job_facts::SessionState;
 use store_data::{Cursor, RecordPlan};
 use table_rows::{StoredBatch, StoredLot, StoredSession, StoredWord, Tables};
@@ -45,15 +44,6 @@ fn stands(session: &StoredSession, state: SessionState) -> bool
     session.state == state
 }
 
-// The lot that the session's serial lies in.
-fn lot_for<'a>(tables: &'a Tables, session: &StoredSession) -> Option<&'a StoredLot>
-    requires { AreReady tables.now }
-    ensures { option_map (λ lot. lot.now.lot) result
-        ≡ lot_of (lots_of tables.now.lots) session.now.serial }
-{
-    lot_of(&tables.lots, session.serial)
-}
-
 // Whether the lot is for the product of the batch.
 fn has_product(lot: &StoredLot, batch: &StoredBatch) -> bool
     ensures { IsTrue result ↔ (lot.now.lot.product ≡ batch.now.product) }
@@ -66,7 +56,7 @@ fn is_for(tables: &Tables, session: &StoredSession, batch: &StoredBatch) -> bool
     requires { AreReady tables.now }
     ensures { IsTrue result ↔ IsFor tables.now session.now.serial batch.now.product }
 {
-    match lot_for(tables, session) {
+    match lot_for(tables, session.serial) {
         None => false,
         Some(lot) => has_product(lot, batch),
     }

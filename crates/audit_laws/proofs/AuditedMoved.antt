@@ -16,8 +16,8 @@ use Rattle.job_facts.specs.Sound.{AreApart, AreBatches, AreLots, AreProducts, Is
 use Rattle.job_facts.specs.States.{is_in, lot_of, product_named, records_of, rows_of, rows_of_record, rows_under}
 use Rattle.step_laws.proofs.BlankSums.{apart_once, bytes_eq_either, named_once}
 use Rattle.step_laws.proofs.Permuted.{IsPermutation-filter, at_most_one, count_moved, find_moved}
+use Rattle.table_rows.specs.After.{new_grouping}
 use Rattle.table_rows.specs.Tables.{StoredBatch, StoredBlank, StoredLot, StoredSession, Tables}
-use Rattle.image_laws.specs.Image.{place_in}
 use Rattle.image_laws.proofs.OneRecord.{turned}
 use Rattle.image_laws.specs.Decided.{batch_of_row, discarded_rows}
 use Rattle.row_laws.proofs.RecordRows.{name_alone}
@@ -137,16 +137,7 @@ module _ (u : Tables) (is : IsAudited u)
   keys_alike b = ap (λ names. map (λ (e : ℕ × List ℕ). (b.id, e)) (enumerate_from 0 names)) (names_alike b)
 
   groupings_alike : (b : StoredBatch) → file_groupings u b ≡ file_groupings with_moved b
-  groupings_alike b = λ i. map (λ (e : ℕ × Row). record {
-    batch = b.id;
-    line = e.0;
-    place = place_in (names_alike b i) e.1.rec;
-    aid = e.1.aid;
-    rank = e.1.rank;
-    enc = e.1.enc;
-    tol = e.1.tol;
-    coded = e.1.coded;
-  }) (enumerate_from 2 (file_alike b i))
+  groupings_alike b = λ i. map (new_grouping b.id (names_alike b i)) (enumerate_from 2 (file_alike b i))
 
   found_lot : (serial : ℕ) → lot_of own_lots serial ≡ lot_of moved_lots serial
   found_lot = lot_alike u.products products products_same is.products own_lots moved_lots lots_are is.lots

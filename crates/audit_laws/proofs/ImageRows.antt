@@ -8,14 +8,14 @@ use Rattle.std.proofs.lemmas.Simd.{map-map}
 use Rattle.store_data.proofs.PieceLemmas.{sum_by-map}
 use Rattle.job_facts.specs.Facts.{Batch, Facts, Session}
 use Rattle.job_facts.specs.States.{is_in}
-use Rattle.job_facts.specs.Accounts.{batch_totals, session_states}
+use Rattle.job_facts.specs.Accounts.{batch_totals, session_states, totals_by}
 use Rattle.table_rows.specs.Tables.{HaveSameRows, StoredBatch, StoredBlank, StoredLot, StoredRecord, StoredRemake, StoredSession, Tables}
-use Rattle.image_laws.specs.Image.{groupings_in, image, name_of, records_in, remakes_at, remakes_in, stored_batch, stored_batches, stored_blank, stored_blanks, stored_groupings, stored_lot, stored_lots, stored_record, stored_records, stored_remakes, stored_session, stored_sessions, stored_words, words_in}
+use Rattle.image_laws.specs.Image.{batch_by, batches_by_id, groupings_in, image, name_of, records_in, remakes_at, remakes_in, stored_batch, stored_batches, stored_blank, stored_blanks, stored_groupings, stored_lot, stored_lots, stored_record, stored_records, stored_remakes, stored_session, stored_sessions, stored_words, words_in}
 use Rattle.image_laws.proofs.Lists.{flat_map_same, unmoved}
 use Rattle.image_laws.proofs.Places.{map_joined}
-use Rattle.image_laws.proofs.Staying.{batch_by, totals_are, totals_by}
+use Rattle.image_laws.proofs.Staying.{totals_are}
 use Rattle.image_laws.specs.Decided.{batch_name, batch_of_row, contents_of, discarded_rows, facts_of}
-use Rattle.audit_laws.specs.Audited.{IsAudited, IsAuditedBatch, IsAuditedBlank, IsAuditedLot, IsAuditedSession, file_keys, file_records, key_of, named_session, opened_rows, record_states_of, session_states_of, turns_of}
+use Rattle.audit_laws.specs.Audited.{IsAudited, IsAuditedBatch, IsAuditedBlank, IsAuditedLot, IsAuditedSession, file_groupings, file_keys, file_records, key_of, named_session, opened_rows, record_states_of, session_states_of, turns_of}
 use Rattle.audit_laws.proofs.Tells.{IsToldBatch, IsToldRecord, IsToldSession, Tells}
 use Rattle.audit_laws.proofs.ImageLists.{flat_joined, made_again}
 use Rattle.audit_laws.proofs.SoundSessions.{sessions_are}
@@ -82,6 +82,13 @@ module _ (t : Tables) (audited : IsAudited t) (tells : Tells t) where
 
   -- ---- what is made of each record of the files, in file order
 
+  of_files : {Y : Type 0} (rows : ℕ × Batch → List Y) (of_file : StoredBatch → List Y) → ((b : StoredBatch) → IsToldBatch t b → rows (numbered_batch b) ≡ of_file b)
+      → flat_map rows (batches_by_id f) ≡ flat_map of_file t.batches
+  of_files rows of_file same =
+      ap (flat_map rows) tells.batches ∙ flat_map-map rows numbered_batch t.batches
+      ∙ flat_map_same (λ b. rows (numbered_batch b)) of_file t.batches
+      (All-weaker (IsToldBatch t) (λ b. rows (numbered_batch b) ≡ of_file b) same t.batches tells.each_batch)
+
   abbrev record_by : ℕ × (ℕ × List ℕ) → StoredRecord
   record_by key = stored_record f (key.0, under_name (batch_name t key.0)) key.1
 
@@ -98,11 +105,7 @@ module _ (t : Tables) (audited : IsAudited t) (tells : Tells t) where
   records_same : stored_records f ≡ t.records
   unfolding stored_records
   records_same =
-      ap (flat_map (records_in f)) tells.batches
-      ∙ flat_map-map (records_in f) numbered_batch t.batches
-      ∙ flat_map_same (λ b. records_in f (numbered_batch b)) (λ b. map record_by (file_keys t b)) t.batches
-      (All-weaker (IsToldBatch t)
-      (λ b. records_in f (numbered_batch b) ≡ map record_by (file_keys t b)) records_of_file t.batches tells.each_batch)
+      of_files (records_in f) (λ b. map record_by (file_keys t b)) records_of_file
       ∙ map_joined record_by (file_keys t) t.batches
       ∙ ap (map record_by) (sym audited.records)
       ∙ made_again record_by key_of t.records
@@ -125,11 +128,7 @@ module _ (t : Tables) (audited : IsAudited t) (tells : Tells t) where
   remakes_same : stored_remakes f ≡ t.remakes
   unfolding stored_remakes
   remakes_same =
-      ap (flat_map (remakes_in f)) tells.batches
-      ∙ flat_map-map (remakes_in f) numbered_batch t.batches
-      ∙ flat_map_same (λ b. remakes_in f (numbered_batch b)) (λ b. flat_map remakes_by (file_keys t b)) t.batches
-      (All-weaker (IsToldBatch t)
-      (λ b. remakes_in f (numbered_batch b) ≡ flat_map remakes_by (file_keys t b)) remakes_of_file t.batches tells.each_batch)
+      of_files (remakes_in f) (λ b. flat_map remakes_by (file_keys t b)) remakes_of_file
       ∙ flat_joined remakes_by (file_keys t) t.batches
       ∙ ap (flat_map remakes_by) (sym audited.records)
       ∙ flat_map-map remakes_by key_of t.records
@@ -141,8 +140,7 @@ module _ (t : Tables) (audited : IsAudited t) (tells : Tells t) where
 
   groupings_same : stored_groupings f ≡ t.groupings
   unfolding stored_groupings
-  groupings_same =
-      ap (flat_map (groupings_in f)) tells.batches ∙ flat_map-map (groupings_in f) numbered_batch t.batches ∙ sym audited.groupings
+  groupings_same = of_files (groupings_in f) (file_groupings t) (λ b told. refl) ∙ sym audited.groupings
 
   -- ---- sessions and words
 

@@ -15,8 +15,8 @@ use Rattle.job_facts.specs.Contents.{Entry, IsEntry, IsMark, Mark, is_above, is_
 use Rattle.job_facts.specs.Facts.{Session}
 use Rattle.job_facts.specs.Sound.{AreBatches, AreLots, AreProducts, AreWords, IsName, IsSoundRecord}
 use Rattle.job_facts.specs.States.{going, is_finished, is_in, is_spoiled, lot_of, product_named, records_of, rows_of, rows_of_record, same_record_state, state_by, state_with}
+use Rattle.table_rows.specs.After.{new_grouping}
 use Rattle.table_rows.specs.Tables.{StoredBatch, StoredBlank, StoredGrouping, StoredLot, StoredRecord, StoredRemake, StoredSession, StoredWord, Tables}
-use Rattle.image_laws.specs.Image.{place_in}
 use Rattle.image_laws.specs.Decided.{batch_name, batch_of_row, discarded_rows, record_name}
 use Rattle.table_rows.specs.Keys.{is_batch, is_record_at, is_record_of, is_running_on}
 
@@ -38,22 +38,9 @@ key_of r = (r.batch, (r.place, r.name))
 abbrev pub file_keys : Tables → StoredBatch → List (ℕ × (ℕ × List ℕ))
 file_keys t b = map (λ (e : ℕ × List ℕ). (b.id, e)) (enumerate_from 0 (file_records t b))
 
--- the row with this number of a batch's file, as a row of the table
-abbrev pub grouping_of : Tables → StoredBatch → ℕ × Row → StoredGrouping
-grouping_of t b e = record {
-  batch = b.id;
-  line = e.0;
-  place = place_in (file_records t b) e.1.rec;
-  aid = e.1.aid;
-  rank = e.1.rank;
-  enc = e.1.enc;
-  tol = e.1.tol;
-  coded = e.1.coded;
-}
-
--- row 1 is the header
+-- its rows, as rows of the table; row 1 is the header
 abbrev pub file_groupings : Tables → StoredBatch → List StoredGrouping
-file_groupings t b = map (grouping_of t b) (enumerate_from 2 (file_rows t b))
+file_groupings t b = map (new_grouping b.id (file_records t b)) (enumerate_from 2 (file_rows t b))
 
 -- ---- sessions
 

@@ -1,5 +1,5 @@
 -- What an answer tells.
-use Rattle.std.proofs.Common.{◌≡◌, Bool, true, false, not, is_some, Option, None, Some, Result, Ok, Err, refl, sym, ◌∙◌}
+use Rattle.std.proofs.Common.{◌≡◌, Bool, true, false, not, is_some, Option, None, Some, Result, Ok, Err, refl, sym, subst, ◌∙◌}
 use Rattle.std.specs.Prelude.{IfOk, IfSome}
 use Rattle.std.proofs.lemmas.Bool.{false≢true}
 
@@ -28,3 +28,8 @@ there_or_not (Some s) r is there missing = (λ passes. there, λ p. is)
 pub told_as : {E A B : Type 0} (r : Result Bool E) → (A → B) → (B → A) → IfOk r (λ sound. (sound ≡ true → A) × (A → sound ≡ true)) → IfOk r (λ sound. (sound ≡ true → B) × (B → sound ≡ true))
 told_as (Ok sound) to back told = (λ e. to (told.0 e), λ b. told.1 (back b))
 told_as (Err e) to back told = told
+
+-- and of what is the same
+pub told_of : {E X : Type 0} (P : X → Type 0) (r : Result Bool E) {x y : X} → x ≡ y
+    → IfOk r (λ sound. (sound ≡ true → P x) × (P x → sound ≡ true)) → IfOk r (λ sound. (sound ≡ true → P y) × (P y → sound ≡ true))
+told_of P r same = told_as r (subst P same) (subst P (sym same))

@@ -8,7 +8,7 @@ mod order;
 mod ranges;
 mod sorting;
 
-pub use lots::lot_of;
+pub use lots::lot_for;
 pub use names::{is_name, product_named};
 pub use order::{InOrder, sort_rows};
 pub use ranges::{Ranged, range_of};

@@ -1,9 +1,9 @@
 //! The lot of a serial.
 ghost use Rattle.std.specs.Prelude.{◌≡◌, ◌≤◌, option_map};
 ghost use Rattle.job_facts.specs.States.{is_in, lot_of};
-ghost use Rattle.audit_order.specs.Order.{AreLotsInOrder, lots_of};
+ghost use Rattle.audit_order.specs.Order.{AreLotsInOrder, AreReady, lots_of};
 
-use table_rows::StoredLot;
+use table_rows::{StoredLot, Tables};
 
 // Whether a serial that is not below the lot's first lies in it.
 fn is_around(lot: &StoredLot, serial: u64) -> bool
@@ -13,8 +13,8 @@ fn is_around(lot: &StoredLot, serial: u64) -> bool
     serial - lot.low_serial < u64::from(lot.amount)
 }
 
-/// The lot that this serial lies in.
-pub fn lot_of(lots: &[StoredLot], serial: u64) -> Option<&StoredLot>
+// The lot that this serial lies in.
+fn lot_of(lots: &[StoredLot], serial: u64) -> Option<&StoredLot>
     requires { AreLotsInOrder lots.now }
     ensures { option_map (λ lot. lot.now.lot) result ≡ lot_of (lots_of lots.now) serial }
 {
@@ -25,4 +25,12 @@ pub fn lot_of(lots: &[StoredLot], serial: u64) -> Option<&StoredLot>
     } else {
         None
     }
+}
+
+/// The lot of the tables that this serial lies in.
+pub fn lot_for(tables: &Tables, serial: u64) -> Option<&StoredLot>
+    requires { AreReady tables.now }
+    ensures { option_map (λ lot. lot.now.lot) result ≡ lot_of (lots_of tables.now.lots) serial }
+{
+    lot_of(&tables.lots, serial)
 }

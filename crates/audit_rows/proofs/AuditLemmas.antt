@@ -10,11 +10,12 @@ use Rattle.std.proofs.lemmas.List.Sums.{passes_at_first}
 use Rattle.std.proofs.lemmas.Option.{slice_get_within}
 use Rattle.job_facts.specs.Facts.{Batch}
 use Rattle.job_facts.specs.Sound.{AreApart, AreLots, AreNamedOnce, AreProducts, IsBatch, IsName}
+use Rattle.table_rows.specs.After.{new_grouping}
 use Rattle.table_rows.specs.Tables.{StoredBatch, StoredGrouping, StoredLot, StoredRecord, StoredSession, StoredWord, Tables}
 use Rattle.image_laws.proofs.Lists.{flat_map_same}
 use Rattle.image_laws.specs.Decided.{batch_of_row}
 use Rattle.table_rows.specs.Keys.{is_batch, is_grouping_of, is_record_of}
-use Rattle.audit_laws.specs.Audited.{IsAudited, IsAuditedRecord, IsAuditedSession, file_groupings, file_keys, file_records, file_rows, grouping_of, is_session_of, key_of}
+use Rattle.audit_laws.specs.Audited.{IsAudited, IsAuditedRecord, IsAuditedSession, file_groupings, file_keys, file_records, file_rows, is_session_of, key_of}
 use Rattle.audit_rows.specs.Audit.{AreFewOnce, AreOwned, IsIdOf}
 use Rattle.audit_rows.specs.Rules.{AllHold, blank_rules, card_rules, named_rules, reply_rules, rules}
 use Rattle.row_laws.proofs.Finding.{AllPairs-from_map}
@@ -70,7 +71,7 @@ module _ (t : Tables) (ids : map (λ (b : StoredBatch). b.id) t.batches ≡ rang
       All-map (λ (k : ℕ × (ℕ × List ℕ)). k.0 ≡ b.id) (λ (e : ℕ × List ℕ). let key : ℕ × (ℕ × List ℕ) = (b.id, e) in key) (enumerate_from 0 (file_records t b)) (λ k d within i. b.id)
 
   own_groupings : (b : StoredBatch) → All (λ (g : StoredGrouping). g.batch ≡ b.id) (file_groupings t b)
-  own_groupings b = All-map (λ (g : StoredGrouping). g.batch ≡ b.id) (grouping_of t b) (enumerate_from 2 (file_rows t b)) (λ k d within i. b.id)
+  own_groupings b = All-map (λ (g : StoredGrouping). g.batch ≡ b.id) (new_grouping b.id (file_records t b)) (enumerate_from 2 (file_rows t b)) (λ k d within i. b.id)
 
   ids_of : {X : Type 0} (n : X → ℕ) (f : StoredBatch → List X) → ((b : StoredBatch) → All (λ x. n x ≡ b.id) (f b)) → All (λ x. IsIdOf (length t.batches) (n x)) (flat_map f t.batches)
   ids_of n f own = All-joined (λ x. IsIdOf (length t.batches) (n x)) f t.batches

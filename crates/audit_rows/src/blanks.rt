@@ -1,19 +1,19 @@
 //! Blanks, their lots and their sessions.
 ghost use Rattle.std.specs.Prelude.{◌≡◌, ◌≢◌, ◌≤◌, ◌+◌, ◌^◌, ◌&&◌, ◌↔◌, IfOk, IsTrue, All, nat_le};
 ghost use Rattle.std.specs.Prelude.{nat_lt};
-ghost use Rattle.std.specs.Prelude.{AllPairs, IsPermutation, count_by, map, not, option_map};
+ghost use Rattle.std.specs.Prelude.{AllPairs, IsPermutation, count_by, map, not};
 ghost use Rattle.std.specs.List.Sorted.{IsNonDecreasing};
-ghost use Rattle.job_facts.specs.States.{is_in, lot_of};
+ghost use Rattle.job_facts.specs.States.{is_in};
 ghost use Rattle.table_rows.specs.Tables.{StoredBlank as BlankValue, StoredLot as LotValue};
 ghost use Rattle.table_rows.specs.Tables.{StoredSession as SessionValue};
 ghost use Rattle.image_laws.specs.Decided.{discarded_rows};
 ghost use Rattle.audit_laws.specs.Audited.{IsAuditedBlank, IsAuditedLot, opened_rows};
 ghost use Rattle.audit_rows.specs.Rules.{IsFirstFailing, blank_rules};
-ghost use Rattle.audit_order.specs.Order.{AreReady, lots_of};
+ghost use Rattle.audit_order.specs.Order.{AreReady};
 
 use crate::once::are_once;
 use crate::rule::Rule;
-use audit_order::lot_of;
+use audit_order::lot_for;
 use std::alloc::{AllocError, Global};
 use table_rows::{StoredBlank, StoredLot, StoredSession, Tables};
 
@@ -34,15 +34,6 @@ fn are_blanks_once(alloc: Global, blanks: &[StoredBlank]) -> Result<bool, AllocE
     are_once(alloc, &serials)
 }
 
-// The lot of a blank.
-fn lot_for<'a>(tables: &'a Tables, blank: &StoredBlank) -> Option<&'a StoredLot>
-    requires { AreReady tables.now }
-    ensures { option_map (λ lot. lot.now.lot) result
-        ≡ lot_of (lots_of tables.now.lots) blank.now.serial }
-{
-    lot_of(&tables.lots, blank.serial)
-}
-
 // Whether a blank is said to lie in this lot.
 fn names(blank: &StoredBlank, lot: &StoredLot) -> bool
     ensures { IsTrue result ↔ (lot.now.lot.name ≡ blank.now.lot) }
@@ -55,7 +46,7 @@ fn is_audited_blank(tables: &Tables, blank: &StoredBlank) -> bool
     requires { AreReady tables.now }
     ensures { IsTrue result ↔ IsAuditedBlank tables.now blank.now }
 {
-    match lot_for(tables, blank) {
+    match lot_for(tables, blank.serial) {
         None => false,
         Some(lot) => names(blank, lot),
     }

@@ -1,14 +1,12 @@
-use Rattle.std.proofs.Common.{◌≤◌, ◌∙◌, List, ℕ, ap, subst, sym}
+use Rattle.std.proofs.Common.{◌≤◌, ◌∙◌, List, ℕ, ap}
 use Rattle.std.specs.Prelude.{count_by}
 use Rattle.table_rows.specs.Keys.{is_running_on}
 use Rattle.table_rows.specs.Tables.{StoredSession, Tables}
-use Rattle.audit_order.proofs.Told.{told_as}
+use Rattle.audit_order.proofs.Told.{told_of}
 use Rattle.audit_rows.proofs.audit.has_machines.Goals as goal
 
 abbrev RunOnce : List StoredSession → Type 0
 RunOnce ss = (machine : List ℕ) → count_by (is_running_on machine) ss ≤ 1
 
 pub returns : goal.returns
-returns c =
-    let sessions = c.deref.ensures.value ∙ ap (λ (t : Tables). t.sessions) c.tables.view_is in
-    told_as c.run_once.result (λ once. subst RunOnce sessions once) (λ once. subst RunOnce (sym sessions) once) c.run_once.ensures
+returns c = told_of RunOnce c.run_once.result (c.deref.ensures.value ∙ ap (λ (t : Tables). t.sessions) c.tables.view_is) c.run_once.ensures
