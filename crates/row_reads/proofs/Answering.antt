@@ -1,5 +1,5 @@
 -- What is answered of products and marks.
-use Rattle.std.proofs.Common.{◌≡◌, ◌==◌, ℕ, pos, ◌&&◌, Bool, true, false, List, [], ◌∷◌, map, Option, Some, None, refl, sym, ap, ◌∙◌}
+use Rattle.std.proofs.Common.{◌≡◌, ◌==◌, ℕ, pos, ◌&&◌, Bool, true, false, List, [], ◌∷◌, map, Option, Some, None, refl, ap, ◌∙◌}
 use Rattle.std.specs.Prelude.{bytes_eq, find, option_map, unwrap_or}
 use Rattle.std.specs.Option.{option_to_list}
 use Rattle.sqlite.specs.declared.types.Value.TheVariants.{Int, Text}
@@ -10,7 +10,6 @@ use Rattle.sqlite.specs.State.{Shown, State}
 use Rattle.sqlite_sql.specs.declared.ops.BinaryOp.TheVariants.{Compare}
 use Rattle.sqlite_sql.specs.declared.ops.CompareOp.TheVariants.{Eq}
 use Rattle.store_data.specs.declared.row.Product.{Product}
-use Rattle.store_data.proofs.GroupLemmas.{same-bytes_eq}
 use Rattle.job_facts.specs.Contents.{Mark, has_mark, mark_of}
 use Rattle.job_facts.specs.Sound.{AreNamedOnce}
 use Rattle.job_facts.specs.States.{product_named}
@@ -40,17 +39,17 @@ option_same (Some x) = refl
 
 -- ---- products
 
-product_back : (key : List ℕ) (p : Product) → p.code ≡ key → product_in key (tells false product_columns (Text key ∷ []) (product_row p)) ≡ p
-product_back key p is = rw (sym is, flag_back p.check) refl
+product_back : (params : Row) (p : Product) → product_in (tells false product_columns params (product_row p)) ≡ p
+product_back params p = rw (flag_back p.check) refl
 
 pub product_found : (key : List ℕ) (old new : State) (rows : List Row) → Shown product_text (Text key ∷ []) old new rows → (t : Tables) → IsImage t old.now
-    → (found : Option Product) → IsFirst (map (product_in key) rows) found → AreNamedOnce (map (λ (p : Product). p.code) t.products) → found ≡ product_named t.products key
+    → (found : Option Product) → IsFirst (map product_in rows) found → AreNamedOnce (map (λ (p : Product). p.code) t.products) → found ≡ product_named t.products key
 product_found key old new rows h t image found first once =
     let params = Text key ∷ [] in
     let has : Product → Bool = λ p. bytes_eq p.code key in
     one_found has (λ p. tells false product_columns params (product_row p)) t.products rows
     (asked false product_row by_first_column product_columns params has refl (λ v r. refl) (λ p. text_key key p.code) product_text 1 product_asks old new rows h image.ours t.products image.each.1.0.rows)
-    (product_in key) (λ p. p) (named_once (λ (p : Product). p.code) t.products key once) (λ p is. product_back key p (same-bytes_eq p.code key is)) found first
+    product_in (λ p. p) (named_once (λ (p : Product). p.code) t.products key once) (λ p is. product_back params p) found first
     ∙ option_same (product_named t.products key)
 
 -- ---- marks

@@ -7,7 +7,7 @@ use Rattle.row_reads.proofs.Asking.{Asks}
 
 pub product_asks : Asks product_text 1 by_first_column product_columns
 unfolding understood everything
-product_asks = record { names = codes "max" ∷ codes "low" ∷ codes "checked" ∷ []; is = refl; plain = (refl, refl); unlisted = refl }
+product_asks = record { names = codes "name" ∷ codes "max" ∷ codes "low" ∷ codes "checked" ∷ []; is = refl; plain = (refl, refl); unlisted = refl }
 
 pub mark_asks : Asks mark_text 21 by_first_column mark_columns
 unfolding understood everything

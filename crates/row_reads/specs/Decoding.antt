@@ -20,9 +20,8 @@ abbrev pub blob_in : Value → List ℕ
 blob_in (Blob bytes) = bytes
 blob_in _ = []
 
--- the product of this code
-abbrev pub product_in : List ℕ → Row → Product
-product_in code row = record { code = code; max = number_in (column row 0); low = number_in (column row 1); check = flag_in (column row 2) }
+abbrev pub product_in : Row → Product
+product_in row = record { code = text_in (column row 0); max = number_in (column row 1); low = number_in (column row 2); check = flag_in (column row 3) }
 
 abbrev pub reply_in : Row → KeptReply
 reply_in row = record { ask = blob_in (column row 0); status = number_in (column row 1); body = blob_in (column row 2) }

@@ -4,10 +4,10 @@ use Rattle.sqlite.specs.Term.{Term, col}
 use Rattle.sql_base.specs.Queries.{is_equal}
 
 abbrev pub product_text : List ℕ
-product_text = codes "SELECT max, low, checked FROM product WHERE name = ?1"
+product_text = codes "SELECT name, max, low, checked FROM product WHERE name = ?1"
 
 abbrev pub product_columns : List Term
-product_columns = col 1 2 ∷ col 1 3 ∷ col 1 4 ∷ []
+product_columns = col 1 1 ∷ col 1 2 ∷ col 1 3 ∷ col 1 4 ∷ []
 
 abbrev pub mark_text : List ℕ
 mark_text = codes "SELECT upto FROM mark WHERE client = ?1"

@@ -10,7 +10,7 @@ ghost use Rattle.row_reads.specs.Telling.{AreCounts, IsHead, IsTold, head_of, to
 ghost use Rattle.table_rows.specs.Keys.{is_batch, is_batch_for, is_batch_named, is_batch_with};
 ghost use Rattle.table_rows.specs.Tables.{PassesOnce, StoredBatch};
 
-use crate::answered::{Answered, all, first};
+use crate::answered::{Answered, all_of, one_of};
 use crate::values::{first_number, has_rows, name_at, number_at};
 use job_facts::BatchTotals;
 use sql_base::{int, rows_of};
@@ -72,15 +72,11 @@ impl Answered for BatchHead {
     ghost fits = { IsHead };
 
     fn read(row: &Row) -> Result<BatchHead, Error> {
-        let id = number_at(row, 0)?;
-        let product = name_at(row, 1)?;
-        let is_closed: bool = row.get(2)?;
-        let totals = totals_in(row)?;
         Ok(BatchHead {
-            id,
-            product,
-            is_closed,
-            totals,
+            id: number_at(row, 0)?,
+            product: name_at(row, 1)?,
+            is_closed: row.get(2)?,
+            totals: totals_in(row)?,
         })
     }
 }
@@ -91,13 +87,10 @@ impl Answered for BatchTold {
     ghost fits = { IsTold };
 
     fn read(row: &Row) -> Result<BatchTold, Error> {
-        let id = number_at(row, 0)?;
-        let product = name_at(row, 1)?;
-        let is_closed: bool = row.get(2)?;
         Ok(BatchTold {
-            id,
-            product,
-            is_closed,
+            id: number_at(row, 0)?,
+            product: name_at(row, 1)?,
+            is_closed: row.get(2)?,
         })
     }
 }
@@ -113,14 +106,9 @@ pub fn batch_id<S: Alter>(conn: &mut Connection<S>, name: &Name) -> Result<Optio
         ≡ option_map (λ (b : StoredBatch). b.id) (find (is_batch_named name.now) t.batches)) }
     ensures ranged { IfOk result (λ found. IfSome found (λ id. id < 2 ^ 63)) }
     ensures looks { Looks (state S.Store conn.old) (state S.Store conn.new) }
-    ensures idle { conn.new.in_transaction ≡ false }
 {
-    let rows = rows_of(
-        conn,
-        "SELECT id FROM batch WHERE name = ?1",
-        &[ValueRef::Text(name.bytes())],
-    )?;
-    first(rows.as_slice())
+    let sql = "SELECT id FROM batch WHERE name = ?1";
+    one_of(conn, sql, &[ValueRef::Text(name.bytes())])
 }
 
 /// The name of the batch with this id. An equality with the id alone would read the row whole, with
@@ -132,14 +120,9 @@ pub fn batch_name<S: Alter>(conn: &mut Connection<S>, id: u64) -> Result<Option<
         (λ t found. PassesOnce (is_batch id) t.batches
         → found ≡ option_map (λ (b : StoredBatch). b.name) (find (is_batch id) t.batches)) }
     ensures looks { Looks (state S.Store conn.old) (state S.Store conn.new) }
-    ensures idle { conn.new.in_transaction ≡ false }
 {
-    let rows = rows_of(
-        conn,
-        "SELECT id, name FROM batch WHERE ?1 <= id AND (id = ?1) = 1 ORDER BY id LIMIT 1",
-        &[int(id)],
-    )?;
-    first(rows.as_slice())
+    let sql = "SELECT id, name FROM batch WHERE ?1 <= id AND (id = ?1) = 1 ORDER BY id LIMIT 1";
+    one_of(conn, sql, &[int(id)])
 }
 
 /// The batch of this name, without its bytes and its counters: an index alone answers, so that the
@@ -154,14 +137,9 @@ pub fn batch_told<S: Alter>(
         → found ≡ option_map told_of (find (is_batch_named name.now) t.batches)) }
     ensures ranged { IfOk result (λ found. IfSome found IsTold) }
     ensures looks { Looks (state S.Store conn.old) (state S.Store conn.new) }
-    ensures idle { conn.new.in_transaction ≡ false }
 {
-    let rows = rows_of(
-        conn,
-        "SELECT id, product, closed FROM batch WHERE name = ?1",
-        &[ValueRef::Text(name.bytes())],
-    )?;
-    first(rows.as_slice())
+    let sql = "SELECT id, product, closed FROM batch WHERE name = ?1";
+    one_of(conn, sql, &[ValueRef::Text(name.bytes())])
 }
 
 /// The batch of this name, without its bytes.
@@ -175,15 +153,10 @@ pub fn batch_head<S: Alter>(
         → found ≡ option_map head_of (find (is_batch_named name.now) t.batches)) }
     ensures ranged { IfOk result (λ found. IfSome found IsHead) }
     ensures looks { Looks (state S.Store conn.old) (state S.Store conn.new) }
-    ensures idle { conn.new.in_transaction ≡ false }
 {
-    let rows = rows_of(
-        conn,
-        "SELECT id, product, closed, waiting, running, failed, withdrawn, good, sessions, spoiled \
-        FROM batch WHERE name = ?1",
-        &[ValueRef::Text(name.bytes())],
-    )?;
-    first(rows.as_slice())
+    let sql = "SELECT id, product, closed, waiting, running, failed, withdrawn, good, sessions, \
+        spoiled FROM batch WHERE name = ?1";
+    one_of(conn, sql, &[ValueRef::Text(name.bytes())])
 }
 
 /// Whether the batch of this name has these bytes.
@@ -192,7 +165,6 @@ pub fn batch_has<S: Alter>(conn: &mut Connection<S>, name: &Name, raw: &[u8]) ->
     ensures found { TellsRows (state S.Store conn.old) (state S.Store conn.new) result
         (λ t has. has ≡ list_any (is_batch_with name.now raw.now) t.batches) }
     ensures looks { Looks (state S.Store conn.old) (state S.Store conn.new) }
-    ensures idle { conn.new.in_transaction ≡ false }
 {
     let rows = rows_of(
         conn,
@@ -212,16 +184,10 @@ pub fn batches_of<S: Alter>(
         (λ t heads.
         IsPermutation (map head_of (filter (is_batch_for product.now) t.batches)) heads.items) }
     ensures looks { Looks (state S.Store conn.old) (state S.Store conn.new) }
-    ensures idle { conn.new.in_transaction ≡ false }
 {
-    let rows = rows_of(
-        conn,
-        "SELECT id, product, closed, waiting, running, failed, withdrawn, good, sessions, spoiled \
-        FROM batch WHERE product = ?1",
-        &[ValueRef::Text(product.bytes())],
-    )?;
-    let alloc = *rows.allocator();
-    all(alloc, rows.as_slice())
+    let sql = "SELECT id, product, closed, waiting, running, failed, withdrawn, good, sessions, \
+        spoiled FROM batch WHERE product = ?1";
+    all_of(conn, sql, &[ValueRef::Text(product.bytes())])
 }
 
 /// The greatest id of a batch; 0 where there is no batch.
@@ -231,7 +197,6 @@ pub fn last_batch<S: Alter>(conn: &mut Connection<S>) -> Result<u64, Error>
         (λ t id. IsGreatest (map (λ (b : StoredBatch). b.id) t.batches) id) }
     ensures ranged { IfOk result (λ id. id < 2 ^ 63) }
     ensures looks { Looks (state S.Store conn.old) (state S.Store conn.new) }
-    ensures idle { conn.new.in_transaction ≡ false }
 {
     let rows = rows_of(conn, "SELECT id FROM batch ORDER BY id DESC LIMIT 1", &[])?;
     first_number(rows.as_slice())

@@ -16,7 +16,6 @@ pub fn is_charged<S: Alter>(conn: &mut Connection<S>, serial: u64) -> Result<boo
     ensures found { TellsRows (state S.Store conn.old) (state S.Store conn.new) result
         (λ t charged. charged ≡ list_any (is_blank serial) t.blanks) }
     ensures looks { Looks (state S.Store conn.old) (state S.Store conn.new) }
-    ensures idle { conn.new.in_transaction ≡ false }
 {
     let rows = rows_of(
         conn,

@@ -9,11 +9,11 @@ ghost use Rattle.row_reads.specs.CardDecoding.{is_of_segment, line_of};
 ghost use Rattle.row_reads.specs.Decoding.{blob_in};
 ghost use Rattle.row_reads.specs.Extremes.{AreSorted};
 ghost use Rattle.row_reads.specs.Reads.{Looks, TellsRows};
-ghost use Rattle.sql_rows.specs.Decoding.{enc_of_code, number_in};
+ghost use Rattle.sql_rows.specs.Decoding.{number_in};
 ghost use Rattle.table_rows.specs.Keys.{is_grouping_at, is_grouping_of};
 
-use crate::answered::{Answered, all};
-use crate::values::{bytes_at, count, number_at};
+use crate::answered::{Answered, all_of};
+use crate::values::{bytes_at, count, enc_of, number_at};
 use sql_base::{int, rows_of};
 use sqlite::types::ValueRef;
 use sqlite::{Alter, Connection, Error, Row};
@@ -74,36 +74,18 @@ fn rank_at(row: &Row, at: usize) -> Result<u16, Error>
     Ok(rank as u16)
 }
 
-// What a number stands for.
-fn enc_of(code: u64) -> Result<Enc, Error>
-    ensures { IfOk result (λ enc. enc ≡ enc_of_code code) }
-{
-    match code {
-        0 => Ok(Enc::Plain),
-        1 => Ok(Enc::All),
-        2 => Ok(Enc::Mixed),
-        _ => Err(Error::InvalidQuery),
-    }
-}
-
 impl Answered for GroupingAt {
     ghost value = { grouping_in };
 
     ghost fits = { IsGroupingAt };
 
     fn read(row: &Row) -> Result<GroupingAt, Error> {
-        let line = number_at(row, 0)?;
-        let aid = aid_at(row, 1)?;
-        let rank = rank_at(row, 2)?;
-        let code = number_at(row, 3)?;
-        let enc = enc_of(code)?;
-        let tol: bool = row.get(4)?;
         Ok(GroupingAt {
-            line,
-            aid,
-            rank,
-            enc,
-            tol,
+            line: number_at(row, 0)?,
+            aid: aid_at(row, 1)?,
+            rank: rank_at(row, 2)?,
+            enc: enc_of(number_at(row, 3)?)?,
+            tol: row.get(4)?,
         })
     }
 }
@@ -135,16 +117,10 @@ pub fn groupings_of<S: Alter>(
         (map grouping_at (filter (is_grouping_at batch place) t.groupings)) all.items) }
     ensures ranged { IfOk result (λ all. All IsGroupingAt all.items) }
     ensures looks { Looks (state S.Store conn.old) (state S.Store conn.new) }
-    ensures idle { conn.new.in_transaction ≡ false }
 {
-    let rows = rows_of(
-        conn,
-        "SELECT line, aid, rank, enc, tol FROM grouping2 WHERE batch = ?1 AND place = ?2 \
-        ORDER BY line",
-        &[int(batch), int(place)],
-    )?;
-    let alloc = *rows.allocator();
-    all(alloc, rows.as_slice())
+    let sql = "SELECT line, aid, rank, enc, tol FROM grouping2 WHERE batch = ?1 AND place = ?2 \
+        ORDER BY line";
+    all_of(conn, sql, &[int(batch), int(place)])
 }
 
 /// The bytes of the rows of such a record with this identifier and this rank, by their numbers.
@@ -163,21 +139,19 @@ pub fn coded_of<S: Alter>(
         (map coded_at (filter (is_of_segment batch place aid.now rank) t.groupings)) all.items) }
     ensures ranged { IfOk result (λ all. All IsCodedAt all.items) }
     ensures looks { Looks (state S.Store conn.old) (state S.Store conn.new) }
-    ensures idle { conn.new.in_transaction ≡ false }
 {
-    let rows = rows_of(
+    let sql = "SELECT line, coded FROM grouping2 WHERE batch = ?1 AND place = ?2 AND aid = ?3 \
+        AND rank = ?4 ORDER BY line";
+    all_of(
         conn,
-        "SELECT line, coded FROM grouping2 WHERE batch = ?1 AND place = ?2 AND aid = ?3 \
-        AND rank = ?4 ORDER BY line",
+        sql,
         &[
             int(batch),
             int(place),
             ValueRef::Blob(aid.bytes()),
             int(u64::from(rank)),
         ],
-    )?;
-    let alloc = *rows.allocator();
-    all(alloc, rows.as_slice())
+    )
 }
 
 /// How many rows the batch with this id has.
@@ -187,7 +161,6 @@ pub fn grouping_count<S: Alter>(conn: &mut Connection<S>, batch: u64) -> Result<
     ensures found { TellsRows (state S.Store conn.old) (state S.Store conn.new) result
         (λ t counted. counted ≡ length (filter (is_grouping_of batch) t.groupings)) }
     ensures looks { Looks (state S.Store conn.old) (state S.Store conn.new) }
-    ensures idle { conn.new.in_transaction ≡ false }
 {
     let rows = rows_of(
         conn,

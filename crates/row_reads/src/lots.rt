@@ -9,7 +9,7 @@ ghost use Rattle.row_reads.specs.Telling.{IsLotRow, lot_row_of};
 ghost use Rattle.table_rows.specs.Keys.{is_lot_for, is_lot_named};
 ghost use Rattle.table_rows.specs.Tables.{PassesOnce, StoredLot};
 
-use crate::answered::{Answered, all, first};
+use crate::answered::{Answered, all_of, one_of};
 use crate::values::{count, name_at, number_at};
 use job_facts::{Lot, any_overlaps, lot_among};
 use sql_base::rows_of;
@@ -32,15 +32,11 @@ impl Answered for Lot {
     ghost fits = { IsAny };
 
     fn read(row: &Row) -> Result<Lot, Error> {
-        let name = name_at(row, 0)?;
-        let product = name_at(row, 1)?;
-        let first: u64 = row.get(2)?;
-        let count: u32 = row.get(3)?;
         Ok(Lot {
-            name,
-            product,
-            first,
-            count,
+            name: name_at(row, 0)?,
+            product: name_at(row, 1)?,
+            first: row.get(2)?,
+            count: row.get(3)?,
         })
     }
 }
@@ -51,9 +47,10 @@ impl Answered for LotRow {
     ghost fits = { IsLotRow };
 
     fn read(row: &Row) -> Result<LotRow, Error> {
-        let lot = Lot::read(row)?;
-        let discarded = number_at(row, 4)?;
-        Ok(LotRow { lot, discarded })
+        Ok(LotRow {
+            lot: Lot::read(row)?,
+            discarded: number_at(row, 4)?,
+        })
     }
 }
 
@@ -67,14 +64,9 @@ pub fn lot<S: Alter>(conn: &mut Connection<S>, name: &Name) -> Result<Option<Lot
         → found ≡ option_map lot_row_of (find (is_lot_named name.now) t.lots)) }
     ensures ranged { IfOk result (λ found. IfSome found IsLotRow) }
     ensures looks { Looks (state S.Store conn.old) (state S.Store conn.new) }
-    ensures idle { conn.new.in_transaction ≡ false }
 {
-    let rows = rows_of(
-        conn,
-        "SELECT name, product, low_serial, amount, discarded FROM lot WHERE name = ?1",
-        &[ValueRef::Text(name.bytes())],
-    )?;
-    first(rows.as_slice())
+    let sql = "SELECT name, product, low_serial, amount, discarded FROM lot WHERE name = ?1";
+    one_of(conn, sql, &[ValueRef::Text(name.bytes())])
 }
 
 /// All lots, in any order.
@@ -83,15 +75,9 @@ pub fn all_lots<S: Alter>(conn: &mut Connection<S>) -> Result<Vec<Lot>, Error>
     ensures found { TellsRows (state S.Store conn.old) (state S.Store conn.new) result
         (λ t lots. IsPermutation (map (λ (l : StoredLot). l.lot) t.lots) lots.items) }
     ensures looks { Looks (state S.Store conn.old) (state S.Store conn.new) }
-    ensures idle { conn.new.in_transaction ≡ false }
 {
-    let rows = rows_of(
-        conn,
-        "SELECT name, product, low_serial, amount FROM lot",
-        &[],
-    )?;
-    let alloc = *rows.allocator();
-    all(alloc, rows.as_slice())
+    let sql = "SELECT name, product, low_serial, amount FROM lot";
+    all_of(conn, sql, &[])
 }
 
 /// The lots of a product, in any order.
@@ -101,15 +87,9 @@ pub fn lots_of<S: Alter>(conn: &mut Connection<S>, product: &Name) -> Result<Vec
         (λ t lots.
         IsPermutation (map lot_row_of (filter (is_lot_for product.now) t.lots)) lots.items) }
     ensures looks { Looks (state S.Store conn.old) (state S.Store conn.new) }
-    ensures idle { conn.new.in_transaction ≡ false }
 {
-    let rows = rows_of(
-        conn,
-        "SELECT name, product, low_serial, amount, discarded FROM lot WHERE product = ?1",
-        &[ValueRef::Text(product.bytes())],
-    )?;
-    let alloc = *rows.allocator();
-    all(alloc, rows.as_slice())
+    let sql = "SELECT name, product, low_serial, amount, discarded FROM lot WHERE product = ?1";
+    all_of(conn, sql, &[ValueRef::Text(product.bytes())])
 }
 
 /// The lot in which a blank lies.
@@ -119,7 +99,6 @@ pub fn lot_of<S: Alter>(conn: &mut Connection<S>, blank: u64) -> Result<Option<L
         (λ t found. PassesOnce (is_in blank) (map (λ (l : StoredLot). l.lot) t.lots)
         → found ≡ lot_of (map (λ (l : StoredLot). l.lot) t.lots) blank) }
     ensures looks { Looks (state S.Store conn.old) (state S.Store conn.new) }
-    ensures idle { conn.new.in_transaction ≡ false }
 {
     let lots = all_lots(conn)?;
     Ok(lot_among(lots.as_slice(), blank).copied())
@@ -131,7 +110,6 @@ pub fn overlaps<S: Alter>(conn: &mut Connection<S>, first: u64, count: u32) -> R
     ensures found { TellsRows (state S.Store conn.old) (state S.Store conn.new) result
         (λ t found. found ≡ any_overlaps (map (λ (l : StoredLot). l.lot) t.lots) first count) }
     ensures looks { Looks (state S.Store conn.old) (state S.Store conn.new) }
-    ensures idle { conn.new.in_transaction ≡ false }
 {
     let lots = all_lots(conn)?;
     Ok(any_overlaps(lots.as_slice(), first, count))
@@ -143,7 +121,6 @@ pub fn lot_count<S: Alter>(conn: &mut Connection<S>) -> Result<u64, Error>
     ensures found { TellsRows (state S.Store conn.old) (state S.Store conn.new) result
         (λ t count. count ≡ length t.lots) }
     ensures looks { Looks (state S.Store conn.old) (state S.Store conn.new) }
-    ensures idle { conn.new.in_transaction ≡ false }
 {
     let rows = rows_of(conn, "SELECT name FROM lot", &[])?;
     Ok(count(rows.as_slice()))

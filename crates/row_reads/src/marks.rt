@@ -19,7 +19,6 @@ pub fn mark<S: Alter>(conn: &mut Connection<S>, client: &Name) -> Result<u64, Er
         → upto ≡ mark_of t.marks client.now) }
     ensures ranged { IfOk result (λ upto. upto < 2 ^ 63) }
     ensures looks { Looks (state S.Store conn.old) (state S.Store conn.new) }
-    ensures idle { conn.new.in_transaction ≡ false }
 {
     let rows = rows_of(
         conn,

@@ -5,14 +5,13 @@ ghost use Rattle.sqlite.specs.Held.{state};
 ghost use Rattle.row_reads.specs.CardDecoding.{IsRecordAt, place_of, record_at, record_in};
 ghost use Rattle.row_reads.specs.Extremes.{AreSorted, IsLeastBy};
 ghost use Rattle.row_reads.specs.Reads.{Looks, TellsRows};
-ghost use Rattle.sql_rows.specs.Decoding.{record_state_of_code};
 ghost use Rattle.table_rows.specs.Keys.{is_record_at, is_record_named, is_record_of, is_waiting_of};
 ghost use Rattle.table_rows.specs.Tables.{PassesOnce};
 
-use crate::answered::{Answered, all, first};
-use crate::values::{name_at, number_at};
+use crate::answered::{Answered, all_of, one_of};
+use crate::values::{name_at, number_at, record_state};
 use job_facts::RecordState;
-use sql_base::{int, rows_of};
+use sql_base::int;
 use sqlite::types::ValueRef;
 use sqlite::{Alter, Connection, Error, Row};
 use store_data::Name;
@@ -30,38 +29,18 @@ pub struct RecordAt {
     pub remakes: u64,
 }
 
-// The state that a number stands for.
-fn record_state(code: u64) -> Result<RecordState, Error>
-    ensures { IfOk result (λ stands. stands ≡ record_state_of_code code) }
-{
-    match code {
-        0 => Ok(RecordState::Waiting),
-        1 => Ok(RecordState::Running),
-        2 => Ok(RecordState::Failed),
-        3 => Ok(RecordState::Withdrawn),
-        4 => Ok(RecordState::Good),
-        _ => Err(Error::InvalidQuery),
-    }
-}
-
 impl Answered for RecordAt {
     ghost value = { record_in };
 
     ghost fits = { IsRecordAt };
 
     fn read(row: &Row) -> Result<RecordAt, Error> {
-        let place = number_at(row, 0)?;
-        let name = name_at(row, 1)?;
-        let code = number_at(row, 2)?;
-        let stands = record_state(code)?;
-        let spoiled = number_at(row, 3)?;
-        let remakes = number_at(row, 4)?;
         Ok(RecordAt {
-            place,
-            name,
-            stands,
-            spoiled,
-            remakes,
+            place: number_at(row, 0)?,
+            name: name_at(row, 1)?,
+            stands: record_state(number_at(row, 2)?)?,
+            spoiled: number_at(row, 3)?,
+            remakes: number_at(row, 4)?,
         })
     }
 }
@@ -79,14 +58,10 @@ pub fn record_named<S: Alter>(
         → found ≡ option_map record_at (find (is_record_named batch name.now) t.records)) }
     ensures ranged { IfOk result (λ found. IfSome found IsRecordAt) }
     ensures looks { Looks (state S.Store conn.old) (state S.Store conn.new) }
-    ensures idle { conn.new.in_transaction ≡ false }
 {
-    let rows = rows_of(
-        conn,
-        "SELECT place, name, state, spoiled, remakes FROM record WHERE batch = ?1 AND name = ?2",
-        &[int(batch), ValueRef::Text(name.bytes())],
-    )?;
-    first(rows.as_slice())
+    let sql =
+        "SELECT place, name, state, spoiled, remakes FROM record WHERE batch = ?1 AND name = ?2";
+    one_of(conn, sql, &[int(batch), ValueRef::Text(name.bytes())])
 }
 
 /// The record at this place of the batch with this id.
@@ -103,14 +78,10 @@ pub fn record_at<S: Alter>(
         → found ≡ option_map record_at (find (is_record_at batch place) t.records)) }
     ensures ranged { IfOk result (λ found. IfSome found IsRecordAt) }
     ensures looks { Looks (state S.Store conn.old) (state S.Store conn.new) }
-    ensures idle { conn.new.in_transaction ≡ false }
 {
-    let rows = rows_of(
-        conn,
-        "SELECT place, name, state, spoiled, remakes FROM record WHERE batch = ?1 AND place = ?2",
-        &[int(batch), int(place)],
-    )?;
-    first(rows.as_slice())
+    let sql =
+        "SELECT place, name, state, spoiled, remakes FROM record WHERE batch = ?1 AND place = ?2";
+    one_of(conn, sql, &[int(batch), int(place)])
 }
 
 /// The records of the batch with this id, by their places.
@@ -122,15 +93,10 @@ pub fn records_of<S: Alter>(conn: &mut Connection<S>, batch: u64) -> Result<Vec<
         AreSorted place_of (map record_at (filter (is_record_of batch) t.records)) all.items) }
     ensures ranged { IfOk result (λ all. All IsRecordAt all.items) }
     ensures looks { Looks (state S.Store conn.old) (state S.Store conn.new) }
-    ensures idle { conn.new.in_transaction ≡ false }
 {
-    let rows = rows_of(
-        conn,
-        "SELECT place, name, state, spoiled, remakes FROM record WHERE batch = ?1 ORDER BY place",
-        &[int(batch)],
-    )?;
-    let alloc = *rows.allocator();
-    all(alloc, rows.as_slice())
+    let sql =
+        "SELECT place, name, state, spoiled, remakes FROM record WHERE batch = ?1 ORDER BY place";
+    all_of(conn, sql, &[int(batch)])
 }
 
 /// Of the waiting records of the batch with this id the one with the least place.
@@ -145,13 +111,8 @@ pub fn first_waiting<S: Alter>(
         IsLeastBy place_of (map record_at (filter (is_waiting_of batch) t.records)) found) }
     ensures ranged { IfOk result (λ found. IfSome found IsRecordAt) }
     ensures looks { Looks (state S.Store conn.old) (state S.Store conn.new) }
-    ensures idle { conn.new.in_transaction ≡ false }
 {
-    let rows = rows_of(
-        conn,
-        "SELECT place, name, state, spoiled, remakes FROM record WHERE batch = ?1 AND state = 0 \
-        ORDER BY place LIMIT 1",
-        &[int(batch)],
-    )?;
-    first(rows.as_slice())
+    let sql = "SELECT place, name, state, spoiled, remakes FROM record WHERE batch = ?1 \
+        AND state = 0 ORDER BY place LIMIT 1";
+    one_of(conn, sql, &[int(batch)])
 }

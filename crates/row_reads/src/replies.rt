@@ -8,7 +8,7 @@ ghost use Rattle.row_reads.specs.Reads.{Looks, TellsRows};
 ghost use Rattle.table_rows.specs.Keys.{is_reply_to};
 ghost use Rattle.table_rows.specs.Tables.{PassesOnce};
 
-use crate::answered::{Answered, first};
+use crate::answered::{Answered, one_of};
 use crate::values::{bytes_at, first_number, short_at};
 use job_facts::KeptReply;
 use sql_base::{int, rows_of};
@@ -41,14 +41,9 @@ pub fn kept<S: Alter>(
         (λ t found. PassesOnce (is_reply_to client.now number) t.replies
         → found ≡ option_map reply_of_entry (entry_of t.replies client.now number)) }
     ensures looks { Looks (state S.Store conn.old) (state S.Store conn.new) }
-    ensures idle { conn.new.in_transaction ≡ false }
 {
-    let rows = rows_of(
-        conn,
-        "SELECT ask, status, body FROM reply WHERE client = ?1 AND number = ?2",
-        &[ValueRef::Text(client.bytes()), int(number)],
-    )?;
-    first(rows.as_slice())
+    let sql = "SELECT ask, status, body FROM reply WHERE client = ?1 AND number = ?2";
+    one_of(conn, sql, &[ValueRef::Text(client.bytes()), int(number)])
 }
 
 // The number that a count(*) answered. SQL's numbers end, and of more rows than that it answers the
@@ -69,7 +64,6 @@ pub fn reply_count<S: Alter>(conn: &mut Connection<S>) -> Result<u64, Error>
     ensures found { TellsRows (state S.Store conn.old) (state S.Store conn.new) result
         (λ t count. count ≡ length t.replies) }
     ensures looks { Looks (state S.Store conn.old) (state S.Store conn.new) }
-    ensures idle { conn.new.in_transaction ≡ false }
 {
     let rows = rows_of(conn, "SELECT count(*) FROM reply", &[])?;
     whole_count(rows.as_slice())

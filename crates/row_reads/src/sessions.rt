@@ -7,12 +7,11 @@ ghost use Rattle.row_reads.specs.CardDecoding.{IsGoodCard, IsSessionAt, cursor_i
 ghost use Rattle.row_reads.specs.CardDecoding.{good_in, session_at, session_in};
 ghost use Rattle.row_reads.specs.Extremes.{IsGreatest};
 ghost use Rattle.row_reads.specs.Reads.{Looks, TellsRows};
-ghost use Rattle.sql_rows.specs.Decoding.{session_state_of_code};
 ghost use Rattle.table_rows.specs.Keys.{is_good_of, is_running_on, is_session};
 ghost use Rattle.table_rows.specs.Tables.{PassesOnce, StoredSession};
 
-use crate::answered::{Answered, all, first};
-use crate::values::{first_number, name_at, number_at};
+use crate::answered::{Answered, all_of, one_of};
+use crate::values::{first_number, name_at, number_at, session_state};
 use job_facts::SessionState;
 use sql_base::{int, rows_of};
 use sqlite::types::ValueRef;
@@ -40,18 +39,6 @@ pub struct SessionAt {
 pub struct GoodCard {
     pub place: u64,
     pub serial: u64,
-}
-
-// The state that a number stands for.
-fn session_state(code: u64) -> Result<SessionState, Error>
-    ensures { IfOk result (λ stands. stands ≡ session_state_of_code code) }
-{
-    match code {
-        0 => Ok(SessionState::Running),
-        1 => Ok(SessionState::Good),
-        2 => Ok(SessionState::Spoiled),
-        _ => Err(Error::InvalidQuery),
-    }
 }
 
 // The cursor of these numbers, where they are one.
@@ -93,20 +80,13 @@ impl Answered for SessionAt {
     ghost fits = { IsSessionAt };
 
     fn read(row: &Row) -> Result<SessionAt, Error> {
-        let machine = name_at(row, 0)?;
-        let batch = number_at(row, 1)?;
-        let place = number_at(row, 2)?;
-        let code = number_at(row, 3)?;
-        let stands = session_state(code)?;
-        let words = number_at(row, 4)?;
-        let cursor = cursor_in(row)?;
         Ok(SessionAt {
-            machine,
-            batch,
-            place,
-            stands,
-            words,
-            cursor,
+            machine: name_at(row, 0)?,
+            batch: number_at(row, 1)?,
+            place: number_at(row, 2)?,
+            stands: session_state(number_at(row, 3)?)?,
+            words: number_at(row, 4)?,
+            cursor: cursor_in(row)?,
         })
     }
 }
@@ -120,15 +100,11 @@ pub fn session<S: Alter>(conn: &mut Connection<S>, id: u64) -> Result<Option<Ses
         → found ≡ option_map session_at (find (is_session id) t.sessions)) }
     ensures ranged { IfOk result (λ found. IfSome found IsSessionAt) }
     ensures looks { Looks (state S.Store conn.old) (state S.Store conn.new) }
-    ensures idle { conn.new.in_transaction ≡ false }
 {
-    let rows = rows_of(
-        conn,
+    let sql =
         "SELECT machine, batch, place, state, words, app, segment, at_offset, block FROM session \
-        WHERE id = ?1",
-        &[int(id)],
-    )?;
-    first(rows.as_slice())
+        WHERE id = ?1";
+    one_of(conn, sql, &[int(id)])
 }
 
 /// The id of the session that runs at a machine.
@@ -143,14 +119,9 @@ pub fn running_session<S: Alter>(
         (find (is_running_on machine.now) t.sessions)) }
     ensures ranged { IfOk result (λ found. IfSome found (λ id. id < 2 ^ 63)) }
     ensures looks { Looks (state S.Store conn.old) (state S.Store conn.new) }
-    ensures idle { conn.new.in_transaction ≡ false }
 {
-    let rows = rows_of(
-        conn,
-        "SELECT id FROM session WHERE machine = ?1 AND state = 0",
-        &[ValueRef::Text(machine.bytes())],
-    )?;
-    first(rows.as_slice())
+    let sql = "SELECT id FROM session WHERE machine = ?1 AND state = 0";
+    one_of(conn, sql, &[ValueRef::Text(machine.bytes())])
 }
 
 /// The greatest id of a session; 0 where there is no session.
@@ -160,7 +131,6 @@ pub fn last_session<S: Alter>(conn: &mut Connection<S>) -> Result<u64, Error>
         (λ t id. IsGreatest (map (λ (s : StoredSession). s.id) t.sessions) id) }
     ensures ranged { IfOk result (λ id. id < 2 ^ 63) }
     ensures looks { Looks (state S.Store conn.old) (state S.Store conn.new) }
-    ensures idle { conn.new.in_transaction ≡ false }
 {
     let rows = rows_of(conn, "SELECT id FROM session ORDER BY id DESC LIMIT 1", &[])?;
     first_number(rows.as_slice())
@@ -186,13 +156,7 @@ pub fn good_sessions<S: Alter>(conn: &mut Connection<S>, batch: u64) -> Result<V
         (λ t all. IsPermutation (map good_at (filter (is_good_of batch) t.sessions)) all.items) }
     ensures ranged { IfOk result (λ all. All IsGoodCard all.items) }
     ensures looks { Looks (state S.Store conn.old) (state S.Store conn.new) }
-    ensures idle { conn.new.in_transaction ≡ false }
 {
-    let rows = rows_of(
-        conn,
-        "SELECT place, serial FROM session WHERE batch = ?1 AND state = 1",
-        &[int(batch)],
-    )?;
-    let alloc = *rows.allocator();
-    all(alloc, rows.as_slice())
+    let sql = "SELECT place, serial FROM session WHERE batch = ?1 AND state = 1";
+    all_of(conn, sql, &[int(batch)])
 }

@@ -1,14 +1,16 @@
 //! The values of an answered row.
 ghost use Rattle.std.specs.Prelude.{◌≡◌, ◌<◌, ◌^◌, length, IfOk};
 ghost use Rattle.sqlite.specs.Order.{column};
-ghost use Rattle.sql_rows.specs.Decoding.{number_in};
+ghost use Rattle.sql_rows.specs.Decoding.{enc_of_code, number_in, record_state_of_code};
+ghost use Rattle.sql_rows.specs.Decoding.{session_state_of_code};
 ghost use Rattle.row_reads.specs.Decoding.{IsAny, IsNumber, blob_in, first_number, has_rows};
 ghost use Rattle.row_reads.specs.Decoding.{id_in, name_in, text_in};
 
 use crate::answered::{Answered, first};
+use job_facts::{RecordState, SessionState};
 use sqlite::types::ValueRef;
 use sqlite::{Error, Row};
-use store_data::{Bytes, Name};
+use store_data::{Bytes, Enc, Name};
 
 // The name that a text is.
 fn name_of(text: &[u8]) -> Result<Name, Error>
@@ -59,6 +61,46 @@ pub(crate) fn short_at(row: &Row, at: usize) -> Result<u16, Error>
         return Err(Error::InvalidQuery);
     }
     Ok(n as u16)
+}
+
+// ---- what numbers stand for
+
+// The mark of encipherment that a number stands for.
+pub(crate) fn enc_of(code: u64) -> Result<Enc, Error>
+    ensures { IfOk result (λ enc. enc ≡ enc_of_code code) }
+{
+    match code {
+        0 => Ok(Enc::Plain),
+        1 => Ok(Enc::All),
+        2 => Ok(Enc::Mixed),
+        _ => Err(Error::InvalidQuery),
+    }
+}
+
+// The state of a record that a number stands for.
+pub(crate) fn record_state(code: u64) -> Result<RecordState, Error>
+    ensures { IfOk result (λ stands. stands ≡ record_state_of_code code) }
+{
+    match code {
+        0 => Ok(RecordState::Waiting),
+        1 => Ok(RecordState::Running),
+        2 => Ok(RecordState::Failed),
+        3 => Ok(RecordState::Withdrawn),
+        4 => Ok(RecordState::Good),
+        _ => Err(Error::InvalidQuery),
+    }
+}
+
+// The state of a session that a number stands for.
+pub(crate) fn session_state(code: u64) -> Result<SessionState, Error>
+    ensures { IfOk result (λ stands. stands ≡ session_state_of_code code) }
+{
+    match code {
+        0 => Ok(SessionState::Running),
+        1 => Ok(SessionState::Good),
+        2 => Ok(SessionState::Spoiled),
+        _ => Err(Error::InvalidQuery),
+    }
 }
 
 // ---- answered rows

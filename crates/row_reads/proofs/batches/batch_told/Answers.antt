@@ -1,9 +1,7 @@
-use Rattle.row_reads.specs.Decoding.{told_in}
 use Rattle.row_reads.proofs.BatchAnswers.{batch_told_found}
-use Rattle.row_reads.proofs.Told.{first_told}
+use Rattle.row_reads.proofs.Told.{told}
 use Rattle.row_reads.proofs.batches.batch_told.Goals as goal
 
 pub returns-clause-found : goal.returns-clause-found
-returns-clause-found g c clean =
-    let shown = rw c.bytes.ensures.value at (c.in_ok-rows.ensures.shown clean) in
-    first_told told_in _ _ _ _ _ _ c.as_slice.ensures.value shown.1 c.first.result _ c.first.ensures.value (batch_told_found c.args.name.now _ _ _ shown.1)
+returns-clause-found g c =
+    told g.S.Store c.args.conn.now c.one_of.new.conn _ _ c.one_of.result _ _ (rw c.bytes.ensures.value at c.one_of.ensures.answered) (batch_told_found c.args.name.now _)

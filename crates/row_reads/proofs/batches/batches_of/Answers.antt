@@ -5,11 +5,10 @@ use Rattle.table_rows.specs.Keys.{is_batch_for}
 use Rattle.row_reads.specs.Decoding.{head_in}
 use Rattle.row_reads.specs.Telling.{head_of}
 use Rattle.row_reads.proofs.BatchAnswers.{batches_of_found}
-use Rattle.row_reads.proofs.Told.{value_told}
+use Rattle.row_reads.proofs.Told.{list_told}
 use Rattle.row_reads.proofs.batches.batches_of.Goals as goal
 
 pub returns-clause-found : goal.returns-clause-found
-returns-clause-found g c clean =
-    let shown = rw c.bytes.ensures.value at (c.in_ok-rows.ensures.shown clean) in
-    value_told (λ v. v.items) (map head_in) _ _ _ _ _ _ c.as_slice.ensures.value shown.1 c.all.result
-    (λ t. IsPermutation (map head_of (filter (is_batch_for c.args.product.now) t.batches))) c.all.ensures.value (batches_of_found c.args.product.now _ _ _ shown.1)
+returns-clause-found g c =
+    list_told g.S.Store c.args.conn.now c.all_of.new.conn (λ v. v.items) (map head_in) _ _ c.all_of.result
+    (λ t. IsPermutation (map head_of (filter (is_batch_for c.args.product.now) t.batches))) (rw c.bytes.ensures.value at c.all_of.ensures.answered) (batches_of_found c.args.product.now _)

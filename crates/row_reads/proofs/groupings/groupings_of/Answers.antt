@@ -4,11 +4,10 @@ use Rattle.table_rows.specs.Keys.{is_grouping_at}
 use Rattle.row_reads.specs.CardDecoding.{grouping_at, grouping_in, line_of}
 use Rattle.row_reads.specs.Extremes.{AreSorted}
 use Rattle.row_reads.proofs.ManyAnswers.{groupings_found}
-use Rattle.row_reads.proofs.Told.{value_told}
+use Rattle.row_reads.proofs.Told.{list_told}
 use Rattle.row_reads.proofs.groupings.groupings_of.Goals as goal
 
 pub returns-clause-found : goal.returns-clause-found
-returns-clause-found g c clean =
-    let shown = rw (c.int.ensures, c.int-2.ensures) at (c.in_ok-rows.ensures.shown clean) in
-    value_told (λ v. v.items) (map grouping_in) _ _ _ _ _ _ c.as_slice.ensures.value shown.1 c.all.result
-    (λ t. AreSorted line_of (map grouping_at (filter (is_grouping_at c.args.batch c.args.place) t.groupings))) c.all.ensures.value (groupings_found c.args.batch c.args.place _ _ _ shown.1)
+returns-clause-found g c =
+    list_told g.S.Store c.args.conn.now c.all_of.new.conn (λ v. v.items) (map grouping_in) _ _ c.all_of.result
+    (λ t. AreSorted line_of (map grouping_at (filter (is_grouping_at c.args.batch c.args.place) t.groupings))) (rw (c.int.ensures, c.int-2.ensures) at c.all_of.ensures.answered) (groupings_found c.args.batch c.args.place _)

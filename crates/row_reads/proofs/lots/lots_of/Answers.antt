@@ -5,11 +5,10 @@ use Rattle.table_rows.specs.Keys.{is_lot_for}
 use Rattle.row_reads.specs.Decoding.{lot_row_in}
 use Rattle.row_reads.specs.Telling.{lot_row_of}
 use Rattle.row_reads.proofs.LotAnswers.{lots_of_found}
-use Rattle.row_reads.proofs.Told.{value_told}
+use Rattle.row_reads.proofs.Told.{list_told}
 use Rattle.row_reads.proofs.lots.lots_of.Goals as goal
 
 pub returns-clause-found : goal.returns-clause-found
-returns-clause-found g c clean =
-    let shown = rw c.bytes.ensures.value at (c.in_ok-rows.ensures.shown clean) in
-    value_told (λ v. v.items) (map lot_row_in) _ _ _ _ _ _ c.as_slice.ensures.value shown.1 c.all.result
-    (λ t. IsPermutation (map lot_row_of (filter (is_lot_for c.args.product.now) t.lots))) c.all.ensures.value (lots_of_found c.args.product.now _ _ _ shown.1)
+returns-clause-found g c =
+    list_told g.S.Store c.args.conn.now c.all_of.new.conn (λ v. v.items) (map lot_row_in) _ _ c.all_of.result
+    (λ t. IsPermutation (map lot_row_of (filter (is_lot_for c.args.product.now) t.lots))) (rw c.bytes.ensures.value at c.all_of.ensures.answered) (lots_of_found c.args.product.now _)

@@ -4,11 +4,10 @@ use Rattle.table_rows.specs.Keys.{is_record_of}
 use Rattle.row_reads.specs.CardDecoding.{place_of, record_at, record_in}
 use Rattle.row_reads.specs.Extremes.{AreSorted}
 use Rattle.row_reads.proofs.ManyAnswers.{records_found}
-use Rattle.row_reads.proofs.Told.{value_told}
+use Rattle.row_reads.proofs.Told.{list_told}
 use Rattle.row_reads.proofs.records.records_of.Goals as goal
 
 pub returns-clause-found : goal.returns-clause-found
-returns-clause-found g c clean =
-    let shown = rw c.int.ensures at (c.in_ok-rows.ensures.shown clean) in
-    value_told (λ v. v.items) (map record_in) _ _ _ _ _ _ c.as_slice.ensures.value shown.1 c.all.result
-    (λ t. AreSorted place_of (map record_at (filter (is_record_of c.args.batch) t.records))) c.all.ensures.value (records_found c.args.batch _ _ _ shown.1)
+returns-clause-found g c =
+    list_told g.S.Store c.args.conn.now c.all_of.new.conn (λ v. v.items) (map record_in) _ _ c.all_of.result
+    (λ t. AreSorted place_of (map record_at (filter (is_record_of c.args.batch) t.records))) (rw c.int.ensures at c.all_of.ensures.answered) (records_found c.args.batch _)

@@ -1,0 +1,10 @@
+use Rattle.std.proofs.Common.{map}
+use Rattle.sqlite.specs.Values.{bound}
+use Rattle.row_reads.specs.Decoding.{IsFirst}
+use Rattle.row_reads.proofs.Told.{answered}
+use Rattle.row_reads.proofs.answered.one_of.Goals as goal
+
+pub returns-clause-answered : goal.returns-clause-answered
+returns-clause-answered g c =
+    answered g.S.Store c.args.conn.now c.rows_of.new.conn c.args.sql.now (bound c.args.params.now) _ _ c.as_slice.ensures.value c.first.result
+    (λ rows found. IsFirst (map g.T.Answered.value rows) found) c.first.ensures.value c.in_ok-rows.ensures.shown
