@@ -13,7 +13,7 @@ use Rattle.sql_rows.proofs.OneId.{others_differ}
 use Rattle.table_rows.specs.Tables.{StoredBatch, Tables}
 use Rattle.row_writes.specs.Raw.{raw_set}
 use Rattle.row_writes.proofs.RawLemmas.{itself, stay}
-use Rattle.remaking.specs.Rows.{bare, with_batches, with_bytes, with_each, without_bytes}
+use Rattle.remaking.specs.Rows.{bare, with_all, with_bytes, with_each, without_bytes}
 
 abbrev Differ : StoredBatch → StoredBatch → Type 0
 Differ a b = (b.id == a.id) ≡ false
@@ -58,9 +58,9 @@ all_given (b ∷ bs) ts differ =
     ap (given bs) (given_first b rest differ.0) ∙ kept_first b bs rest (bare_differ b bs ts differ.0) ∙ ap (λ ys. b ∷ ys) (all_given bs ts differ.1)
 
 -- it is as if they had been put in with their bytes
-pub bytes_last : (rows : Tables) (a b c : Database) → Moves (with_batches (without_bytes rows)) a b → Moves (with_each with_bytes rows.batches) b c → Moves (with_batches rows) a c
+pub bytes_last : (rows : Tables) (a b c : Database) → Moves (with_all (without_bytes rows)) a b → Moves (with_each with_bytes rows.batches) b c → Moves (with_all rows) a c
 bytes_last rows a b c first then t image =
-    let put = with_batches (without_bytes rows) t in
+    let put = with_all (without_bytes rows) t in
     let held = first t image in
     let filled = held.each.1.1.1.0 in
     let differ = ids_differ put.batches (apart_permuted _ _ (IsPermutation-sym _ _ filled.rows) filled.apart) in

@@ -1,5 +1,5 @@
 -- What the text of a DROP TABLE means, and what it does.
-use Rattle.std.proofs.Common.{◌≡◌, ℕ, List, [], ◌∷◌, Bool, true, false, None, Some, Ok, Result, MatchBool, slice_get, refl, sym, ap, subst, ◌∙◌}
+use Rattle.std.proofs.Common.{◌≡◌, ℕ, List, [], false, None, Ok, MatchBool, refl, sym, ap, subst, ◌∙◌}
 use Rattle.sqlite.specs.Table.{Table}
 use Rattle.sqlite.specs.Schema.{Schema}
 use Rattle.sqlite.specs.Effect.{Database}

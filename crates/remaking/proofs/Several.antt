@@ -1,37 +1,33 @@
 -- Rows that are put in one after the other are those that were there, and the list.
-use Rattle.std.proofs.Common.{◌≡◌, ℕ, ◌+◌, List, [], ◌∷◌, ◌++◌, map, take, Result, Ok, Err, refl, sym, ap, subst, ◌∙◌}
+use Rattle.std.proofs.Common.{◌≡◌, List, [], ◌∷◌, ◌++◌, map, Result, Ok, Err, refl, sym, ap, subst, ◌∙◌}
 use Rattle.std.specs.Prelude.{OnOk}
 use Rattle.std.specs.List.{fold}
 use Rattle.std.specs.List.Sorted.{IsPermutation}
 use Rattle.std.proofs.lemmas.List.{append-nil, append_assoc}
-use Rattle.std.proofs.lemmas.List.Sums.{fold_push}
 use Rattle.std.proofs.lemmas.List.Sorted.{IsPermutation-append_comm, IsPermutation-append_left, IsPermutation-refl, IsPermutation-trans}
-use Rattle.sqlite.specs.State.{State}
+use Rattle.sqlite.specs.Effect.{Database}
+use Rattle.sqlite.specs.State.{State, Survives}
 use Rattle.sqlite.specs.declared.error.Error.{Error}
 use Rattle.sqlite.proofs.InsideLemmas.{keeps_then}
-use Rattle.store_data.specs.declared.row.Product.{Product}
-use Rattle.job_facts.specs.Contents.{Entry, Mark}
-use Rattle.sql_base.specs.Ends.{Inside}
+use Rattle.sqlite.proofs.StateLemmas.{survives_then}
+use Rattle.sql_tables.specs.Each.{Each, WroteEach}
 use Rattle.sql_rows.specs.Image.{IsImage, Moves}
 use Rattle.sql_rows.proofs.SameRows.{same_rows}
-use Rattle.table_rows.specs.Tables.{HaveSameRows, StoredBatch, StoredBlank, StoredGrouping, StoredLot, StoredRecord, StoredRemake, StoredSession, StoredWord, Tables, no_rows, with_blank, with_grouping, with_lot, with_mark, with_product, with_record, with_remake, with_reply, with_session, with_word}
-use Rattle.sql_rows.specs.Many.{GoesOn, WroteMany}
-use Rattle.remaking.specs.Rows.{bare, with_all, with_bare, with_batches, with_cards, with_each, without_bytes}
+use Rattle.table_rows.specs.Tables.{HaveSameRows, StoredBatch, Tables, no_rows, with_batch, with_blank, with_grouping, with_lot, with_mark, with_product, with_record, with_remake, with_reply, with_session, with_word}
+use Rattle.sql_rows.specs.Many.{WroteMany}
+use Rattle.remaking.specs.Rows.{bare, with_all, with_bare, with_each, without_bytes}
 
 -- ---- parts of a transaction, one after the other
 
--- one row more behind the first k
+-- what the statements of rows make of them, one after the other
 module _ {X : Type 0} (with_row : X → Tables → Tables) where
-  pub one_further : (xs : List X) (k : ℕ) (x : X) (a b c : State) → take (k + 1) xs ≡ take k xs ++ x ∷ []
-      → GoesOn (Moves (with_each with_row (take k xs))) a b → Inside (Moves (with_row x)) b c → GoesOn (Moves (with_each with_row (take (k + 1) xs))) a c
-  one_further xs k x a b c more so_far one =
-      let step = λ (t : Tables) (row : X). with_row row t in
-      record {
-        made = λ t image.
-            subst (λ u. IsImage u c.now) (sym (ap (λ ys. with_each with_row ys t) more ∙ fold_push step t (take k xs) x)) (one.made (with_each with_row (take k xs) t) (so_far.made t image));
-        committed = one.committed ∙ so_far.committed;
-        inside = λ _. one.inside;
-      }
+  each_moved : (xs : List X) (old new : Database) → Each (λ x. Moves (with_row x)) xs old new → Moves (with_each with_row xs) old new
+  each_moved [] old new same = λ t image. subst (IsImage t) (sym same) image
+  each_moved (x ∷ xs) old new made = λ t image. each_moved xs made.0 new made.2 (with_row x t) (made.1 t image)
+
+  pub all_moved : {Y : Type 0} (xs : List X) (a b : State) (r : Result Y Error) → WroteEach (λ x. Moves (with_row x)) xs a b r → WroteMany (Moves (with_each with_row xs)) a b r
+  all_moved xs a b (Ok y) it = record { well = record { made = each_moved xs a.now b.now it.well.made; committed = it.well.committed; inside = it.well.goes_on }; kept = it.kept }
+  all_moved xs a b (Err e) it = record { well = tt; kept = it.kept }
 
 -- a part behind one that went well, where both together change rows so
 module _ (f g h : Tables → Tables) (a b c : State) (both : Moves f a.now b.now → Moves g b.now c.now → Moves h a.now c.now) where
@@ -48,6 +44,10 @@ module _ (f g h : Tables → Tables) (a b c : State) (both : Moves f a.now b.now
 
 pub many_on : {X Y : Type 0} (f g : Tables → Tables) (a b c : State) (x : X) (r : Result Y Error) → WroteMany (Moves f) a b (Ok x) → WroteMany (Moves g) b c r → WroteMany (Moves (λ t. g (f t))) a c r
 many_on f g a b c = many_then f g (λ t. g (f t)) a b c (λ one two t image. two (f t) (one t image))
+
+-- what survives each part survives both
+pub unharmed : {a b c : State} → Survives a b (λ _. ⊥) → Survives b c (λ _. ⊥) → Survives a c (λ _. ⊥)
+unharmed {a} {b} {c} = survives_then a b c (λ _. ⊥) (λ _. ⊥) (λ _. ⊥) (λ _ db none. absurd none) (λ _ db none. absurd none)
 
 module _ (f g : Tables → Tables) (same : (t : Tables) → HaveSameRows (f t) (g t)) (a b : State) where
   pub same_made : {X : Type 0} (r : Result X Error) → WroteMany (Moves g) a b r → WroteMany (Moves f) a b r
@@ -74,93 +74,34 @@ module _ {X : Type 0} where
 
 -- ---- tables
 
-products_in : (xs : List Product) (t : Tables) → with_each with_product xs t ≡ record t { products = onto t.products xs }
-products_in [] t = refl
-products_in (x ∷ xs) t = products_in xs (with_product x t)
+-- rows that are put into one table, one after the other
+module _ {X : Type 0} (rows_of : Tables → List X) (with_rows : List X → Tables → Tables) (with_row : X → Tables → Tables)
+    (own : (t : Tables) → t ≡ with_rows (rows_of t) t) (step : (x : X) (ys : List X) (t : Tables) → with_row x (with_rows ys t) ≡ with_rows (x ∷ ys) t) where
+  each_onto : (xs ys : List X) (t : Tables) → with_each with_row xs (with_rows ys t) ≡ with_rows (onto ys xs) t
+  each_onto [] ys t = refl
+  each_onto (x ∷ xs) ys t = ap (with_each with_row xs) (step x ys t) ∙ each_onto xs (x ∷ ys) t
 
-lots_in : (xs : List StoredLot) (t : Tables) → with_each with_lot xs t ≡ record t { lots = onto t.lots xs }
-lots_in [] t = refl
-lots_in (x ∷ xs) t = lots_in xs (with_lot x t)
+  each_in : (xs : List X) (t : Tables) → with_each with_row xs t ≡ with_rows (onto (rows_of t) xs) t
+  each_in xs t = ap (with_each with_row xs) (own t) ∙ each_onto xs (rows_of t) t
 
-batches_in : (xs : List StoredBatch) (t : Tables) → with_each with_bare xs t ≡ record t { batches = onto t.batches (map bare xs) }
-batches_in [] t = refl
-batches_in (x ∷ xs) t = batches_in xs (with_bare x t)
+bare_each : (bs : List StoredBatch) (t : Tables) → with_each with_bare bs t ≡ with_each with_batch (map bare bs) t
+bare_each [] t = refl
+bare_each (b ∷ bs) t = bare_each bs (with_bare b t)
 
-records_in : (xs : List StoredRecord) (t : Tables) → with_each with_record xs t ≡ record t { records = onto t.records xs }
-records_in [] t = refl
-records_in (x ∷ xs) t = records_in xs (with_record x t)
+abbrev pub all_each : Tables → Tables → Tables
+all_each rows t =
+    with_each with_mark rows.marks (with_each with_reply rows.replies (with_each with_remake rows.remakes
+    (with_each with_blank rows.blanks (with_each with_word rows.words (with_each with_session rows.sessions
+    (with_each with_grouping rows.groupings (with_each with_record rows.records (with_each with_bare rows.batches
+    (with_each with_lot rows.lots (with_each with_product rows.products t))))))))))
 
-groupings_in : (xs : List StoredGrouping) (t : Tables) → with_each with_grouping xs t ≡ record t { groupings = onto t.groupings xs }
-groupings_in [] t = refl
-groupings_in (x ∷ xs) t = groupings_in xs (with_grouping x t)
-
-sessions_in : (xs : List StoredSession) (t : Tables) → with_each with_session xs t ≡ record t { sessions = onto t.sessions xs }
-sessions_in [] t = refl
-sessions_in (x ∷ xs) t = sessions_in xs (with_session x t)
-
-words_in : (xs : List StoredWord) (t : Tables) → with_each with_word xs t ≡ record t { words = onto t.words xs }
-words_in [] t = refl
-words_in (x ∷ xs) t = words_in xs (with_word x t)
-
-blanks_in : (xs : List StoredBlank) (t : Tables) → with_each with_blank xs t ≡ record t { blanks = onto t.blanks xs }
-blanks_in [] t = refl
-blanks_in (x ∷ xs) t = blanks_in xs (with_blank x t)
-
-remakes_in : (xs : List StoredRemake) (t : Tables) → with_each with_remake xs t ≡ record t { remakes = onto t.remakes xs }
-remakes_in [] t = refl
-remakes_in (x ∷ xs) t = remakes_in xs (with_remake x t)
-
-replies_in : (xs : List Entry) (t : Tables) → with_each with_reply xs t ≡ record t { replies = onto t.replies xs }
-replies_in [] t = refl
-replies_in (x ∷ xs) t = replies_in xs (with_reply x t)
-
-marks_in : (xs : List Mark) (t : Tables) → with_each with_mark xs t ≡ record t { marks = onto t.marks xs }
-marks_in [] t = refl
-marks_in (x ∷ xs) t = marks_in xs (with_mark x t)
-
-abbrev pub batches_each : Tables → Tables → Tables
-batches_each rows t =
-    with_each with_grouping rows.groupings (with_each with_record rows.records (with_each with_bare rows.batches
-    (with_each with_lot rows.lots (with_each with_product rows.products t))))
-
-abbrev batches_onto : Tables → Tables → Tables
-batches_onto rows t = record t {
+abbrev all_onto : Tables → Tables → Tables
+all_onto rows t = record {
   products = onto t.products rows.products;
   lots = onto t.lots rows.lots;
   batches = onto t.batches (map bare rows.batches);
   records = onto t.records rows.records;
   groupings = onto t.groupings rows.groupings;
-}
-
-batches_in_all : (rows t : Tables) → batches_each rows t ≡ batches_onto rows t
-batches_in_all rows t =
-    rw (products_in rows.products t, lots_in rows.lots _, batches_in rows.batches _, records_in rows.records _, groupings_in rows.groupings _) refl
-
-batches_onto_same : (rows t : Tables) → HaveSameRows (with_batches (without_bytes rows) t) (batches_onto rows t)
-batches_onto_same rows t = record {
-  products = onto_same rows.products t.products;
-  lots = onto_same rows.lots t.lots;
-  batches = onto_same (map bare rows.batches) t.batches;
-  records = onto_same rows.records t.records;
-  groupings = onto_same rows.groupings t.groupings;
-  sessions = IsPermutation-refl _;
-  words = IsPermutation-refl _;
-  blanks = IsPermutation-refl _;
-  remakes = IsPermutation-refl _;
-  replies = IsPermutation-refl _;
-  marks = IsPermutation-refl _;
-}
-
-pub batches_same : (rows t : Tables) → HaveSameRows (with_batches (without_bytes rows) t) (batches_each rows t)
-batches_same rows t = subst (HaveSameRows (with_batches (without_bytes rows) t)) (sym (batches_in_all rows t)) (batches_onto_same rows t)
-
-abbrev pub cards_each : Tables → Tables → Tables
-cards_each rows t =
-    with_each with_mark rows.marks (with_each with_reply rows.replies (with_each with_remake rows.remakes
-    (with_each with_blank rows.blanks (with_each with_word rows.words (with_each with_session rows.sessions t)))))
-
-abbrev cards_onto : Tables → Tables → Tables
-cards_onto rows t = record t {
   sessions = onto t.sessions rows.sessions;
   words = onto t.words rows.words;
   blanks = onto t.blanks rows.blanks;
@@ -169,17 +110,30 @@ cards_onto rows t = record t {
   marks = onto t.marks rows.marks;
 }
 
-cards_in_all : (rows t : Tables) → cards_each rows t ≡ cards_onto rows t
-cards_in_all rows t =
-    rw (sessions_in rows.sessions t, words_in rows.words _, blanks_in rows.blanks _, remakes_in rows.remakes _, replies_in rows.replies _, marks_in rows.marks _) refl
+all_in : (rows t : Tables) → all_each rows t ≡ all_onto rows t
+all_in rows t =
+    rw (
+      each_in (λ u. u.products) (λ xs u. record u { products = xs }) with_product (λ _. refl) (λ _ _ _. refl) rows.products t,
+      each_in (λ u. u.lots) (λ xs u. record u { lots = xs }) with_lot (λ _. refl) (λ _ _ _. refl) rows.lots _,
+      bare_each rows.batches _,
+      each_in (λ u. u.batches) (λ xs u. record u { batches = xs }) with_batch (λ _. refl) (λ _ _ _. refl) (map bare rows.batches) _,
+      each_in (λ u. u.records) (λ xs u. record u { records = xs }) with_record (λ _. refl) (λ _ _ _. refl) rows.records _,
+      each_in (λ u. u.groupings) (λ xs u. record u { groupings = xs }) with_grouping (λ _. refl) (λ _ _ _. refl) rows.groupings _,
+      each_in (λ u. u.sessions) (λ xs u. record u { sessions = xs }) with_session (λ _. refl) (λ _ _ _. refl) rows.sessions _,
+      each_in (λ u. u.words) (λ xs u. record u { words = xs }) with_word (λ _. refl) (λ _ _ _. refl) rows.words _,
+      each_in (λ u. u.blanks) (λ xs u. record u { blanks = xs }) with_blank (λ _. refl) (λ _ _ _. refl) rows.blanks _,
+      each_in (λ u. u.remakes) (λ xs u. record u { remakes = xs }) with_remake (λ _. refl) (λ _ _ _. refl) rows.remakes _,
+      each_in (λ u. u.replies) (λ xs u. record u { replies = xs }) with_reply (λ _. refl) (λ _ _ _. refl) rows.replies _,
+      each_in (λ u. u.marks) (λ xs u. record u { marks = xs }) with_mark (λ _. refl) (λ _ _ _. refl) rows.marks _,
+    ) refl
 
-cards_onto_same : (rows t : Tables) → HaveSameRows (with_cards rows t) (cards_onto rows t)
-cards_onto_same rows t = record {
-  products = IsPermutation-refl _;
-  lots = IsPermutation-refl _;
-  batches = IsPermutation-refl _;
-  records = IsPermutation-refl _;
-  groupings = IsPermutation-refl _;
+all_onto_same : (rows t : Tables) → HaveSameRows (with_all (without_bytes rows) t) (all_onto rows t)
+all_onto_same rows t = record {
+  products = onto_same rows.products t.products;
+  lots = onto_same rows.lots t.lots;
+  batches = onto_same (map bare rows.batches) t.batches;
+  records = onto_same rows.records t.records;
+  groupings = onto_same rows.groupings t.groupings;
   sessions = onto_same rows.sessions t.sessions;
   words = onto_same rows.words t.words;
   blanks = onto_same rows.blanks t.blanks;
@@ -188,8 +142,8 @@ cards_onto_same rows t = record {
   marks = onto_same rows.marks t.marks;
 }
 
-pub cards_same : (rows t : Tables) → HaveSameRows (with_cards rows t) (cards_each rows t)
-cards_same rows t = subst (HaveSameRows (with_cards rows t)) (sym (cards_in_all rows t)) (cards_onto_same rows t)
+pub all_same : (rows t : Tables) → HaveSameRows (with_all (without_bytes rows) t) (all_each rows t)
+all_same rows t = subst (HaveSameRows (with_all (without_bytes rows) t)) (sym (all_in rows t)) (all_onto_same rows t)
 
 -- beside no rows they are all
 with_none : (rows : Tables) → with_all rows no_rows ≡ rows

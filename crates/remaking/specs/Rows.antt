@@ -22,19 +22,14 @@ with_bytes b = with_raw_set b.id b.raw
 abbrev pub without_bytes : Tables → Tables
 without_bytes rows = record rows { batches = map bare rows.batches }
 
--- the rows of products, lots, batches, records and groupings
-abbrev pub with_batches : Tables → Tables → Tables
-with_batches rows t = record t {
+-- the rows of each table
+abbrev pub with_all : Tables → Tables → Tables
+with_all rows t = record {
   products = rows.products ++ t.products;
   lots = rows.lots ++ t.lots;
   batches = rows.batches ++ t.batches;
   records = rows.records ++ t.records;
   groupings = rows.groupings ++ t.groupings;
-}
-
--- the rows of sessions, words, blanks, remakes, replies and marks
-abbrev pub with_cards : Tables → Tables → Tables
-with_cards rows t = record t {
   sessions = rows.sessions ++ t.sessions;
   words = rows.words ++ t.words;
   blanks = rows.blanks ++ t.blanks;
@@ -42,7 +37,3 @@ with_cards rows t = record t {
   replies = rows.replies ++ t.replies;
   marks = rows.marks ++ t.marks;
 }
-
--- the rows of each table
-abbrev pub with_all : Tables → Tables → Tables
-with_all rows t = with_cards rows (with_batches rows t)

@@ -1,19 +1,14 @@
 //! Products, lots and batches, with their records and groupings, are put in, in an open
-//! transaction. A crash before its end leaves nothing of it.
-ghost use Rattle.std.specs.Prelude.{◌≡◌};
-ghost use Rattle.sqlite.specs.Held.{state};
-ghost use Rattle.sqlite.specs.State.{Survives};
+//! transaction.
 ghost use Rattle.table_rows.specs.Tables.{with_grouping, with_lot, with_product, with_record};
-ghost use Rattle.sql_rows.specs.Many.{WritesMany};
-ghost use Rattle.remaking.specs.Rows.{with_bare, with_batches, without_bytes};
+ghost use Rattle.remaking.specs.Rows.{with_bare};
 
-use crate::bytes::set_bytes;
-use crate::putting::{Put, fit, put_all};
+use crate::putting::{Put, fit};
 use row_writes::{enc_code, record_code};
 use sql_base::int;
 use sqlite::types::ValueRef;
 use sqlite::{Alter, Error, Transaction};
-use table_rows::{StoredBatch, StoredGrouping, StoredLot, StoredProduct, StoredRecord, Tables};
+use table_rows::{StoredBatch, StoredGrouping, StoredLot, StoredProduct, StoredRecord};
 
 impl Put for StoredProduct {
     ghost with_row = { with_product };
@@ -129,35 +124,4 @@ impl Put for StoredGrouping {
             ],
         )
     }
-}
-
-/// Puts in the rows of products, lots, batches, records and groupings, up to the first error. The
-/// bytes of batches are set last.
-pub(crate) fn fill_batches<S: Alter>(
-    tx: &mut Transaction<'_, S>,
-    tables: &Tables,
-) -> Result<(), Error>
-    ensures same_reference { tx.new.conn.ghost_name ≡ tx.old.conn.ghost_name }
-    ensures wrote { WritesMany (with_batches tables.now) (state S.Store tx.old.conn.now)
-        (state S.Store tx.new.conn.now) result }
-    ensures survives { Survives (state S.Store tx.old.conn.now) (state S.Store tx.new.conn.now)
-        (λ _. ⊥) }
-{
-    fill_bare(tx, tables)?;
-    set_bytes(tx, tables.batches.as_slice())
-}
-
-// The same, but for the bytes of batches.
-fn fill_bare<S: Alter>(tx: &mut Transaction<'_, S>, tables: &Tables) -> Result<(), Error>
-    ensures same_reference { tx.new.conn.ghost_name ≡ tx.old.conn.ghost_name }
-    ensures wrote { WritesMany (with_batches (without_bytes tables.now))
-        (state S.Store tx.old.conn.now) (state S.Store tx.new.conn.now) result }
-    ensures survives { Survives (state S.Store tx.old.conn.now) (state S.Store tx.new.conn.now)
-        (λ _. ⊥) }
-{
-    put_all(tx, tables.products.as_slice())?;
-    put_all(tx, tables.lots.as_slice())?;
-    put_all(tx, tables.batches.as_slice())?;
-    put_all(tx, tables.records.as_slice())?;
-    put_all(tx, tables.groupings.as_slice())
 }

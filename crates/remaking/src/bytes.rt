@@ -3,30 +3,32 @@
 ghost use Rattle.std.specs.Prelude.{◌≡◌};
 ghost use Rattle.sqlite.specs.Held.{state};
 ghost use Rattle.sqlite.specs.State.{Survives};
-ghost use Rattle.sql_rows.specs.Writes.{WritesRows};
+ghost use Rattle.sql_rows.specs.Image.{Moves};
 ghost use Rattle.sql_rows.specs.Many.{WritesMany};
 ghost use Rattle.remaking.specs.Rows.{with_bytes, with_each};
 
 use crate::putting::fit;
 use row_writes::set_raw;
+use sql_tables::{Runs, run_each};
 use sqlite::{Alter, Error, Transaction};
 use table_rows::StoredBatch;
 
-// Sets the bytes of the batch with this id. An id that is none of SQL's is an error.
-fn set_its_bytes<S: Alter>(tx: &mut Transaction<'_, S>, batch: &StoredBatch) -> Result<usize, Error>
-    ensures same_reference { tx.new.conn.ghost_name ≡ tx.old.conn.ghost_name }
-    ensures wrote { WritesRows (with_bytes batch.now) (state S.Store tx.old.conn.now)
-        (state S.Store tx.new.conn.now) result }
-    ensures survives { Survives (state S.Store tx.old.conn.now) (state S.Store tx.new.conn.now)
-        (λ _. ⊥) }
-{
-    if !fit(batch.id, 0, 0, 0) {
-        return Err(Error::InvalidQuery);
+// The statements that set the bytes of batches that are there.
+struct Bytes;
+
+impl Runs<StoredBatch> for Bytes {
+    ghost makes = { λ batch. Moves (with_bytes batch) };
+
+    fn run<S: Alter>(tx: &mut Transaction<'_, S>, batch: &StoredBatch) -> Result<usize, Error> {
+        if !fit(batch.id, 0, 0, 0) {
+            return Err(Error::InvalidQuery);
+        }
+        set_raw(tx, batch.id, batch.raw.as_slice())
     }
-    set_raw(tx, batch.id, batch.raw.as_slice())
 }
 
-/// Sets the bytes of batches that are there, one after the other, up to the first error.
+/// Sets the bytes of batches that are there, one after the other, up to the first error. An id that
+/// is none of SQL's is one.
 pub(crate) fn set_bytes<S: Alter>(
     tx: &mut Transaction<'_, S>,
     batches: &[StoredBatch],
@@ -37,8 +39,5 @@ pub(crate) fn set_bytes<S: Alter>(
     ensures survives { Survives (state S.Store tx.old.conn.now) (state S.Store tx.new.conn.now)
         (λ _. ⊥) }
 {
-    for batch in batches {
-        set_its_bytes(tx, batch)?;
-    }
-    Ok(())
+    run_each::<Bytes, StoredBatch, S>(tx, batches)
 }

@@ -6,16 +6,16 @@ ghost use Rattle.sqlite.specs.State.{HasCleanDisk, Survives};
 ghost use Rattle.sql_rows.specs.Image.{IsImage};
 ghost use Rattle.table_rows.specs.Tables.{no_rows};
 ghost use Rattle.sql_rows.specs.Many.{WritesMany};
-ghost use Rattle.remaking.specs.Rows.{with_all, with_cards};
+ghost use Rattle.remaking.specs.Rows.{with_all, without_bytes};
 
-use crate::batches::fill_batches;
+use crate::bytes::set_bytes;
 use crate::putting::put_all;
 use sqlite::{Alter, Error, Transaction};
 use table_rows::Tables;
 
-/// Puts in the rows of all tables, those before that others refer to. A row that a table does not
-/// take is an error, and so is a number that is none of SQL's, from 2^63 on. After an error the
-/// caller drops the transaction.
+/// Puts in the rows of all tables, those before that others refer to, and sets the bytes of batches
+/// last. A row that a table does not take is an error, and so is a number that is none of SQL's,
+/// from 2^63 on. After an error the caller drops the transaction.
 pub(crate) fn fill<S: Alter>(tx: &mut Transaction<'_, S>, tables: &Tables) -> Result<(), Error>
     ensures same_reference { tx.new.conn.ghost_name ≡ tx.old.conn.ghost_name }
     ensures wrote { WritesMany (with_all tables.now) (state S.Store tx.old.conn.now)
@@ -26,18 +26,23 @@ pub(crate) fn fill<S: Alter>(tx: &mut Transaction<'_, S>, tables: &Tables) -> Re
     ensures survives { Survives (state S.Store tx.old.conn.now) (state S.Store tx.new.conn.now)
         (λ _. ⊥) }
 {
-    fill_batches(tx, tables)?;
-    fill_cards(tx, tables)
+    fill_bare(tx, tables)?;
+    set_bytes(tx, tables.batches.as_slice())
 }
 
-// The rows of sessions, words, blanks, remakes, replies and marks.
-fn fill_cards<S: Alter>(tx: &mut Transaction<'_, S>, tables: &Tables) -> Result<(), Error>
+// The rows of all tables, but for the bytes of batches.
+fn fill_bare<S: Alter>(tx: &mut Transaction<'_, S>, tables: &Tables) -> Result<(), Error>
     ensures same_reference { tx.new.conn.ghost_name ≡ tx.old.conn.ghost_name }
-    ensures wrote { WritesMany (with_cards tables.now) (state S.Store tx.old.conn.now)
+    ensures wrote { WritesMany (with_all (without_bytes tables.now)) (state S.Store tx.old.conn.now)
         (state S.Store tx.new.conn.now) result }
     ensures survives { Survives (state S.Store tx.old.conn.now) (state S.Store tx.new.conn.now)
         (λ _. ⊥) }
 {
+    put_all(tx, tables.products.as_slice())?;
+    put_all(tx, tables.lots.as_slice())?;
+    put_all(tx, tables.batches.as_slice())?;
+    put_all(tx, tables.records.as_slice())?;
+    put_all(tx, tables.groupings.as_slice())?;
     put_all(tx, tables.sessions.as_slice())?;
     put_all(tx, tables.words.as_slice())?;
     put_all(tx, tables.blanks.as_slice())?;

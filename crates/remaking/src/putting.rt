@@ -5,9 +5,11 @@ ghost use Rattle.sqlite.specs.Held.{state};
 ghost use Rattle.sqlite.specs.State.{Survives};
 ghost use Rattle.sql_rows.specs.Writes.{WritesRows};
 ghost use Rattle.table_rows.specs.Tables.{Tables};
+ghost use Rattle.sql_rows.specs.Image.{Moves};
 ghost use Rattle.sql_rows.specs.Many.{WritesMany};
 ghost use Rattle.remaking.specs.Rows.{with_each};
 
+use sql_tables::{Runs, run_each};
 use sqlite::{Alter, Error, Transaction};
 
 /// SQL's numbers end here.
@@ -38,6 +40,17 @@ pub(crate) trait Put {
             (state S.Store tx.new.conn.now) (λ _. ⊥) };
 }
 
+// The statements that put rows in.
+struct Putting;
+
+impl<T: Put> Runs<T> for Putting {
+    ghost makes = { λ row. Moves (T.with_row row) };
+
+    fn run<S: Alter>(tx: &mut Transaction<'_, S>, row: &T) -> Result<usize, Error> {
+        row.put(tx)
+    }
+}
+
 /// Puts rows in, one after the other, up to the first error.
 pub(crate) fn put_all<T: Put, S: Alter>(
     tx: &mut Transaction<'_, S>,
@@ -49,8 +62,5 @@ pub(crate) fn put_all<T: Put, S: Alter>(
     ensures survives { Survives (state S.Store tx.old.conn.now) (state S.Store tx.new.conn.now)
         (λ _. ⊥) }
 {
-    for row in rows {
-        row.put(tx)?;
-    }
-    Ok(())
+    run_each::<Putting, T, S>(tx, rows)
 }

@@ -2,31 +2,30 @@
 ghost use Rattle.std.specs.Prelude.{◌≡◌, false, OnErr, OnOk};
 ghost use Rattle.sqlite.specs.Held.{state};
 ghost use Rattle.sqlite.specs.State.{HasCleanDisk, Survives};
-ghost use Rattle.sql_base.specs.Ends.{Ends, IsKept, IsLeft, Wrote};
+ghost use Rattle.sql_base.specs.Ends.{Ends, IsKept, IsLeft};
 ghost use Rattle.remaking.specs.Remakes.{Remakes};
 
 use crate::anew::make_anew;
 use crate::filling::fill;
-use sql_base::laws;
+use sql_base::{UnitOfWork, transact};
 use sql_tables::Version;
 use sqlite::{Alter, Connection, Error, Transaction};
 use table_rows::Tables;
 
-// Drops the tables of a version, makes ours and puts rows in, in an open transaction.
-fn write_anew<S: Alter>(
-    tx: &mut Transaction<'_, S>,
+// What is made of the tables of a version: our own, with these rows.
+#[derive(Drop)]
+struct Remaking<'a> {
     version: Version,
-    tables: &Tables,
-) -> Result<(), Error>
-    ensures same_reference { tx.new.conn.ghost_name ≡ tx.old.conn.ghost_name }
-    ensures wrote { HasCleanDisk (state S.Store tx.new.conn.now)
-        → Wrote (Remakes version tables.now) (state S.Store tx.old.conn.now)
-        (state S.Store tx.new.conn.now) result }
-    ensures survives { Survives (state S.Store tx.old.conn.now) (state S.Store tx.new.conn.now)
-        (λ _. ⊥) }
-{
-    make_anew(tx, version)?;
-    fill(tx, tables)
+    tables: &'a Tables,
+}
+
+impl<'a> UnitOfWork for Remaking<'a> {
+    ghost makes = { λ remaking. Remakes remaking.version remaking.tables.now };
+
+    fn run<S: Alter>(&self, tx: &mut Transaction<'_, S>) -> Result<(), Error> {
+        make_anew(tx, self.version)?;
+        fill(tx, self.tables)
+    }
 }
 
 /// Drops the tables of a version, makes our own and puts rows in, or does nothing. A row that a
@@ -46,8 +45,5 @@ pub fn remake<S: Alter>(
     ensures crash { Survives (state S.Store conn.old) (state S.Store conn.new)
         (IsLeft (Remakes version tables.now) (state S.Store conn.old)) }
 {
-    laws::is_committed(conn);
-    let mut tx = conn.transaction();
-    write_anew(&mut tx, version, tables)?;
-    tx.commit()
+    transact(conn, &Remaking { version, tables })
 }

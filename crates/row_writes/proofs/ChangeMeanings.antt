@@ -9,9 +9,8 @@ use Rattle.sqlite.specs.Term.{Term}
 use Rattle.sqlite_tied.specs.Compute.{everything}
 use Rattle.sql_base.specs.Effects.{Deleted, Updated}
 use Rattle.sql_base.specs.Queries.{from_tree}
-use Rattle.sql_base.proofs.Deleting.{deleted}
+use Rattle.sql_base.proofs.Editing.{deleted, updated}
 use Rattle.sql_base.proofs.Selecting.{passes, shown}
-use Rattle.sql_base.proofs.Updating.{updated}
 use Rattle.sql_tables.specs.Tables.{our_schema}
 use Rattle.sql_tables.proofs.VersionRow.{none_acts}
 use Rattle.row_writes.specs.Texts.{by_id, set_session_query, set_session_text}
@@ -39,10 +38,10 @@ module _ (text : List ℕ) (values : Row) (at : ℕ) (table : Table) (filters co
       → Updated our_schema table (passes filters values) (shown columns values) old new
   updates means listed old new ours count ran =
       let it = read_as text _ means in
-      updated text values old new our_schema ours at table filters columns it.0 it.1 listed (none_acts table.tree) count ran
+      updated text values old new our_schema ours at table filters columns listed (none_acts table.tree) it.0 it.1 count ran
 
   pub deletes : Means text (Delete at (record { lets = []; body = from_tree table.tree filters columns })) → slice_get our_schema.tables at ≡ Some table → (old new : State) → old.now.schema ≡ our_schema → (count : ℕ) → Executes text values old new (Ok count)
       → Deleted our_schema table (passes filters values) (shown columns values) old new
   deletes means listed old new ours count ran =
       let it = read_as text _ means in
-      deleted text values old new our_schema ours at table filters columns it.0 it.1 listed (none_acts table.tree) count ran
+      deleted text values old new our_schema ours at table filters columns listed (none_acts table.tree) it.0 it.1 count ran

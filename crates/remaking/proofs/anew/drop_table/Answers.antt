@@ -1,9 +1,0 @@
-use Rattle.sql_base.proofs.Ending.{wrote}
-use Rattle.remaking.specs.Drop.{DropsTable}
-use Rattle.remaking.proofs.Drop.{drops}
-use Rattle.remaking.proofs.anew.drop_table.Goals as goal
-
-pub returns-clause-made : goal.returns-clause-made
-returns-clause-made g c clean =
-    wrote g.S.Store (DropsTable c.args.sql.now) c.args.tx.now.conn.now c.execute.new.self.conn.now c.args.sql.now _ _ (λ count ran. drops c.args.sql.now _ _ count ran) c.execute.result c.execute.ensures.ended
-    (c.execute.ensures.runs clean)
