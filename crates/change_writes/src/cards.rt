@@ -1,41 +1,40 @@
 //! Sessions, their words, and blanks, in an open transaction. A crash before its end leaves
 //! nothing of it.
-ghost use Rattle.std.specs.Prelude.{◌≡◌};
+ghost use Rattle.std.specs.Prelude.{◌≡◌, ◌+◌, ◌<◌, ◌^◌};
 ghost use Rattle.sqlite.specs.Held.{state};
 ghost use Rattle.sqlite.specs.State.{Survives};
 ghost use Rattle.sql_rows.specs.Writes.{WritesRows};
 ghost use Rattle.table_rows.specs.After.{rows_after, session_rows_after, word_rows_after};
 ghost use Rattle.table_rows.specs.declared.writing.Writing.TheVariants as writing;
+ghost use Rattle.change_writes.specs.Writable.{HasRoom};
 
-use crate::counters::{fit, less, more, one_more, one_opened};
+use crate::counters::opened;
 use crate::records::{write_record, write_spoiled, write_stop};
-use job_facts::{RecordState, SessionState};
+use job_facts::{NewSession, NewWord, RecordState, SessionState};
 use row_writes::{add_blank, add_session, add_word, set_end, set_lot, set_session};
 use sqlite::{Alter, Error, Transaction};
 use store_data::Name;
-use table_rows::{NewSession, NewWord, RecordPlace};
+use table_rows::RecordPlace;
 
 /// A session is opened on a blank of a lot, and its record runs.
 pub(crate) fn write_opened<S: Alter>(
     tx: &mut Transaction<'_, S>,
     session: &NewSession,
+    place: &RecordPlace,
 ) -> Result<usize, Error>
+    requires session { session.now.number < 2 ^ 63 }
+    requires blank { session.now.blank < 2 ^ 63 }
+    requires room { HasRoom place.now }
     ensures same_reference { tx.new.conn.ghost_name ≡ tx.old.conn.ghost_name }
-    ensures wrote { WritesRows (session_rows_after session.now) (state S.Store tx.old.conn.now)
-        (state S.Store tx.new.conn.now) result }
+    ensures wrote { WritesRows (session_rows_after session.now place.now)
+        (state S.Store tx.old.conn.now) (state S.Store tx.new.conn.now) result }
     ensures survives { Survives (state S.Store tx.old.conn.now) (state S.Store tx.new.conn.now)
         (λ _. ⊥) }
 {
-    let place = &session.place;
-    let stands = RecordState::Running;
-    let totals = more(stands, &less(RecordState::Waiting, &place.totals))?;
-    let totals = one_opened(&totals)?;
-    if !fit(session.id, session.blank, place.batch, place.place) {
-        return Err(Error::InvalidQuery);
-    }
-    add_session(tx, session.id, place, &session.machine, session.blank)?;
+    add_session(tx, session.number, place, &session.machine, session.blank)?;
     add_blank(tx, session.blank, &session.lot, false)?;
-    write_record(tx, place, stands, place.spoiled, place.remakes, &totals)
+    let totals = opened(&place.totals);
+    write_record(tx, &RecordPlace { totals, ..*place }, RecordState::Running)
 }
 
 /// A session has one more word, and stands so with it.
@@ -44,15 +43,13 @@ pub(crate) fn write_word<S: Alter>(
     word: &NewWord,
     stands: SessionState,
 ) -> Result<usize, Error>
+    requires { word.now.session < 2 ^ 63 }
     ensures same_reference { tx.new.conn.ghost_name ≡ tx.old.conn.ghost_name }
     ensures wrote { WritesRows (word_rows_after word.now stands) (state S.Store tx.old.conn.now)
         (state S.Store tx.new.conn.now) result }
     ensures survives { Survives (state S.Store tx.old.conn.now) (state S.Store tx.new.conn.now)
         (λ _. ⊥) }
 {
-    if !fit(word.session, 0, 0, 0) {
-        return Err(Error::InvalidQuery);
-    }
     add_word(tx, word.session, word.index, word.sw)?;
     let words = u64::from(word.index) + 1;
     set_session(tx, word.session, stands, words, &word.cursor)
@@ -65,6 +62,8 @@ pub(crate) fn write_last_word<S: Alter>(
     stands: SessionState,
     place: &RecordPlace,
 ) -> Result<usize, Error>
+    requires session { word.now.session < 2 ^ 63 }
+    requires room { HasRoom place.now }
     ensures same_reference { tx.new.conn.ghost_name ≡ tx.old.conn.ghost_name }
     ensures wrote { let last = writing.AddsLastWord word.now stands place.now in
         WritesRows (rows_after last) (state S.Store tx.old.conn.now)
@@ -82,15 +81,14 @@ pub(crate) fn write_end<S: Alter>(
     session: u64,
     place: &RecordPlace,
 ) -> Result<usize, Error>
+    requires session { session < 2 ^ 63 }
+    requires room { HasRoom place.now }
     ensures same_reference { tx.new.conn.ghost_name ≡ tx.old.conn.ghost_name }
     ensures wrote { WritesRows (rows_after (writing.Ends session place.now))
         (state S.Store tx.old.conn.now) (state S.Store tx.new.conn.now) result }
     ensures survives { Survives (state S.Store tx.old.conn.now) (state S.Store tx.new.conn.now)
         (λ _. ⊥) }
 {
-    if !fit(session, 0, 0, 0) {
-        return Err(Error::InvalidQuery);
-    }
     set_end(tx, session)?;
     write_spoiled(tx, place)
 }
@@ -102,16 +100,14 @@ pub(crate) fn write_discard<S: Alter>(
     lot: &Name,
     discarded: u64,
 ) -> Result<usize, Error>
+    requires blank { blank < 2 ^ 63 }
+    requires discarded { discarded + 1 < 2 ^ 63 }
     ensures same_reference { tx.new.conn.ghost_name ≡ tx.old.conn.ghost_name }
     ensures wrote { WritesRows (rows_after (writing.Discards blank lot.now discarded))
         (state S.Store tx.old.conn.now) (state S.Store tx.new.conn.now) result }
     ensures survives { Survives (state S.Store tx.old.conn.now) (state S.Store tx.new.conn.now)
         (λ _. ⊥) }
 {
-    let gone = one_more(discarded)?;
-    if !fit(blank, gone, 0, 0) {
-        return Err(Error::InvalidQuery);
-    }
     add_blank(tx, blank, lot, true)?;
-    set_lot(tx, lot, gone)
+    set_lot(tx, lot, discarded + 1)
 }

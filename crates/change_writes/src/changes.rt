@@ -4,16 +4,14 @@ ghost use Rattle.std.specs.Prelude.{◌≡◌};
 ghost use Rattle.sqlite.specs.Held.{state};
 ghost use Rattle.sqlite.specs.State.{Survives};
 ghost use Rattle.sql_rows.specs.Many.{WritesMany};
-ghost use Rattle.sql_rows.specs.Writes.{WritesRows};
-ghost use Rattle.table_rows.specs.After.{new_lot, rows_after};
-ghost use Rattle.table_rows.specs.Tables.{with_lot};
+ghost use Rattle.table_rows.specs.After.{rows_after};
+ghost use Rattle.change_writes.specs.Writable.{IsWritable};
 
 use crate::cards::{write_discard, write_end, write_last_word, write_opened, write_word};
-use crate::counters::fit;
 use crate::imports::write_batch;
 use crate::records::{write_passed, write_remake};
 use crate::releases::write_release;
-use job_facts::{Lot, RecordState, SessionState};
+use job_facts::{RecordState, SessionState};
 use row_writes::{add_lot, add_product, set_closed};
 use sqlite::{Alter, Error, Transaction};
 use std::alloc::Global;
@@ -26,6 +24,7 @@ pub(crate) fn write_change<S: Alter>(
     alloc: Global,
     writing: &Writing<'_>,
 ) -> Result<usize, Error>
+    requires { IsWritable writing.now }
     ensures same_reference { tx.new.conn.ghost_name ≡ tx.old.conn.ghost_name }
     ensures wrote { WritesMany (rows_after writing.now) (state S.Store tx.old.conn.now)
         (state S.Store tx.new.conn.now) result }
@@ -35,9 +34,9 @@ pub(crate) fn write_change<S: Alter>(
     match writing {
         Writing::Nothing => Ok(0),
         Writing::AddsProduct { product } => add_product(tx, product),
-        Writing::AddsLot { lot } => write_lot(tx, lot),
+        Writing::AddsLot { lot } => add_lot(tx, lot),
         Writing::AddsBatch { batch } => write_batch(tx, alloc, batch),
-        Writing::Opens { session } => write_opened(tx, session),
+        Writing::Opens { session, place } => write_opened(tx, session, place),
         Writing::AddsWord { word } => write_word(tx, word, SessionState::Running),
         Writing::AddsLastWord {
             word,
@@ -55,18 +54,4 @@ pub(crate) fn write_change<S: Alter>(
         Writing::Closes { batch } => set_closed(tx, batch),
         Writing::Releases { client, upto } => write_release(tx, client, *upto),
     }
-}
-
-// A lot, of which no blank is discarded.
-fn write_lot<S: Alter>(tx: &mut Transaction<'_, S>, lot: &Lot) -> Result<usize, Error>
-    ensures same_reference { tx.new.conn.ghost_name ≡ tx.old.conn.ghost_name }
-    ensures wrote { WritesRows (with_lot (new_lot lot.now)) (state S.Store tx.old.conn.now)
-        (state S.Store tx.new.conn.now) result }
-    ensures survives { Survives (state S.Store tx.old.conn.now) (state S.Store tx.new.conn.now)
-        (λ _. ⊥) }
-{
-    if !fit(lot.first, 0, 0, 0) {
-        return Err(Error::InvalidQuery);
-    }
-    add_lot(tx, lot)
 }

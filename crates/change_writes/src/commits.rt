@@ -7,8 +7,10 @@ ghost use Rattle.sql_rows.specs.Image.{Moves};
 ghost use Rattle.sql_rows.specs.Writes.{WritesRows};
 ghost use Rattle.table_rows.specs.After.{rows_written};
 ghost use Rattle.table_rows.specs.Kept.{kept_reply};
+ghost use Rattle.change_writes.specs.Writable.{IsWritable};
 
 use crate::changes::write_change;
+use crate::writable::{LIMIT, is_writable};
 use row_writes::add_reply;
 use sql_base::laws;
 use sqlite::{Alter, Connection, Error, Transaction};
@@ -22,7 +24,8 @@ fn write_all<S: Alter>(
     entry: &Entry<'_>,
     writing: &Writing<'_>,
 ) -> Result<usize, Error>
-    requires { entry.now.number < 2 ^ 63 }
+    requires number { entry.now.number < 2 ^ 63 }
+    requires writing { IsWritable writing.now }
     ensures same_reference { tx.new.conn.ghost_name ≡ tx.old.conn.ghost_name }
     ensures wrote { WritesRows (rows_written writing.now (kept_reply entry.now))
         (state S.Store tx.old.conn.now) (state S.Store tx.new.conn.now) result }
@@ -33,16 +36,15 @@ fn write_all<S: Alter>(
     add_reply(tx, entry)
 }
 
-/// Writes a change or a release, and keeps its reply, or does neither. A crash leaves what it could
-/// leave before, or all of it.
+/// Writes a change or a release, and keeps its reply, or does neither: nothing is written of a
+/// number that SQL has not. A crash leaves what it could leave before, or all of it.
 pub fn commit<S: Alter>(
     conn: &mut Connection<S>,
     alloc: Global,
     entry: &Entry<'_>,
     writing: &Writing<'_>,
 ) -> Result<(), Error>
-    requires idle { conn.old.in_transaction ≡ false }
-    requires number { entry.now.number < 2 ^ 63 }
+    requires { conn.old.in_transaction ≡ false }
     ensures ok { HasCleanDisk (state S.Store conn.new) → OnOk result
         (Ends (Moves (rows_written writing.now (kept_reply entry.now))) (state S.Store conn.old)
         (state S.Store conn.new)) }
@@ -53,6 +55,9 @@ pub fn commit<S: Alter>(
         (IsLeft (Moves (rows_written writing.now (kept_reply entry.now)))
         (state S.Store conn.old)) }
 {
+    if entry.number >= LIMIT || !is_writable(writing) {
+        return Err(Error::InvalidQuery);
+    }
     laws::is_committed(conn);
     let mut tx = conn.transaction();
     write_all(&mut tx, alloc, entry, writing)?;

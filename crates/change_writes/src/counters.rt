@@ -1,54 +1,16 @@
-//! Numbers that a change makes, where they are numbers of SQL's.
-ghost use Rattle.std.specs.Prelude.{◌≡◌, ◌+◌, ◌<◌, ◌^◌, IfOk, IsTrue};
+//! The counters that a change makes.
+ghost use Rattle.std.specs.Prelude.{◌≡◌, ◌-◌, ◌^◌};
+ghost use Rattle.job_facts.specs.declared.facts.RecordState.TheVariants as rec;
 ghost use Rattle.table_rows.specs.After.{less, more, one_opened, one_spoiled};
+ghost use Rattle.change_writes.specs.Writable.{AreBelow};
 
 use job_facts::{BatchTotals, RecordState};
-use sqlite::Error;
 
-/// SQL's numbers end here.
-const LIMIT: u64 = 1 << 63;
-
-/// Whether they are numbers of SQL's.
-pub(crate) fn fit(first: u64, second: u64, third: u64, fourth: u64) -> bool
-    ensures first { IsTrue result → first < 2 ^ 63 }
-    ensures second { IsTrue result → second < 2 ^ 63 }
-    ensures third { IsTrue result → third < 2 ^ 63 }
-    ensures fourth { IsTrue result → fourth < 2 ^ 63 }
-{
-    first < LIMIT && second < LIMIT && third < LIMIT && fourth < LIMIT
-}
-
-/// Whether a batch's counters are numbers of SQL's.
-pub(crate) fn totals_fit(totals: &BatchTotals) -> bool
-    ensures waiting { IsTrue result → totals.now.waiting < 2 ^ 63 }
-    ensures running { IsTrue result → totals.now.running < 2 ^ 63 }
-    ensures failed { IsTrue result → totals.now.failed < 2 ^ 63 }
-    ensures withdrawn { IsTrue result → totals.now.withdrawn < 2 ^ 63 }
-    ensures good { IsTrue result → totals.now.good < 2 ^ 63 }
-    ensures sessions { IsTrue result → totals.now.sessions < 2 ^ 63 }
-    ensures spoiled { IsTrue result → totals.now.spoiled < 2 ^ 63 }
-{
-    fit(
-        totals.waiting,
-        totals.running,
-        totals.failed,
-        totals.withdrawn,
-    ) && fit(totals.good, totals.sessions, totals.spoiled, 0)
-}
-
-/// One more of them.
-pub(crate) fn one_more(count: u64) -> Result<u64, Error>
-    ensures { IfOk result (λ n. n ≡ count + 1) }
-{
-    if count >= LIMIT {
-        return Err(Error::InvalidQuery);
-    }
-    Ok(count + 1)
-}
-
-/// One record of a batch less stands so.
-pub(crate) fn less(stands: RecordState, totals: &BatchTotals) -> BatchTotals
-    ensures { result ≡ less stands totals.now }
+// One record of a batch less stands so.
+fn less(stands: RecordState, totals: &BatchTotals) -> BatchTotals
+    requires { AreBelow (2 ^ 63 - 1) totals.now }
+    ensures value { result ≡ less stands totals.now }
+    ensures below { AreBelow (2 ^ 63 - 1) result }
 {
     match stands {
         RecordState::Waiting => BatchTotals {
@@ -74,36 +36,52 @@ pub(crate) fn less(stands: RecordState, totals: &BatchTotals) -> BatchTotals
     }
 }
 
-/// One record of a batch more stands so.
-pub(crate) fn more(stands: RecordState, totals: &BatchTotals) -> Result<BatchTotals, Error>
-    ensures { IfOk result (λ n. n ≡ more stands totals.now) }
+// One record of a batch more stands so.
+fn more(stands: RecordState, totals: &BatchTotals) -> BatchTotals
+    requires { AreBelow (2 ^ 63 - 1) totals.now }
+    ensures value { result ≡ more stands totals.now }
+    ensures below { AreBelow (2 ^ 63) result }
 {
     let mut counters = *totals;
     match stands {
-        RecordState::Waiting => counters.waiting = one_more(totals.waiting)?,
-        RecordState::Running => counters.running = one_more(totals.running)?,
-        RecordState::Failed => counters.failed = one_more(totals.failed)?,
-        RecordState::Withdrawn => counters.withdrawn = one_more(totals.withdrawn)?,
-        RecordState::Good => counters.good = one_more(totals.good)?,
+        RecordState::Waiting => counters.waiting += 1,
+        RecordState::Running => counters.running += 1,
+        RecordState::Failed => counters.failed += 1,
+        RecordState::Withdrawn => counters.withdrawn += 1,
+        RecordState::Good => counters.good += 1,
     }
-    Ok(counters)
+    counters
 }
 
-/// One session of a batch more is opened.
-pub(crate) fn one_opened(totals: &BatchTotals) -> Result<BatchTotals, Error>
-    ensures { IfOk result (λ n. n ≡ one_opened totals.now) }
+/// A record of a batch passes from one state to another.
+pub(crate) fn passed(was: RecordState, stands: RecordState, totals: &BatchTotals) -> BatchTotals
+    requires { AreBelow (2 ^ 63 - 1) totals.now }
+    ensures value { result ≡ more stands (less was totals.now) }
+    ensures below { AreBelow (2 ^ 63) result }
 {
-    let sessions = one_more(totals.sessions)?;
-    Ok(BatchTotals {
-        sessions,
-        ..*totals
-    })
+    more(stands, &less(was, totals))
 }
 
-/// One session of a batch more is spoiled.
-pub(crate) fn one_spoiled(totals: &BatchTotals) -> Result<BatchTotals, Error>
-    ensures { IfOk result (λ n. n ≡ one_spoiled totals.now) }
+/// A session of a waiting record is opened.
+pub(crate) fn opened(totals: &BatchTotals) -> BatchTotals
+    requires { AreBelow (2 ^ 63 - 1) totals.now }
+    ensures value { result ≡ one_opened (more rec.Running (less rec.Waiting totals.now)) }
+    ensures below { AreBelow (2 ^ 63) result }
 {
-    let spoiled = one_more(totals.spoiled)?;
-    Ok(BatchTotals { spoiled, ..*totals })
+    BatchTotals {
+        sessions: totals.sessions + 1,
+        ..passed(RecordState::Waiting, RecordState::Running, totals)
+    }
+}
+
+/// The running session of a record is spoiled.
+pub(crate) fn spoiled(totals: &BatchTotals) -> BatchTotals
+    requires { AreBelow (2 ^ 63 - 1) totals.now }
+    ensures value { result ≡ one_spoiled (more rec.Failed (less rec.Running totals.now)) }
+    ensures below { AreBelow (2 ^ 63) result }
+{
+    BatchTotals {
+        spoiled: totals.spoiled + 1,
+        ..passed(RecordState::Running, RecordState::Failed, totals)
+    }
 }

@@ -13,14 +13,13 @@ ghost use Rattle.change_writes.specs.Imports.{record_if_new, with_file_row, with
 ghost use Rattle.sql_rows.specs.Many.{WritesMany, with_records};
 ghost use Rattle.change_writes.specs.Refused.{refused};
 
-use crate::counters::fit;
 use batch_import::{BatchRows, ImportFault, rows};
 use indexmap::IndexSet;
+use job_facts::NewBatch;
 use row_writes::{add_batch, add_grouping, add_record, set_raw};
 use sqlite::{Alter, Error, ErrorCode, Transaction};
 use std::alloc::Global;
 use store_data::{Name, Product, Row};
-use table_rows::NewBatch;
 
 /// The number of the first data row: row 1 is the header.
 const FIRST_DATA_ROW: u32 = 2;
@@ -33,17 +32,15 @@ pub(crate) fn write_batch<S: Alter>(
     alloc: Global,
     batch: &NewBatch<'_>,
 ) -> Result<usize, Error>
+    requires { batch.now.number < 2 ^ 63 }
     ensures same_reference { tx.new.conn.ghost_name ≡ tx.old.conn.ghost_name }
     ensures wrote { WritesRows (rows_after (writing.AddsBatch batch.now))
         (state S.Store tx.old.conn.now) (state S.Store tx.new.conn.now) result }
     ensures survives { Survives (state S.Store tx.old.conn.now) (state S.Store tx.new.conn.now)
         (λ _. ⊥) }
 {
-    if !fit(batch.id, 0, 0, 0) {
-        return Err(Error::InvalidQuery);
-    }
     write_bare(tx, alloc, batch)?;
-    set_raw(tx, batch.id, batch.raw)
+    set_raw(tx, batch.number, batch.raw)
 }
 
 // Writes the batch of a file, but for the bytes in its row.
@@ -52,18 +49,19 @@ fn write_bare<S: Alter>(
     alloc: Global,
     batch: &NewBatch<'_>,
 ) -> Result<(), Error>
-    requires id { batch.now.id < 2 ^ 63 }
+    requires { batch.now.number < 2 ^ 63 }
     ensures same_reference { tx.new.conn.ghost_name ≡ tx.old.conn.ghost_name }
     ensures wrote { let b = batch.now in
         let rows = (coming_of b.product.check b.raw.now).rows in
-        WritesRows (batch_rows_after b.id b.name b.product.code [] b.records rows)
+        WritesRows (batch_rows_after b.number b.name b.product.code [] b.records rows)
         (state S.Store tx.old.conn.now) (state S.Store tx.new.conn.now) result }
     ensures survives { Survives (state S.Store tx.old.conn.now) (state S.Store tx.new.conn.now)
         (λ _. ⊥) }
 {
+    let number = batch.number;
     let product = &batch.product;
-    add_batch(tx, batch.id, &batch.name, &product.code, &[], batch.records)?;
-    add_rows(tx, alloc, batch.id, product, batch.raw)
+    add_batch(tx, number, &batch.name, &product.code, &[], batch.records)?;
+    add_rows(tx, alloc, number, product, batch.raw)
 }
 
 // What is told of a file that is not taken.

@@ -8,5 +8,6 @@ mod counters;
 mod imports;
 mod records;
 mod releases;
+mod writable;
 
 pub use commits::commit;

@@ -1,6 +1,6 @@
 //! A record passes to another state, in an open transaction. A crash before its end leaves nothing
 //! of it.
-ghost use Rattle.std.specs.Prelude.{◌≡◌};
+ghost use Rattle.std.specs.Prelude.{◌≡◌, ◌^◌};
 ghost use Rattle.sqlite.specs.Held.{state};
 ghost use Rattle.sqlite.specs.State.{Survives};
 ghost use Rattle.job_facts.specs.declared.facts.SessionState.TheVariants as session;
@@ -8,33 +8,37 @@ ghost use Rattle.sql_rows.specs.Writes.{WritesRows};
 ghost use Rattle.table_rows.specs.After.{passed, record_after, rows_after, stopped};
 ghost use Rattle.table_rows.specs.declared.writing.Writing.TheVariants as writing;
 ghost use Rattle.sql_rows.specs.Many.{WritesMany};
+ghost use Rattle.change_writes.specs.Writable.{HasRoom, IsPlacedBelow};
 
-use crate::counters::{fit, less, more, one_more, one_spoiled, totals_fit};
-use job_facts::{BatchTotals, RecordState, SessionState};
+use crate::counters::{passed, spoiled};
+use job_facts::{RecordState, SessionState};
 use row_writes::{add_remake, set_record, set_totals};
 use sqlite::{Alter, Error, Transaction};
 use table_rows::RecordPlace;
 
-/// Writes how a record stands, with its numbers and its batch's counters.
+/// Writes how a record stands from now on, with its counts and its batch's counters.
 pub(crate) fn write_record<S: Alter>(
     tx: &mut Transaction<'_, S>,
     place: &RecordPlace,
     stands: RecordState,
-    spoiled: u64,
-    remakes: u64,
-    totals: &BatchTotals,
 ) -> Result<usize, Error>
+    requires { IsPlacedBelow (2 ^ 63) place.now }
     ensures same_reference { tx.new.conn.ghost_name ≡ tx.old.conn.ghost_name }
-    ensures wrote { WritesRows (record_after place.now stands spoiled remakes totals.now)
+    ensures wrote { let p = place.now in
+        WritesRows (record_after p stands p.spoiled p.remakes p.totals)
         (state S.Store tx.old.conn.now) (state S.Store tx.new.conn.now) result }
     ensures survives { Survives (state S.Store tx.old.conn.now) (state S.Store tx.new.conn.now)
         (λ _. ⊥) }
 {
-    if !fit(place.batch, place.place, spoiled, remakes) || !totals_fit(totals) {
-        return Err(Error::InvalidQuery);
-    }
-    set_record(tx, place.batch, place.place, stands, spoiled, remakes)?;
-    set_totals(tx, place.batch, totals)
+    set_record(
+        tx,
+        place.batch,
+        place.place,
+        stands,
+        place.spoiled,
+        place.remakes,
+    )?;
+    set_totals(tx, place.batch, &place.totals)
 }
 
 /// A record passes from one state to another, with no more sessions spoiled, and no more remakes.
@@ -44,14 +48,15 @@ pub(crate) fn write_passed<S: Alter>(
     was: RecordState,
     stands: RecordState,
 ) -> Result<usize, Error>
+    requires { HasRoom place.now }
     ensures same_reference { tx.new.conn.ghost_name ≡ tx.old.conn.ghost_name }
     ensures wrote { WritesRows (passed place.now was stands) (state S.Store tx.old.conn.now)
         (state S.Store tx.new.conn.now) result }
     ensures survives { Survives (state S.Store tx.old.conn.now) (state S.Store tx.new.conn.now)
         (λ _. ⊥) }
 {
-    let totals = more(stands, &less(was, &place.totals))?;
-    write_record(tx, place, stands, place.spoiled, place.remakes, &totals)
+    let totals = passed(was, stands, &place.totals);
+    write_record(tx, &RecordPlace { totals, ..*place }, stands)
 }
 
 /// A record fails, since its running session is spoiled.
@@ -59,26 +64,19 @@ pub(crate) fn write_spoiled<S: Alter>(
     tx: &mut Transaction<'_, S>,
     place: &RecordPlace,
 ) -> Result<usize, Error>
+    requires { HasRoom place.now }
     ensures same_reference { tx.new.conn.ghost_name ≡ tx.old.conn.ghost_name }
     ensures wrote { WritesRows (stopped place.now session.Spoiled) (state S.Store tx.old.conn.now)
         (state S.Store tx.new.conn.now) result }
     ensures survives { Survives (state S.Store tx.old.conn.now) (state S.Store tx.new.conn.now)
         (λ _. ⊥) }
 {
-    let totals = more(
-        RecordState::Failed,
-        &less(RecordState::Running, &place.totals),
-    )?;
-    let totals = one_spoiled(&totals)?;
-    let spoiled = one_more(place.spoiled)?;
-    write_record(
-        tx,
-        place,
-        RecordState::Failed,
-        spoiled,
-        place.remakes,
-        &totals,
-    )
+    let failed = RecordPlace {
+        spoiled: place.spoiled + 1,
+        totals: spoiled(&place.totals),
+        ..*place
+    };
+    write_record(tx, &failed, RecordState::Failed)
 }
 
 /// What a word that leaves its session so makes of its record: where the session goes on, nothing.
@@ -87,6 +85,7 @@ pub(crate) fn write_stop<S: Alter>(
     place: &RecordPlace,
     stands: SessionState,
 ) -> Result<usize, Error>
+    requires { HasRoom place.now }
     ensures same_reference { tx.new.conn.ghost_name ≡ tx.old.conn.ghost_name }
     ensures wrote { WritesMany (stopped place.now stands) (state S.Store tx.old.conn.now)
         (state S.Store tx.new.conn.now) result }
@@ -105,27 +104,18 @@ pub(crate) fn write_remake<S: Alter>(
     tx: &mut Transaction<'_, S>,
     place: &RecordPlace,
 ) -> Result<usize, Error>
+    requires { HasRoom place.now }
     ensures same_reference { tx.new.conn.ghost_name ≡ tx.old.conn.ghost_name }
     ensures wrote { WritesRows (rows_after (writing.Remakes place.now))
         (state S.Store tx.old.conn.now) (state S.Store tx.new.conn.now) result }
     ensures survives { Survives (state S.Store tx.old.conn.now) (state S.Store tx.new.conn.now)
         (λ _. ⊥) }
 {
-    let totals = more(
-        RecordState::Waiting,
-        &less(RecordState::Failed, &place.totals),
-    )?;
-    let turn = one_more(place.remakes)?;
-    if !fit(place.batch, place.place, turn, 0) {
-        return Err(Error::InvalidQuery);
-    }
-    add_remake(tx, place.batch, place.place, turn)?;
-    write_record(
-        tx,
-        place,
-        RecordState::Waiting,
-        place.spoiled,
-        turn,
-        &totals,
-    )
+    let remade = RecordPlace {
+        remakes: place.remakes + 1,
+        totals: passed(RecordState::Failed, RecordState::Waiting, &place.totals),
+        ..*place
+    };
+    add_remake(tx, remade.batch, remade.place, remade.remakes)?;
+    write_record(tx, &remade, RecordState::Waiting)
 }

@@ -1,13 +1,12 @@
 //! A client's numbers are released, in an open transaction. A crash before its end leaves nothing
 //! of it.
-ghost use Rattle.std.specs.Prelude.{◌≡◌};
+ghost use Rattle.std.specs.Prelude.{◌≡◌, ◌<◌, ◌^◌};
 ghost use Rattle.sqlite.specs.Held.{state};
 ghost use Rattle.sqlite.specs.State.{Survives};
 ghost use Rattle.sql_rows.specs.Writes.{WritesRows};
 ghost use Rattle.table_rows.specs.After.{rows_after};
 ghost use Rattle.table_rows.specs.declared.writing.Writing.TheVariants as writing;
 
-use crate::counters::fit;
 use row_writes::{add_mark, drop_mark, drop_replies};
 use sqlite::{Alter, Error, Transaction};
 use store_data::Name;
@@ -18,15 +17,13 @@ pub(crate) fn write_release<S: Alter>(
     client: &Name,
     upto: u64,
 ) -> Result<usize, Error>
+    requires { upto < 2 ^ 63 }
     ensures same_reference { tx.new.conn.ghost_name ≡ tx.old.conn.ghost_name }
     ensures wrote { WritesRows (rows_after (writing.Releases client.now upto))
         (state S.Store tx.old.conn.now) (state S.Store tx.new.conn.now) result }
     ensures survives { Survives (state S.Store tx.old.conn.now) (state S.Store tx.new.conn.now)
         (λ _. ⊥) }
 {
-    if !fit(upto, 0, 0, 0) {
-        return Err(Error::InvalidQuery);
-    }
     drop_replies(tx, client, upto)?;
     drop_mark(tx, client)?;
     add_mark(tx, client, upto)

@@ -12,4 +12,4 @@ returns-clause-wrote g c clean =
     let set = with_lot_set v.lot.now (v.discarded + 1) in
     let one = c.in_ok-add_blank.ensures.wrote (omega (arith, c.set_lot.ensures.survives.clean)) in
     wrote_then (Moves (with_blank charged)) (Moves set) (Moves (λ t. set (with_blank charged t))) _ _ _ c.set_lot.result
-    (moved_on (with_blank charged) set _ _ _) one.well one.kept (rw c.in_ok-gone.ensures at (c.set_lot.ensures.wrote clean))
+    (moved_on (with_blank charged) set _ _ _) one.well one.kept (c.set_lot.ensures.wrote clean)

@@ -14,9 +14,9 @@ pub returns-clause-wrote : goal.returns-clause-wrote
 returns-clause-wrote g c clean =
     let v = c.args in
     let s = v.session.now in
-    let p = s.place in
+    let p = v.place.now in
     let charged : StoredBlank = record { serial = s.blank; lot = s.lot; discarded = false } in
-    let opened = with_session (new_session s.id p s.machine s.blank) in
+    let opened = with_session (new_session s.number p s.machine s.blank) in
     let both = λ (t : Tables). with_blank charged (opened t) in
     let after = record_after p rec.Running p.spoiled p.remakes (one_opened (more rec.Running (less rec.Waiting p.totals))) in
     let a = state g.S.Store v.tx.now.conn.now in
@@ -28,4 +28,4 @@ returns-clause-wrote g c clean =
     wrote_then (Moves both) (Moves after) (Moves (λ t. after (both t))) a d _ c.write_record.result (moved_on both after _ _ _)
     (inside_then (Moves opened) (Moves (with_blank charged)) (Moves both) a b d (moved_on opened (with_blank charged) _ _ _) one.well two.well)
     (keeps_then a b d one.kept two.kept)
-    (rw (c.in_ok-totals-2.ensures, c.in_ok-totals.ensures, c.less.ensures) at (c.write_record.ensures.wrote clean))
+    (rw c.opened-totals.ensures.value at (c.write_record.ensures.wrote clean))

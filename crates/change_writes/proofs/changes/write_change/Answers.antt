@@ -5,7 +5,7 @@ pub returns-in-AddsProduct-clause-wrote : goal.returns-in-AddsProduct-clause-wro
 returns-in-AddsProduct-clause-wrote g c clean = rw c.in-AddsProduct.is (many _ _ _ _ (c.add_product.ensures.wrote clean))
 
 pub returns-in-AddsLot-clause-wrote : goal.returns-in-AddsLot-clause-wrote
-returns-in-AddsLot-clause-wrote g c clean = rw c.in-AddsLot.is (many _ _ _ _ (c.write_lot.ensures.wrote clean))
+returns-in-AddsLot-clause-wrote g c clean = rw c.in-AddsLot.is (many _ _ _ _ (c.add_lot.ensures.wrote clean))
 
 pub returns-in-AddsBatch-clause-wrote : goal.returns-in-AddsBatch-clause-wrote
 returns-in-AddsBatch-clause-wrote g c clean = rw c.in-AddsBatch.is (many _ _ _ _ (c.write_batch.ensures.wrote clean))

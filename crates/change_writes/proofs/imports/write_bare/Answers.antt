@@ -11,7 +11,7 @@ pub returns-clause-wrote : goal.returns-clause-wrote
 returns-clause-wrote g c clean =
     let b = c.args.batch.now in
     let rows = (coming_of b.product.check b.raw.now).rows in
-    let bare = with_batch (new_batch b.id b.name b.product.code [] b.records) in
+    let bare = with_batch (new_batch b.number b.name b.product.code [] b.records) in
     let one = c.in_ok-add_batch.ensures.wrote (omega (arith, c.add_rows.ensures.survives.clean)) in
-    wrote_on (Moves bare) (Moves (with_file_rows b.id rows)) (Moves (batch_rows_after b.id b.name b.product.code [] b.records rows)) _ _ _ c.add_rows.result
-    (moved_on bare (with_file_rows b.id rows) _ _ _) one.well one.kept (c.add_rows.ensures.wrote clean)
+    wrote_on (Moves bare) (Moves (with_file_rows b.number rows)) (Moves (batch_rows_after b.number b.name b.product.code [] b.records rows)) _ _ _ c.add_rows.result
+    (moved_on bare (with_file_rows b.number rows) _ _ _) one.well one.kept (c.add_rows.ensures.wrote clean)

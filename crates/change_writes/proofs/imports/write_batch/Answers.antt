@@ -13,5 +13,5 @@ returns-clause-wrote g c clean =
     let raw = b.raw.now in
     let rows = (coming_of b.product.check raw).rows in
     let one = c.in_ok-write_bare.ensures.wrote (omega (arith, c.set_raw.ensures.survives.clean)) in
-    wrote_then (Moves (batch_rows_after b.id b.name b.product.code [] b.records rows)) (Moves (with_raw_set b.id raw)) (Moves (batch_rows_after b.id b.name b.product.code raw b.records rows)) _ _ _ c.set_raw.result
-    (bytes_last b.id b.records b.name b.product.code raw rows _ _ _) one.well one.kept (c.set_raw.ensures.wrote clean)
+    wrote_then (Moves (batch_rows_after b.number b.name b.product.code [] b.records rows)) (Moves (with_raw_set b.number raw)) (Moves (batch_rows_after b.number b.name b.product.code raw b.records rows)) _ _ _ c.set_raw.result
+    (bytes_last b.number b.records b.name b.product.code raw rows _ _ _) one.well one.kept (c.set_raw.ensures.wrote clean)

@@ -10,8 +10,8 @@ pub returns-clause-wrote : goal.returns-clause-wrote
 returns-clause-wrote g c clean =
     let a = c.args in
     let p = a.place.now in
-    let set = with_record_set p.batch p.place a.stands a.spoiled a.remakes in
-    let counted = with_totals_set p.batch a.totals.now in
+    let set = with_record_set p.batch p.place a.stands p.spoiled p.remakes in
+    let counted = with_totals_set p.batch p.totals in
     let one = c.in_ok-set_record.ensures.wrote (omega (arith, c.set_totals.ensures.survives.clean)) in
-    wrote_then (Moves set) (Moves counted) (Moves (record_after p a.stands a.spoiled a.remakes a.totals.now)) _ _ _ c.set_totals.result
+    wrote_then (Moves set) (Moves counted) (Moves (record_after p a.stands p.spoiled p.remakes p.totals)) _ _ _ c.set_totals.result
     (moved_on set counted _ _ _) one.well one.kept (c.set_totals.ensures.wrote clean)

@@ -12,7 +12,7 @@ returns-clause-wrote g c clean =
     let p = c.args.place.now in
     let turn : StoredRemake = record { batch = p.batch; place = p.place; turn = p.remakes + 1 } in
     let after = record_after p rec.Waiting p.spoiled (p.remakes + 1) (more rec.Waiting (less rec.Failed p.totals)) in
-    let one = rw c.in_ok-turn.ensures at (c.in_ok-add_remake.ensures.wrote (omega (arith, c.write_record.ensures.survives.clean))) in
-    let two = rw (c.in_ok-totals.ensures, c.less.ensures, c.in_ok-turn.ensures) at (c.write_record.ensures.wrote clean) in
+    let one = c.in_ok-add_remake.ensures.wrote (omega (arith, c.write_record.ensures.survives.clean)) in
+    let two = rw c.passed.ensures.value at (c.write_record.ensures.wrote clean) in
     wrote_then (Moves (with_remake turn)) (Moves after) (Moves (λ t. after (with_remake turn t))) _ _ _ c.write_record.result
     (moved_on (with_remake turn) after _ _ _) one.well one.kept two
