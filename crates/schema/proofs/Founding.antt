@@ -20,7 +20,7 @@ nothing_is : image no_contents ≡ no_rows
 unfolding stored_batches stored_blanks stored_groupings stored_lots stored_records stored_remakes stored_sessions stored_words
 nothing_is = refl
 
-founded : (a b : Database) → a.schema ≡ no_schema → MakesAll a b → IsImage (image no_contents) b
+pub founded : (a b : Database) → a.schema ≡ no_schema → MakesAll a b → IsImage (image no_contents) b
 founded a b none makes = subst (λ t. IsImage t b) (sym nothing_is) (newly_filled b (makes none))
 
 pub holds_nothing : (old new : State) → (old.now.schema ≡ no_schema) × Ends MakesAll old new → AreSound no_contents × (IsTrue new.is_open → IsImage (image no_contents) new.now)

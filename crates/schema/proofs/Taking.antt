@@ -94,3 +94,21 @@ module _ (P Q : Database → Database → Type 0) (old mid new : State) (kept : 
   left_then last =
       survives_then old mid new (λ _. ⊥) (IsLeft P mid) (IsLeft Q old) (λ _ db none. absurd none)
       (λ clean db it. let early : HasCleanDisk mid = omega (arith, last.clean) in ((kept early).was_open it.0, (it.1.0, takes early it.1.0 it.0 it.1.1, it.1.2))) before last
+
+-- what a change needs is read, and then the change is committed
+module _ (reply : ReplyLaw) (law : ChangeLaw) (change : Change) (w : Writing) (entry : Entry) (old mid new : State) (kept : HasCleanDisk mid → IsKept old mid) (before : Survives old mid (λ _. ⊥))
+    (has : HasCleanDisk mid → Tells change w entry old.now) where
+  abbrev Written : Database → Database → Type 0
+  Written = Moves (rows_written w entry)
+
+  abbrev Taken : Database → Database → Type 0
+  Taken = Takes (IsOwed change entry) (λ c. committed c change entry)
+
+  turns : HasCleanDisk mid → (b : Database) → Written old.now b → Taken old.now b
+  turns clean b = change_taken reply law change w entry old.now b (has clean)
+
+  pub change_ends : {X : Type 0} (r : Result X Error) → HasCleanDisk mid → OnOk r (Ends Written mid new) → OnOk r (Ends Taken old new)
+  change_ends = ends_then Written Taken old mid new kept before turns
+
+  pub change_left : Survives mid new (IsLeft Written mid) → Survives old new (IsLeft Taken old)
+  change_left = left_then Written Taken old mid new kept before turns

@@ -1,9 +1,10 @@
 //! A change or a release is kept with its reply, as it is owed of the contents.
-ghost use Rattle.std.specs.Prelude.{◌≡◌, ◌<◌, ◌^◌, false, OnErr, OnOk};
+ghost use Rattle.std.specs.Prelude.{◌≡◌, false, OnErr, OnOk};
 ghost use Rattle.sqlite.specs.Held.{state};
 ghost use Rattle.sqlite.specs.State.{HasCleanDisk, Survives};
 ghost use Rattle.job_facts.specs.Contents.{IsOwed, IsOwedRelease, committed, released};
 ghost use Rattle.sql_base.specs.Ends.{Ends, IsKept, IsLeft};
+ghost use Rattle.store_reads.specs.Known.{Knows};
 ghost use Rattle.schema.specs.Takes.{Takes};
 ghost use Rattle.table_rows.specs.Kept.{kept_reply};
 
@@ -11,24 +12,27 @@ use change_writes::commit;
 use job_facts::Change;
 use sqlite::{Alter, Connection, Error};
 use std::alloc::Global;
-use store_reads::writing_of;
+use store_reads::{Known, writing_of};
 use table_rows::{Entry, Writing};
 
-/// Makes a change and keeps its reply, or does neither.
+/// Makes a change and keeps its reply, or does neither. What is known is forgotten where the change
+/// may touch it.
 pub(crate) fn keep<S: Alter>(
     conn: &mut Connection<S>,
+    known: &mut Known,
     alloc: Global,
     entry: &Entry<'_>,
     change: &Change<'_>,
 ) -> Result<(), Error>
     requires idle { conn.old.in_transaction ≡ false }
-    requires number { entry.now.number < 2 ^ 63 }
+    requires knows { Knows (state S.Store conn.old) known.old }
     ensures ok { let kept = kept_reply entry.now in
         HasCleanDisk (state S.Store conn.new) → OnOk result
         (Ends (Takes (IsOwed change.now kept) (λ c. committed c change.now kept))
         (state S.Store conn.old) (state S.Store conn.new)) }
     ensures err { HasCleanDisk (state S.Store conn.new)
         → OnErr result (IsKept (state S.Store conn.old) (state S.Store conn.new)) }
+    ensures knows { Knows (state S.Store conn.new) known.new }
     ensures idle { conn.new.in_transaction ≡ false }
     ensures crash { let kept = kept_reply entry.now in
         Survives (state S.Store conn.old) (state S.Store conn.new)
@@ -37,8 +41,11 @@ pub(crate) fn keep<S: Alter>(
 {
     image_laws::rows_after_change();
     image_laws::rows_with_reply();
-    match writing_of(conn, change) {
-        Ok(writing) => commit(conn, alloc, entry, &writing),
+    match writing_of(conn, known, change) {
+        Ok(writing) => {
+            known.forget_for(&writing);
+            commit(conn, alloc, entry, &writing)
+        }
         Err(error) => Err(error),
     }
 }
@@ -47,18 +54,20 @@ pub(crate) fn keep<S: Alter>(
 /// nothing.
 pub(crate) fn release<S: Alter>(
     conn: &mut Connection<S>,
+    known: &Known,
     alloc: Global,
     entry: &Entry<'_>,
     upto: u64,
 ) -> Result<(), Error>
     requires idle { conn.old.in_transaction ≡ false }
-    requires number { entry.now.number < 2 ^ 63 }
+    requires knows { Knows (state S.Store conn.old) known.now }
     ensures ok { let kept = kept_reply entry.now in
         HasCleanDisk (state S.Store conn.new) → OnOk result
         (Ends (Takes (IsOwedRelease upto kept) (λ c. released c upto kept))
         (state S.Store conn.old) (state S.Store conn.new)) }
     ensures err { HasCleanDisk (state S.Store conn.new)
         → OnErr result (IsKept (state S.Store conn.old) (state S.Store conn.new)) }
+    ensures knows { Knows (state S.Store conn.new) known.now }
     ensures idle { conn.new.in_transaction ≡ false }
     ensures crash { let kept = kept_reply entry.now in
         Survives (state S.Store conn.old) (state S.Store conn.new)

@@ -1,5 +1,5 @@
 //! The store over SQLite: its facts, kept replies and marks in the tables of one database.
-#![tactic(auto)]
+#![tactic(auto, using(crate::proofs::Knowing::knows_still))]
 
 mod again;
 mod closing;

@@ -21,6 +21,7 @@ use sql_base::is_empty;
 use sql_tables::make_tables;
 use sqlite::{Alter, Connection};
 use std::alloc::Global;
+use store_reads::Known;
 
 impl<S: Alter> SqlStore<S> {
     /// A store without facts, in an empty database. Any other is refused and stays as it is, and
@@ -63,6 +64,7 @@ impl<S: Alter> SqlStore<S> {
                     alloc,
                     conn,
                     counts,
+                    known: Known::new(alloc),
                 })
             }
             Err(error) => Err((conn, OpenFault::from(error))),
@@ -119,6 +121,7 @@ impl<S: Alter> SqlStore<S> {
                     alloc,
                     conn,
                     counts,
+                    known: Known::new(alloc),
                 })
             }
             Err(fault) => Err((conn, fault)),

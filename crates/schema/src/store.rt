@@ -1,6 +1,7 @@
 //! A store over a connection to our tables.
 ghost use Rattle.std.specs.Prelude.{◌≡◌, false};
 ghost use Rattle.sqlite.specs.Held.{state};
+ghost use Rattle.store_reads.specs.Known.{Knows};
 ghost use Rattle.schema.specs.Link.{link};
 
 use crate::faults::Counts;
@@ -9,21 +10,22 @@ use job_facts::{
     BatchRow, BatchSize, BatchTotals, BlankTotals, Change, FaultCounts, JobStore, KeptReply, Lot,
     RecordLine, RecordState, SegmentRow, SessionRow, StoreFault,
 };
-use sqlite::{Alter, Connection, Error};
+use sqlite::{Alter, Connection};
 use std::alloc::Global;
 use store_data::{Name, Product};
 use store_reads as reads;
+use store_reads::Known;
 use table_rows::Entry;
 
-/// The numbers of SQL end below this.
-const LIMIT: u64 = 1 << 63;
-
-/// A store over a connection to our tables. No transaction is open between its calls.
+/// A store over a connection to our tables. No transaction is open between its calls. What no
+/// change touches of the records that it read of late is not read again.
 pub struct SqlStore<S: Alter> {
     pub(crate) alloc: Global,
     pub(crate) conn: Connection<S>,
     pub(crate) counts: Counts,
+    pub(crate) known: Known,
     ghost idle: { conn.in_transaction ≡ false },
+    ghost knows: { Knows (state S.Store conn) known },
 }
 
 impl<S: Alter> SqlStore<S> {
@@ -41,6 +43,7 @@ impl<S: Alter> SqlStore<S> {
             alloc: _,
             conn,
             counts: _,
+            known: _,
         } = self;
         conn
     }
@@ -74,6 +77,7 @@ impl<S: Alter + Drop> Drop for SqlStore<S> {
             alloc: _,
             conn: _,
             counts: _,
+            known: _,
         } = self;
     }
 }
@@ -138,7 +142,7 @@ impl<S: Alter> JobStore for SqlStore<S> {
     }
 
     fn session(&mut self, session: u64) -> Result<Option<SessionRow>, StoreFault> {
-        let answer = reads::session(&mut self.conn, session);
+        let answer = reads::session(&mut self.conn, &self.known, session);
         self.counts.told(answer)
     }
 
@@ -159,7 +163,7 @@ impl<S: Alter> JobStore for SqlStore<S> {
         app: u16,
         segment: u16,
     ) -> Result<Option<SegmentRow>, StoreFault> {
-        let answer = reads::segment(&mut self.conn, batch, rec, app, segment);
+        let answer = reads::segment(&mut self.conn, &mut self.known, batch, rec, app, segment);
         self.counts.told(answer)
     }
 
@@ -217,9 +221,6 @@ impl<S: Alter> JobStore for SqlStore<S> {
         body: &[u8],
         change: &Change<'_>,
     ) -> Result<(), StoreFault> {
-        if number >= LIMIT {
-            return self.counts.told(Err(Error::InvalidQuery));
-        }
         image_laws::same_rows_same_contents();
         let entry = Entry {
             client,
@@ -228,7 +229,7 @@ impl<S: Alter> JobStore for SqlStore<S> {
             status,
             body,
         };
-        let answer = keep(&mut self.conn, self.alloc, &entry, change);
+        let answer = keep(&mut self.conn, &mut self.known, self.alloc, &entry, change);
         self.counts.told(answer)
     }
 
@@ -241,9 +242,6 @@ impl<S: Alter> JobStore for SqlStore<S> {
         body: &[u8],
         mark: u64,
     ) -> Result<(), StoreFault> {
-        if number >= LIMIT {
-            return self.counts.told(Err(Error::InvalidQuery));
-        }
         image_laws::same_rows_same_contents();
         let entry = Entry {
             client,
@@ -252,7 +250,7 @@ impl<S: Alter> JobStore for SqlStore<S> {
             status,
             body,
         };
-        let answer = release(&mut self.conn, self.alloc, &entry, mark);
+        let answer = release(&mut self.conn, &self.known, self.alloc, &entry, mark);
         self.counts.told(answer)
     }
 }

@@ -1,7 +1,6 @@
 -- What the rows are that were found, by what is told of them.
 use Rattle.std.proofs.Common.{◌≡◌, ℕ, List, Option, Some, None, refl, sym, ap, subst, ◌∙◌}
 use Rattle.std.specs.Prelude.{find, option_map}
-use Rattle.job_facts.specs.declared.rows.SessionRow.{SessionRow}
 use Rattle.job_facts.proofs.Lists.{mapped, unmapped}
 use Rattle.row_reads.specs.declared.records.RecordAt.{RecordAt}
 use Rattle.row_reads.specs.declared.sessions.SessionAt.{SessionAt}
@@ -10,17 +9,15 @@ use Rattle.table_rows.specs.Keys.{is_batch, is_batch_named, is_record_at, is_rec
 use Rattle.table_rows.specs.Tables.{StoredBatch, StoredRecord, StoredSession}
 use Rattle.row_laws.specs.Telling.{record_row, session_in, session_of}
 use Rattle.row_laws.proofs.Finding.{option_map-map}
+use Rattle.store_reads.specs.Sessions.{row_named}
 
 pub found_some : {X Y : Type 0} (f : X → Y) (o : Option X) (y : Y) → Some y ≡ option_map f o → (x : X) × (o ≡ Some x) × (y ≡ f x)
 found_some f o y is = let it = mapped f o y (sym is) in (it.0, it.1, sym it.2)
 
 -- ---- sessions
 
-abbrev pub row_at : SessionAt → List ℕ → RecordAt → SessionRow
-row_at s n r = record { machine = s.machine; batch = n; rec = r.name; stands = s.stands; words = s.words; cursor = s.cursor }
-
-same_row : (s : SessionAt) (n : List ℕ) (r : RecordAt) (x : StoredSession) (b : StoredBatch) (y : StoredRecord) → s ≡ session_at x → n ≡ b.name → r ≡ record_at y → row_at s n r ≡ session_of x b y
-same_row s n r x b y one two three = ap (λ (t : SessionAt). row_at t n r) one ∙ ap (λ m. row_at (session_at x) m r) two ∙ ap (row_at (session_at x) b.name) three
+same_row : (s : SessionAt) (n m : List ℕ) (x : StoredSession) (b : StoredBatch) (y : StoredRecord) → s ≡ session_at x → n ≡ b.name → m ≡ y.name → row_named s n m ≡ session_of x b y
+same_row s n m x b y one two three = ap (λ (t : SessionAt). row_named t n m) one ∙ ap (λ k. row_named (session_at x) k m) two ∙ ap (row_named (session_at x) b.name) three
 
 module _ (sessions : List StoredSession) (batches : List StoredBatch) (records : List StoredRecord) (id : ℕ) where
   session_is : (x : StoredSession) (b : StoredBatch) (y : StoredRecord) → find (is_session id) sessions ≡ Some x → find (is_batch x.batch) batches ≡ Some b
@@ -46,15 +43,19 @@ module _ (sessions : List StoredSession) (batches : List StoredBatch) (records :
           let none_at = subst (λ (t : SessionAt). find (is_record_at t.batch t.place) records ≡ None) x.2 (unmapped record_at (find (is_record_at s.batch s.place) records) (sym none)) in
           rw (x.1, b_at, none_at) refl
 
-      pub session_told : (r : RecordAt) → Some r ≡ option_map record_at (find (is_record_at s.batch s.place) records)
-          → Some (row_at s n r) ≡ session_in sessions batches records id
-      session_told r r_is =
+      pub session_told : (m : List ℕ) → Some m ≡ option_map (λ (y : StoredRecord). y.name) (find (is_record_at s.batch s.place) records)
+          → Some (row_named s n m) ≡ session_in sessions batches records id
+      session_told m m_is =
           let x = found_some session_at (find (is_session id) sessions) s s_is in
           let b = found_some (λ (b : StoredBatch). b.name) (find (is_batch s.batch) batches) n n_is in
-          let y = found_some record_at (find (is_record_at s.batch s.place) records) r r_is in
+          let y = found_some (λ (y : StoredRecord). y.name) (find (is_record_at s.batch s.place) records) m m_is in
           let b_at = subst (λ (t : SessionAt). find (is_batch t.batch) batches ≡ Some b.0) x.2 b.1 in
           let y_at = subst (λ (t : SessionAt). find (is_record_at t.batch t.place) records ≡ Some y.0) x.2 y.1 in
-          ap Some (same_row s n r x.0 b.0 y.0 x.2 b.2 y.2) ∙ sym (session_is x.0 b.0 y.0 x.1 b_at y_at)
+          ap Some (same_row s n m x.0 b.0 y.0 x.2 b.2 y.2) ∙ sym (session_is x.0 b.0 y.0 x.1 b_at y_at)
+
+-- what is told of a record tells its name
+pub name_told : (o : Option StoredRecord) (r : RecordAt) → Some r ≡ option_map record_at o → Some r.name ≡ option_map (λ (y : StoredRecord). y.name) o
+name_told o r is = ap (option_map (λ (x : RecordAt). x.name)) is ∙ option_map-map (λ (x : RecordAt). x.name) record_at o
 
 -- ---- records
 

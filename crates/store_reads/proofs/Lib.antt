@@ -11,3 +11,7 @@ pub mod SegmentRows
 pub mod Waiting
 pub mod RecordLines
 pub mod BlankSums
+pub mod Fixing
+pub mod KnownRows
+pub mod Knowing
+pub mod ByKnown

@@ -34,17 +34,17 @@ use Rattle.store_reads.proofs.Found.{found_some}
 use Rattle.store_reads.proofs.Ordered.{Rises, told_in_order}
 use Rattle.store_reads.proofs.SegmentHeads.{bytes_of, filter_both, is_under, segment_by_head, with_bytes}
 
-module _ (f : Facts) (b : List ℕ) where
-  pub no_product : None ≡ option_map told_of (find (is_batch_named b) (stored_batches f)) → None ≡ product_in f b
-  no_product none = rw (unmapped told_of (find (is_batch_named b) (stored_batches f)) (sym none)) refl
+module _ (products : List Product) (batches : List StoredBatch) (b : List ℕ) where
+  pub no_product : None ≡ option_map told_of (find (is_batch_named b) batches) → None ≡ product_in products batches b
+  no_product none = rw (unmapped told_of (find (is_batch_named b) batches) (sym none)) refl
 
-  pub product_told : (h : BatchTold) → Some h ≡ option_map told_of (find (is_batch_named b) (stored_batches f)) → (found : Option Product) → found ≡ product_named f.products h.product
-      → option_map (λ (p : Product). let e : BatchProduct = record { id = h.id; product = p } in e) found ≡ product_in f b
+  pub product_told : (h : BatchTold) → Some h ≡ option_map told_of (find (is_batch_named b) batches) → (found : Option Product) → found ≡ product_named products h.product
+      → option_map (λ (p : Product). let e : BatchProduct = record { id = h.id; product = p } in e) found ≡ product_in products batches b
   product_told h h_is found is =
-      let row = found_some told_of (find (is_batch_named b) (stored_batches f)) h h_is in
+      let row = found_some told_of (find (is_batch_named b) batches) h h_is in
       ap (option_map (λ (p : Product). let e : BatchProduct = record { id = h.id; product = p } in e)) is
-      ∙ ap (λ (k : BatchTold). option_map (λ (p : Product). let e : BatchProduct = record { id = k.id; product = p } in e) (product_named f.products k.product)) row.2
-      ∙ sym (ap (option_and_then (product_under f)) row.1)
+      ∙ ap (λ (k : BatchTold). option_map (λ (p : Product). let e : BatchProduct = record { id = k.id; product = p } in e) (product_named products k.product)) row.2
+      ∙ sym (ap (option_and_then (product_under products)) row.1)
 
 both_left : (x y : Bool) → (x && y) ≡ true → x ≡ true
 both_left true y both = refl
@@ -98,7 +98,7 @@ module _ (f : Facts) (b r : List ℕ) (a q : ℕ) where
   by_product : (o : Option StoredBatch)
       → option_and_then (λ (row : StoredBatch).
       option_map (λ (p : Product). plan_of p (map (row_of r) (groupings_for (stored_groupings f) (find (is_record_named row.id r) (stored_records f))))) (product_named f.products row.product)) o
-      ≡ option_map plan_told (option_and_then (product_under f) o)
+      ≡ option_map plan_told (option_and_then (product_under f.products) o)
   by_product None = refl
   by_product (Some row) = under (product_named f.products row.product)
     where
@@ -109,10 +109,10 @@ module _ (f : Facts) (b r : List ℕ) (a q : ℕ) where
       under (Some p) = ap (λ rows. Some (plan_of p rows)) (rows_same (find (is_record_named row.id r) (stored_records f)))
 
   segment_by : plan_for f b r ≡ plan_in f.products (stored_batches f) (stored_records f) (stored_groupings f) b r
-      → segment_row_of f b r a q ≡ option_and_then (λ (e : BatchProduct). segment_under e.product (rows_in f e.id r) a q) (product_in f b)
+      → segment_row_of f b r a q ≡ option_and_then (λ (e : BatchProduct). segment_under e.product (rows_in f e.id r) a q) (product_in f.products (stored_batches f) b)
   segment_by law =
       ap (option_and_then (λ (plan : Plan). option_map (segment_row plan) (segment_at plan a q))) (law ∙ by_product (find (is_batch_named b) (stored_batches f)))
-      ∙ at (product_in f b)
+      ∙ at (product_in f.products (stored_batches f) b)
     where
       under : (p : Product) (rows : Option (List Row)) → option_map (segment_row (plan_of p (own_rows rows))) (segment_at (plan_of p (own_rows rows)) a q) ≡ segment_under p rows a q
       under p None = ap (option_map (segment_row (plan_of p []))) (no_segment p a q)
@@ -129,10 +129,10 @@ module _ (f : Facts) (b r : List ℕ) (a q : ℕ) (law : plan_for f b r ≡ plan
   abbrev under_product : Option BatchProduct → Option SegmentRow
   under_product = option_and_then (λ (e : BatchProduct). segment_under e.product (rows_in f e.id r) a q)
 
-  pub segment_without_product : None ≡ product_in f b → None ≡ segment_row_of f b r a q
+  pub segment_without_product : None ≡ product_in f.products (stored_batches f) b → None ≡ segment_row_of f b r a q
   segment_without_product none = ap under_product none ∙ sym (segment_by f b r a q law)
 
-  module _ (e : BatchProduct) (e_is : Some e ≡ product_in f b) where
+  module _ (e : BatchProduct) (e_is : Some e ≡ product_in f.products (stored_batches f) b) where
     pub segment_without_record : None ≡ option_map record_at (find (is_record_named e.id r) (stored_records f)) → None ≡ segment_row_of f b r a q
     segment_without_record none = ap (λ rows. segment_under e.product rows a q) (no_rows f e.id r none) ∙ ap under_product e_is ∙ sym (segment_by f b r a q law)
 

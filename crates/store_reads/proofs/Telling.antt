@@ -31,6 +31,7 @@ kept_then a b c one two = record {
 pub looks_then : (a b c : State) → Looks a b → Looks b c → Looks a c
 looks_then a b c one two = record {
   kept = λ clean. kept_then a b c (one.kept (omega (arith, two.survives.clean))) (two.kept clean);
+  idle = two.idle;
   survives = survives_then a b c (λ _. ⊥) (λ _. ⊥) (λ _. ⊥) (λ _ db none. none) (λ _ db none. none) one.survives two.survives;
 }
 
@@ -84,3 +85,27 @@ tells_then a b c (Err e) P Q R one two first second law = λ clean. tt
 pub if_ok : {T : Type 0} (r : Result T Error) (P Q : T → Type 0) → ((x : T) → P x → Q x) → IfOk r P → IfOk r Q
 if_ok (Ok x) P Q then told = then x told
 if_ok (Err e) P Q then told = tt
+
+-- a read behind another that told nothing
+pub tells_later : {T : Type 0} (a b c : State) (r : Result T Error) (P : Contents → T → Type 0) → Looks a b → Looks b c → Tells b c r P → Tells a c r P
+tells_later a b c (Err e) P one two told = λ clean. tt
+tells_later a b c (Ok x) P one two told = λ clean.
+    let early : HasCleanDisk b = omega (arith, clean, two.survives.clean) in
+    let k = one.kept early in
+    let p = told clean in
+    (k.was_open p.0, λ d sound is. p.1 d sound (subst (IsImage (image d)) (sym (k.now_is p.0)) is))
+
+-- the same of rows alone
+pub rows_then : (a b c : State) (P Q R : Tables → Type 0) → Looks a b → Looks b c → (HasCleanDisk b → ShowsRows a P) → (HasCleanDisk c → ShowsRows b Q) → ((t : Tables) → P t → Q t → R t)
+    → HasCleanDisk c → ShowsRows a R
+rows_then a b c P Q R one two first second law clean =
+    let early : HasCleanDisk b = omega (arith, clean, two.survives.clean) in
+    let p = first early in
+    let q = second clean in
+    (p.0, λ t is. law t (p.1 t is) (q.1 t (subst (IsImage t) (sym ((one.kept early).now_is q.0)) is)))
+
+pub rows_as : (a b : State) (P Q : Tables → Type 0) → (HasCleanDisk b → ShowsRows a P) → ((t : Tables) → P t → Q t) → HasCleanDisk b → ShowsRows a Q
+rows_as a b P Q shows law clean = let s = shows clean in (s.0, λ t is. law t (s.1 t is))
+
+pub rows_both : (a b c : State) (P Q : Tables → Type 0) → Looks a b → Looks b c → (HasCleanDisk b → ShowsRows a P) → (HasCleanDisk c → ShowsRows b Q) → HasCleanDisk c → ShowsRows a (λ t. P t × Q t)
+rows_both a b c P Q one two first second = rows_then a b c P Q (λ t. P t × Q t) one two first second (λ t p q. (p, q))

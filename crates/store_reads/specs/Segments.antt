@@ -11,7 +11,7 @@ use Rattle.job_facts.specs.Facts.{Facts}
 use Rattle.job_facts.specs.Rows.{segment_row}
 use Rattle.job_facts.specs.States.{product_named}
 use Rattle.row_reads.specs.declared.groupings.GroupingAt.{GroupingAt}
-use Rattle.image_laws.specs.Image.{stored_batches, stored_groupings}
+use Rattle.image_laws.specs.Image.{stored_groupings}
 use Rattle.table_rows.specs.Keys.{is_batch_named, is_grouping_at}
 use Rattle.table_rows.specs.Tables.{StoredBatch}
 use Rattle.row_laws.specs.Telling.{row_of}
@@ -25,12 +25,12 @@ pub record IsBatchProduct (e : BatchProduct) : Type 0 where
   pub id : e.id < 2 ^ 63
   pub product : IsProduct e.product
 
-abbrev pub product_under : Facts → StoredBatch → Option BatchProduct
-product_under f row = option_map (λ (p : Product). record { id = row.id; product = p }) (product_named f.products row.product)
+abbrev pub product_under : List Product → StoredBatch → Option BatchProduct
+product_under products row = option_map (λ (p : Product). record { id = row.id; product = p }) (product_named products row.product)
 
 -- the id of the batch of this name, and its product
-abbrev pub product_in : Facts → List ℕ → Option BatchProduct
-product_in f b = option_and_then (product_under f) (find (is_batch_named b) (stored_batches f))
+abbrev pub product_in : List Product → List StoredBatch → List ℕ → Option BatchProduct
+product_in products batches b = option_and_then (product_under products) (find (is_batch_named b) batches)
 
 -- ---- the plan of a record
 

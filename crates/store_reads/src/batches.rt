@@ -47,7 +47,6 @@ pub fn batch<S: Alter>(conn: &mut Connection<S>, name: &Name) -> Result<Option<B
     ensures value { Tells (state S.Store conn.old) (state S.Store conn.new) result
         (λ c answer. answer ≡ batch_row_of c.facts name.now) }
     ensures looks { Looks (state S.Store conn.old) (state S.Store conn.new) }
-    ensures idle { conn.new.in_transaction ≡ false }
 {
     row_laws::batches_by_name();
     row_laws::batches_by_rows();
@@ -70,7 +69,6 @@ pub fn batch_size<S: Alter>(
     ensures value { Tells (state S.Store conn.old) (state S.Store conn.new) result
         (λ c answer. answer ≡ batch_size_of c.facts name.now) }
     ensures looks { Looks (state S.Store conn.old) (state S.Store conn.new) }
-    ensures idle { conn.new.in_transaction ≡ false }
 {
     row_laws::batches_by_name();
     row_laws::batches_by_rows();
@@ -93,7 +91,6 @@ pub fn batch_has<S: Alter>(conn: &mut Connection<S>, name: &Name, raw: &[u8]) ->
     ensures value { Tells (state S.Store conn.old) (state S.Store conn.new) result
         (λ c answer. answer ≡ batch_has c.facts name.now raw.now) }
     ensures looks { Looks (state S.Store conn.old) (state S.Store conn.new) }
-    ensures idle { conn.new.in_transaction ≡ false }
 {
     row_laws::batches_by_rows();
     row_reads::batch_has(conn, name, raw)
@@ -105,7 +102,6 @@ pub fn is_finished<S: Alter>(conn: &mut Connection<S>, batch: &Name) -> Result<b
     ensures value { Tells (state S.Store conn.old) (state S.Store conn.new) result
         (λ c answer. answer ≡ is_batch_finished c.facts batch.now) }
     ensures looks { Looks (state S.Store conn.old) (state S.Store conn.new) }
-    ensures idle { conn.new.in_transaction ≡ false }
 {
     row_laws::totals_by_rows();
     let totals = batch_totals(conn, batch)?;
@@ -118,7 +114,6 @@ pub fn batch_totals<S: Alter>(conn: &mut Connection<S>, batch: &Name) -> Result<
     ensures value { Tells (state S.Store conn.old) (state S.Store conn.new) result
         (λ c answer. answer ≡ batch_totals c.facts batch.now) }
     ensures looks { Looks (state S.Store conn.old) (state S.Store conn.new) }
-    ensures idle { conn.new.in_transaction ≡ false }
 {
     row_laws::batches_by_name();
     row_laws::totals_by_rows();

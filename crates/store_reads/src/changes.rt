@@ -4,19 +4,22 @@ ghost use Rattle.sqlite.specs.Held.{state};
 ghost use Rattle.sqlite.specs.State.{HasCleanDisk};
 ghost use Rattle.job_facts.specs.Contents.{AreSound, Contents};
 ghost use Rattle.job_facts.specs.Sound.{IsSoundChange};
+ghost use Rattle.job_facts.specs.declared.change.Change.TheVariants.{Discards};
 ghost use Rattle.image_laws.specs.Image.{image};
-ghost use Rattle.image_laws.specs.WritingOf.{AreDiscardedOf, IsPlaceOf, IsPlaceOfSession};
-ghost use Rattle.image_laws.specs.WritingOf.{IsOfWord, IsWritingOf};
+ghost use Rattle.image_laws.specs.WritingOf.{IsOfWord, IsPlaceOf, IsPlaceOfSession, IsWritingOf};
+ghost use Rattle.table_rows.specs.declared.writing.Writing.TheVariants.{AddsBatch};
 ghost use Rattle.sql_rows.specs.Image.{IsImage};
 ghost use Rattle.row_reads.specs.Reads.{Looks};
+ghost use Rattle.store_reads.specs.Known.{Knows};
 ghost use Rattle.store_reads.specs.Tells.{Tells};
 
+use crate::known::Known;
 use crate::sessions::session;
-use job_facts::{Change, SessionState};
+use job_facts::{Change, NewBatch, NewWord, SessionState};
 use row_reads::{batch_head, record_named};
 use sqlite::{Alter, Connection, Error};
 use store_data::Name;
-use table_rows::{NewBatch, NewSession, NewWord, RecordPlace, Writing};
+use table_rows::{RecordPlace, Writing};
 
 // ---- records
 
@@ -30,7 +33,6 @@ fn place_of<S: Alter>(
     ensures value { Tells (state S.Store conn.old) (state S.Store conn.new) result
         (λ c place. IsPlaceOf c.facts batch.now rec.now place) }
     ensures looks { Looks (state S.Store conn.old) (state S.Store conn.new) }
-    ensures idle { conn.new.in_transaction ≡ false }
 {
     row_laws::batches_by_name();
     row_laws::records_by_name();
@@ -50,14 +52,18 @@ fn place_of<S: Alter>(
 }
 
 // Where the record of a session stands.
-fn place_of_session<S: Alter>(conn: &mut Connection<S>, number: u64) -> Result<RecordPlace, Error>
-    requires { conn.old.in_transaction ≡ false }
+fn place_of_session<S: Alter>(
+    conn: &mut Connection<S>,
+    known: &Known,
+    number: u64,
+) -> Result<RecordPlace, Error>
+    requires idle { conn.old.in_transaction ≡ false }
+    requires knows { Knows (state S.Store conn.old) known.now }
     ensures value { Tells (state S.Store conn.old) (state S.Store conn.new) result
         (λ c place. IsPlaceOfSession c.facts number place) }
     ensures looks { Looks (state S.Store conn.old) (state S.Store conn.new) }
-    ensures idle { conn.new.in_transaction ≡ false }
 {
-    let Some(row) = session(conn, number)? else {
+    let Some(row) = session(conn, known, number)? else {
         return Err(Error::InvalidQuery);
     };
     place_of(conn, &row.batch, &row.rec)
@@ -65,19 +71,41 @@ fn place_of_session<S: Alter>(conn: &mut Connection<S>, number: u64) -> Result<R
 
 // ---- one change
 
-// How many blanks of a lot are discarded.
-fn discarded<S: Alter>(conn: &mut Connection<S>, lot: &Name) -> Result<u64, Error>
+// What is written for a new batch.
+fn batch_writing<'a>(batch: &NewBatch<'a>) -> Writing<'a>
+    ensures { result ≡ AddsBatch batch.now }
+{
+    // A copy of the whole would want a proof by hand, since it has a lifetime.
+    let batch = NewBatch {
+        number: batch.number,
+        name: batch.name,
+        product: batch.product,
+        records: batch.records,
+        raw: batch.raw,
+    };
+    Writing::AddsBatch { batch }
+}
+
+// What is written for a blank of a lot that is discarded.
+fn discard_writing<'a, S: Alter>(
+    conn: &mut Connection<S>,
+    blank: u64,
+    lot: &Name,
+) -> Result<Writing<'a>, Error>
     requires { conn.old.in_transaction ≡ false }
     ensures value { Tells (state S.Store conn.old) (state S.Store conn.new) result
-        (λ c n. AreDiscardedOf c.facts lot.now n) }
+        (λ c w. IsWritingOf c.facts (Discards blank lot.now) w) }
     ensures looks { Looks (state S.Store conn.old) (state S.Store conn.new) }
-    ensures idle { conn.new.in_transaction ≡ false }
 {
     row_laws::lots_by_name();
     let Some(row) = row_reads::lot(conn, lot)? else {
         return Err(Error::InvalidQuery);
     };
-    Ok(row.discarded)
+    Ok(Writing::Discards {
+        blank,
+        lot: *lot,
+        discarded: row.discarded,
+    })
 }
 
 // What is written for a word after which its session, of this record, stands so.
@@ -93,7 +121,6 @@ fn word_writing<'a, S: Alter>(
         → AreSound c → IsImage (image c) (state S.Store conn.old).now
         → IsOfWord c.facts batch.now rec.now word stands w) }
     ensures looks { Looks (state S.Store conn.old) (state S.Store conn.new) }
-    ensures idle { conn.new.in_transaction ≡ false }
 {
     match stands {
         SessionState::Running => Ok(Writing::AddsWord { word }),
@@ -112,81 +139,40 @@ fn word_writing<'a, S: Alter>(
 /// more than itself is read nothing for.
 pub fn writing_of<'a, S: Alter>(
     conn: &mut Connection<S>,
+    known: &Known,
     change: &Change<'a>,
 ) -> Result<Writing<'a>, Error>
-    requires { conn.old.in_transaction ≡ false }
+    requires idle { conn.old.in_transaction ≡ false }
+    requires knows { Knows (state S.Store conn.old) known.now }
     ensures value { HasCleanDisk (state S.Store conn.new) → IfOk result (λ w. (c : Contents)
         → AreSound c → IsImage (image c) (state S.Store conn.old).now
         → IsSoundChange c.facts change.now → IsWritingOf c.facts change.now w) }
     ensures looks { Looks (state S.Store conn.old) (state S.Store conn.new) }
-    ensures idle { conn.new.in_transaction ≡ false }
 {
     match *change {
         Change::Nothing => Ok(Writing::Nothing),
         Change::AddsProduct { product } => Ok(Writing::AddsProduct { product }),
         Change::AddsLot { lot } => Ok(Writing::AddsLot { lot }),
-        Change::AddsBatch {
-            number: id,
-            batch: name,
-            product,
-            records,
-            raw,
-        } => Ok(Writing::AddsBatch {
-            batch: NewBatch {
-                id,
-                name,
-                product,
-                records,
-                raw,
-            },
-        }),
+        Change::AddsBatch { ref batch } => Ok(batch_writing(batch)),
         Change::Opens {
-            session: id,
-            machine,
-            batch,
-            rec,
-            blank,
-            lot,
-        } => {
-            let place = place_of(conn, &batch, &rec)?;
-            let session = NewSession {
-                id,
-                machine,
-                blank,
-                lot,
-                place,
-            };
-            Ok(Writing::Opens { session })
-        }
-        Change::AddsWord {
             session,
             batch,
             rec,
-            index,
-            sw,
-            stands,
-            cursor,
         } => {
-            let word = NewWord {
-                session,
-                index,
-                sw,
-                cursor,
-            };
-            word_writing(conn, &batch, &rec, word, stands)
+            let place = place_of(conn, &batch, &rec)?;
+            Ok(Writing::Opens { session, place })
         }
+        Change::AddsWord {
+            word,
+            batch,
+            rec,
+            stands,
+        } => word_writing(conn, &batch, &rec, word, stands),
         Change::Ends { session } => {
-            let place = place_of_session(conn, session)?;
+            let place = place_of_session(conn, known, session)?;
             Ok(Writing::Ends { session, place })
         }
-        Change::Discards { blank, lot } => {
-            let discarded = discarded(conn, &lot)?;
-            Ok(Writing::Discards {
-                blank,
-                lot,
-                discarded,
-            })
-        }
+        Change::Discards { blank, lot } => discard_writing(conn, blank, &lot),
         Change::Remakes { batch, rec } => {
             let place = place_of(conn, &batch, &rec)?;
             Ok(Writing::Remakes { place })

@@ -13,7 +13,6 @@ pub fn product_count<S: Alter>(conn: &mut Connection<S>) -> Result<u64, Error>
     ensures value { Tells (state S.Store conn.old) (state S.Store conn.new) result
         (λ c answer. answer ≡ length c.facts.products) }
     ensures looks { Looks (state S.Store conn.old) (state S.Store conn.new) }
-    ensures idle { conn.new.in_transaction ≡ false }
 {
     row_reads::product_count(conn)
 }
@@ -24,7 +23,6 @@ pub fn lot_count<S: Alter>(conn: &mut Connection<S>) -> Result<u64, Error>
     ensures value { Tells (state S.Store conn.old) (state S.Store conn.new) result
         (λ c answer. answer ≡ length c.facts.lots) }
     ensures looks { Looks (state S.Store conn.old) (state S.Store conn.new) }
-    ensures idle { conn.new.in_transaction ≡ false }
 {
     row_laws::numbers_of_rows();
     row_reads::lot_count(conn)
@@ -36,7 +34,6 @@ pub fn batch_count<S: Alter>(conn: &mut Connection<S>) -> Result<u64, Error>
     ensures value { Tells (state S.Store conn.old) (state S.Store conn.new) result
         (λ c answer. answer ≡ length c.facts.batches) }
     ensures looks { Looks (state S.Store conn.old) (state S.Store conn.new) }
-    ensures idle { conn.new.in_transaction ≡ false }
 {
     row_laws::numbers_of_rows();
     last_batch(conn)
@@ -49,7 +46,6 @@ pub fn session_count<S: Alter>(conn: &mut Connection<S>) -> Result<u64, Error>
         (λ c answer. answer ≡ length c.facts.sessions) }
     ensures ranged { IfOk result (λ answer. answer < 2 ^ 63) }
     ensures looks { Looks (state S.Store conn.old) (state S.Store conn.new) }
-    ensures idle { conn.new.in_transaction ≡ false }
 {
     row_laws::numbers_of_rows();
     last_session(conn)

@@ -4,6 +4,7 @@
 mod batches;
 mod changes;
 mod counts;
+mod known;
 mod lines;
 mod lots;
 mod names;
@@ -19,6 +20,7 @@ mod sums;
 pub use batches::{batch, batch_has, batch_size, batch_totals, is_finished};
 pub use changes::writing_of;
 pub use counts::{batch_count, lot_count, product_count, session_count};
+pub use known::Known;
 pub use lots::{is_charged, lot, lot_of, overlaps};
 pub use names::product;
 pub use records::{first_waiting, record_state};

@@ -16,7 +16,6 @@ pub fn lot<S: Alter>(conn: &mut Connection<S>, name: &Name) -> Result<Option<Lot
     ensures value { Tells (state S.Store conn.old) (state S.Store conn.new) result
         (λ c answer. answer ≡ lot_named c.facts.lots name.now) }
     ensures looks { Looks (state S.Store conn.old) (state S.Store conn.new) }
-    ensures idle { conn.new.in_transaction ≡ false }
 {
     row_laws::lots_by_name();
     let found = row_reads::lot(conn, name)?;
@@ -29,7 +28,6 @@ pub fn lot_of<S: Alter>(conn: &mut Connection<S>, blank: u64) -> Result<Option<L
     ensures value { Tells (state S.Store conn.old) (state S.Store conn.new) result
         (λ c answer. answer ≡ lot_of c.facts.lots blank) }
     ensures looks { Looks (state S.Store conn.old) (state S.Store conn.new) }
-    ensures idle { conn.new.in_transaction ≡ false }
 {
     row_laws::lots_by_name();
     row_laws::lots_by_range();
@@ -42,7 +40,6 @@ pub fn overlaps<S: Alter>(conn: &mut Connection<S>, first: u64, count: u32) -> R
     ensures value { Tells (state S.Store conn.old) (state S.Store conn.new) result
         (λ c answer. answer ≡ any_overlaps c.facts.lots first count) }
     ensures looks { Looks (state S.Store conn.old) (state S.Store conn.new) }
-    ensures idle { conn.new.in_transaction ≡ false }
 {
     row_laws::lots_by_name();
     row_reads::overlaps(conn, first, count)
@@ -54,7 +51,6 @@ pub fn is_charged<S: Alter>(conn: &mut Connection<S>, blank: u64) -> Result<bool
     ensures value { Tells (state S.Store conn.old) (state S.Store conn.new) result
         (λ c answer. answer ≡ is_charged c.facts blank) }
     ensures looks { Looks (state S.Store conn.old) (state S.Store conn.new) }
-    ensures idle { conn.new.in_transaction ≡ false }
 {
     if blank >= END {
         return Err(Error::InvalidQuery);

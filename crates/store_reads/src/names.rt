@@ -16,7 +16,6 @@ pub fn product<S: Alter>(conn: &mut Connection<S>, code: &Name) -> Result<Option
         (λ c answer. answer ≡ product_named c.facts.products code.now) }
     ensures ranged { IfOk result (λ answer. IfSome answer IsProduct) }
     ensures looks { Looks (state S.Store conn.old) (state S.Store conn.new) }
-    ensures idle { conn.new.in_transaction ≡ false }
 {
     row_reads::product(conn, code)
 }

@@ -39,11 +39,17 @@ fn application_at(
 }
 
 // Those of these groupings that have this identifier.
-fn of_application(mut groupings: Vec<GroupingAt>, aid: &Aid) -> Vec<GroupingAt>
-    ensures { result.items ≡ of_application groupings.items aid.now }
+fn of_application(
+    alloc: Global,
+    groupings: &[GroupingAt],
+    aid: &Aid,
+) -> Result<Vec<GroupingAt>, AllocError>
+    ensures { IfOk result (λ own. own.items ≡ of_application groupings.now aid.now) }
 {
-    groupings.retain(|g| g.aid == *aid);
-    groupings
+    let mut own = Vec::new(alloc);
+    own.extend_from_slice(groupings)?;
+    own.retain(|g| g.aid == *aid);
+    Ok(own)
 }
 
 /// One more than the greatest rank.
@@ -59,9 +65,9 @@ fn ranks_of(alloc: Global, groupings: &[GroupingAt]) -> Result<Vec<u16>, AllocEr
         has[usize::from(g.rank)] = true;
     }
     let mut ranks = Vec::new(alloc);
-    for rank in 1..1000u16 {
-        if has[usize::from(rank)] {
-            ranks.push(rank)?;
+    for rank in 1..RANKS {
+        if has[rank] {
+            ranks.push(rank as u16)?;
         }
     }
     Ok(ranks)
@@ -102,17 +108,17 @@ fn head_of(
 /// Segment `segment` of application `app` of a record with these groupings, without its bytes.
 pub(crate) fn head_at(
     alloc: Global,
-    groupings: Vec<GroupingAt>,
+    groupings: &[GroupingAt],
     app: u16,
     segment: u16,
 ) -> Result<Option<SegmentHead>, AllocError>
-    requires { All IsGroupingAt groupings.items }
-    ensures { IfOk result (λ head. head ≡ head_at groupings.items app segment) }
+    requires { All IsGroupingAt groupings.now }
+    ensures { IfOk result (λ head. head ≡ head_at groupings.now app segment) }
 {
-    let Some(aid) = application_at(alloc, groupings.as_slice(), app)? else {
+    let Some(aid) = application_at(alloc, groupings, app)? else {
         return Ok(None);
     };
-    let own = of_application(groupings, &aid);
+    let own = of_application(alloc, groupings, &aid)?;
     head_of(alloc, own.as_slice(), segment)
 }
 

@@ -20,7 +20,6 @@ pub fn record_state<S: Alter>(
     ensures value { Tells (state S.Store conn.old) (state S.Store conn.new) result
         (λ c answer. answer ≡ record_state_of c.facts batch.now rec.now) }
     ensures looks { Looks (state S.Store conn.old) (state S.Store conn.new) }
-    ensures idle { conn.new.in_transaction ≡ false }
 {
     row_laws::batches_by_name();
     row_laws::records_by_name();
@@ -40,7 +39,6 @@ pub fn first_waiting<S: Alter>(
     ensures value { Tells (state S.Store conn.old) (state S.Store conn.new) result
         (λ c answer. answer ≡ first_waiting c.facts batch.now) }
     ensures looks { Looks (state S.Store conn.old) (state S.Store conn.new) }
-    ensures idle { conn.new.in_transaction ≡ false }
 {
     row_laws::batches_by_name();
     row_laws::records_of_batches();

@@ -20,7 +20,6 @@ pub fn kept<S: Alter>(
     ensures value { Tells (state S.Store conn.old) (state S.Store conn.new) result
         (λ c answer. answer ≡ option_map reply_of_entry (entry_of c.kept client.now number)) }
     ensures looks { Looks (state S.Store conn.old) (state S.Store conn.new) }
-    ensures idle { conn.new.in_transaction ≡ false }
 {
     if number >= END {
         return Err(Error::InvalidQuery);
@@ -35,7 +34,6 @@ pub fn mark<S: Alter>(conn: &mut Connection<S>, client: &Name) -> Result<u64, Er
     ensures value { Tells (state S.Store conn.old) (state S.Store conn.new) result
         (λ c answer. answer ≡ mark_of c.marks client.now) }
     ensures looks { Looks (state S.Store conn.old) (state S.Store conn.new) }
-    ensures idle { conn.new.in_transaction ≡ false }
 {
     row_laws::replies_by_number();
     row_reads::mark(conn, client)
@@ -47,7 +45,6 @@ pub fn reply_count<S: Alter>(conn: &mut Connection<S>) -> Result<u64, Error>
     ensures value { Tells (state S.Store conn.old) (state S.Store conn.new) result
         (λ c answer. answer ≡ length c.kept) }
     ensures looks { Looks (state S.Store conn.old) (state S.Store conn.new) }
-    ensures idle { conn.new.in_transaction ≡ false }
 {
     row_reads::reply_count(conn)
 }

@@ -20,7 +20,6 @@ fn lines_with<S: Alter>(conn: &mut Connection<S>, id: u64) -> Result<Vec<RecordL
     ensures value { Tells (state S.Store conn.old) (state S.Store conn.new) result
         (λ c lines. lines.items ≡ lines_with c.facts id) }
     ensures looks { Looks (state S.Store conn.old) (state S.Store conn.new) }
-    ensures idle { conn.new.in_transaction ≡ false }
 {
     row_laws::records_of_batches();
     let records = records_of(conn, id)?;
@@ -38,7 +37,6 @@ pub fn record_lines<S: Alter>(
     ensures value { Tells (state S.Store conn.old) (state S.Store conn.new) result
         (λ c lines. lines.items ≡ record_lines c.facts batch.now) }
     ensures looks { Looks (state S.Store conn.old) (state S.Store conn.new) }
-    ensures idle { conn.new.in_transaction ≡ false }
 {
     row_laws::batches_by_name();
     row_laws::lines_by_rows();
@@ -56,7 +54,6 @@ pub fn blank_totals<S: Alter>(
     ensures value { Tells (state S.Store conn.old) (state S.Store conn.new) result
         (λ c answer. answer ≡ blank_totals c.facts product.now) }
     ensures looks { Looks (state S.Store conn.old) (state S.Store conn.new) }
-    ensures idle { conn.new.in_transaction ≡ false }
 {
     row_laws::blanks_by_rows();
     let lots = lots_of(conn, product)?;

@@ -1,12 +1,17 @@
 //! The segments of a record's plan are read.
-ghost use Rattle.std.specs.Prelude.{IfOk, IfSome, false, ℕ, List, ◌≡◌, ◌<◌, ◌≤◌, ◌^◌};
+ghost use Rattle.std.specs.Prelude.{IfOk, IfSome, IsTrue, false, ℕ, None, Some, ◌≡◌, ◌≤◌};
 ghost use Rattle.sqlite.specs.Held.{state};
+ghost use Rattle.sqlite.specs.State.{HasCleanDisk};
 ghost use Rattle.job_facts.specs.declared.rows.SegmentRow.{SegmentRow as SegmentRowValue};
 ghost use Rattle.job_facts.specs.Rows.{segment_row_of};
-ghost use Rattle.row_reads.specs.Reads.{Looks};
-ghost use Rattle.store_reads.specs.Segments.{IsBatchProduct, plan_at, product_in, row_in_plan};
+ghost use Rattle.row_reads.specs.Reads.{Looks, TellsRows};
+ghost use Rattle.store_reads.specs.declared.known.KnownRecord.{KnownRecord as KnownRecordValue};
+ghost use Rattle.store_reads.specs.Fixed.{AreNamedApart, fixed};
+ghost use Rattle.store_reads.specs.Known.{IsKnownIn, Knows, TellsKnown, TellsSome};
+ghost use Rattle.store_reads.specs.Segments.{IsBatchProduct, product_in};
 ghost use Rattle.store_reads.specs.Tells.{Tells};
 
+use crate::known::{Known, KnownRecord};
 use crate::plans::{head_at, joined};
 use job_facts::SegmentRow;
 use row_reads::{batch_told, coded_of, groupings_of, record_named};
@@ -20,19 +25,20 @@ pub(crate) struct BatchProduct {
     pub(crate) product: Product,
 }
 
+// ---- a record
+
 // The id of the batch of this name, and its product.
 fn product_in<S: Alter>(
     conn: &mut Connection<S>,
     batch: &Name,
 ) -> Result<Option<BatchProduct>, Error>
     requires { conn.old.in_transaction ≡ false }
-    ensures value { Tells (state S.Store conn.old) (state S.Store conn.new) result
-        (λ c answer. answer ≡ product_in c.facts batch.now) }
+    ensures value { TellsRows (state S.Store conn.old) (state S.Store conn.new) result
+        (λ t answer. AreNamedApart (fixed t)
+        → answer ≡ product_in t.products t.batches batch.now) }
     ensures ranged { IfOk result (λ answer. IfSome answer IsBatchProduct) }
     ensures looks { Looks (state S.Store conn.old) (state S.Store conn.new) }
-    ensures idle { conn.new.in_transaction ≡ false }
 {
-    row_laws::batches_by_name();
     let Some(told) = batch_told(conn, batch)? else {
         return Ok(None);
     };
@@ -43,61 +49,23 @@ fn product_in<S: Alter>(
     }))
 }
 
-// Segment `segment` of application `app` of the record at this place of a batch, whatever its name,
-// if it has it. What is read of the record's other segments are their places and marks alone.
-fn segment_at<S: Alter>(
-    conn: &mut Connection<S>,
-    batch: &BatchProduct,
-    place: u64,
-    app: u16,
-    segment: u16,
-) -> Result<Option<SegmentRow>, Error>
-    requires idle { conn.old.in_transaction ≡ false }
-    requires batch { IsBatchProduct batch.now }
-    requires place { place < 2 ^ 63 }
-    ensures value { Tells (state S.Store conn.old) (state S.Store conn.new) result
-        (λ c answer. (r : List ℕ)
-        → answer ≡ row_in_plan (plan_at c.facts batch.now place r) app segment) }
-    ensures ranged { IfOk result
-        (λ answer. IfSome answer (λ (row : SegmentRowValue). row.low ≤ 31)) }
-    ensures looks { Looks (state S.Store conn.old) (state S.Store conn.new) }
-    ensures idle { conn.new.in_transaction ≡ false }
-{
-    row_laws::groupings_by_place();
-    let groupings = groupings_of(conn, batch.id, place)?;
-    let alloc = *groupings.allocator();
-    let Some(head) = head_at(alloc, groupings, app, segment)? else {
-        return Ok(None);
-    };
-    let coded = coded_of(conn, batch.id, place, &head.aid, head.rank)?;
-    let bytes = joined(alloc, coded.as_slice())?;
-    Ok(Some(SegmentRow {
-        aid: head.aid,
-        bytes,
-        enc: head.enc,
-        tol: head.tol,
-        last: head.last,
-        max: batch.product.max,
-        low: batch.product.low,
-    }))
-}
-
-/// Segment `segment` of application `app` of a record, both from 0, if the record has it.
-pub fn segment<S: Alter>(
+// The record of this name in the batch of this name, if it is there.
+fn record_read<S: Alter>(
     conn: &mut Connection<S>,
     batch: &Name,
     rec: &Name,
-    app: u16,
-    segment: u16,
-) -> Result<Option<SegmentRow>, Error>
+) -> Result<Option<KnownRecord>, Error>
     requires { conn.old.in_transaction ≡ false }
-    ensures value { Tells (state S.Store conn.old) (state S.Store conn.new) result
-        (λ c answer. answer ≡ segment_row_of c.facts batch.now rec.now app segment) }
-    ensures ranged { IfOk result
-        (λ answer. IfSome answer (λ (row : SegmentRowValue). row.low ≤ 31)) }
+    ensures known { TellsRows (state S.Store conn.old) (state S.Store conn.new) result
+        (λ t found. AreNamedApart (fixed t) → IfSome found (IsKnownIn (fixed t))) }
+    ensures named { IfOk result (λ found. IfSome found
+        (λ (k : KnownRecordValue). (k.batch ≡ batch.now) × (k.rec ≡ rec.now))) }
+    ensures none { Tells (state S.Store conn.old) (state S.Store conn.new) result
+        (λ c found. found ≡ None → (a q : ℕ)
+        → None ≡ segment_row_of c.facts batch.now rec.now a q) }
     ensures looks { Looks (state S.Store conn.old) (state S.Store conn.new) }
-    ensures idle { conn.new.in_transaction ≡ false }
 {
+    row_laws::batches_by_name();
     row_laws::records_by_name();
     row_laws::plans_by_rows();
     let Some(found) = product_in(conn, batch)? else {
@@ -106,5 +74,131 @@ pub fn segment<S: Alter>(
     let Some(card) = record_named(conn, found.id, rec)? else {
         return Ok(None);
     };
-    segment_at(conn, &found, card.place, app, segment)
+    let groupings = groupings_of(conn, found.id, card.place)?;
+    Ok(Some(KnownRecord {
+        batch: *batch,
+        rec: *rec,
+        id: found.id,
+        product: found.product,
+        place: card.place,
+        groupings,
+    }))
+}
+
+// ---- a segment
+
+// Segment `segment` of application `app` of a record, if it has it. Of its other segments nothing
+// is read.
+fn segment_of<S: Alter>(
+    conn: &mut Connection<S>,
+    card: &KnownRecord,
+    app: u16,
+    segment: u16,
+) -> Result<Option<SegmentRow>, Error>
+    requires { conn.old.in_transaction ≡ false }
+    ensures value { TellsKnown card.now (state S.Store conn.old) (state S.Store conn.new) result
+        (λ c answer. answer ≡ segment_row_of c.facts card.now.batch card.now.rec app segment) }
+    ensures open { HasCleanDisk (state S.Store conn.new) → IfOk result (λ answer.
+        IfSome answer (λ (row : SegmentRowValue). IsTrue (state S.Store conn.old).is_open)) }
+    ensures ranged { IfOk result
+        (λ answer. IfSome answer (λ (row : SegmentRowValue). row.low ≤ 31)) }
+    ensures looks { Looks (state S.Store conn.old) (state S.Store conn.new) }
+{
+    row_laws::batches_by_name();
+    row_laws::records_by_name();
+    row_laws::plans_by_rows();
+    row_laws::groupings_by_place();
+    let alloc = *card.groupings.allocator();
+    let Some(head) = head_at(alloc, card.groupings.as_slice(), app, segment)? else {
+        return Ok(None);
+    };
+    let coded = coded_of(conn, card.id, card.place, &head.aid, head.rank)?;
+    let bytes = joined(alloc, coded.as_slice())?;
+    Ok(Some(SegmentRow {
+        aid: head.aid,
+        bytes,
+        enc: head.enc,
+        tol: head.tol,
+        last: head.last,
+        max: card.product.max,
+        low: card.product.low,
+    }))
+}
+
+// The segment, where its record is known and has it.
+fn known_segment<S: Alter>(
+    conn: &mut Connection<S>,
+    known: &Known,
+    batch: &Name,
+    rec: &Name,
+    app: u16,
+    segment: u16,
+) -> Result<Option<SegmentRow>, Error>
+    requires idle { conn.old.in_transaction ≡ false }
+    requires knows { Knows (state S.Store conn.old) known.now }
+    ensures value { TellsSome (state S.Store conn.old) (state S.Store conn.new) result
+        (λ c row. Some row ≡ segment_row_of c.facts batch.now rec.now app segment) }
+    ensures ranged { IfOk result
+        (λ answer. IfSome answer (λ (row : SegmentRowValue). row.low ≤ 31)) }
+    ensures looks { Looks (state S.Store conn.old) (state S.Store conn.new) }
+{
+    row_laws::batches_by_name();
+    row_laws::records_by_name();
+    match known.named(batch, rec) {
+        None => Ok(None),
+        Some(card) => segment_of(conn, card, app, segment),
+    }
+}
+
+// The segment with its record, which is then known.
+fn segment_read<S: Alter>(
+    conn: &mut Connection<S>,
+    known: &mut Known,
+    batch: &Name,
+    rec: &Name,
+    app: u16,
+    segment: u16,
+) -> Result<Option<SegmentRow>, Error>
+    requires idle { conn.old.in_transaction ≡ false }
+    requires knows { Knows (state S.Store conn.old) known.old }
+    ensures value { Tells (state S.Store conn.old) (state S.Store conn.new) result
+        (λ c answer. answer ≡ segment_row_of c.facts batch.now rec.now app segment) }
+    ensures ranged { IfOk result
+        (λ answer. IfSome answer (λ (row : SegmentRowValue). row.low ≤ 31)) }
+    ensures knows { Knows (state S.Store conn.new) known.new }
+    ensures looks { Looks (state S.Store conn.old) (state S.Store conn.new) }
+{
+    row_laws::batches_by_name();
+    row_laws::records_by_name();
+    let Some(card) = record_read(conn, batch, rec)? else {
+        return Ok(None);
+    };
+    let row = segment_of(conn, &card, app, segment)?;
+    known.keep(card);
+    Ok(row)
+}
+
+/// Segment `segment` of application `app` of a record, both from 0, if the record has it. Its
+/// record is read unless it is known, and is known from then on.
+pub fn segment<S: Alter>(
+    conn: &mut Connection<S>,
+    known: &mut Known,
+    batch: &Name,
+    rec: &Name,
+    app: u16,
+    segment: u16,
+) -> Result<Option<SegmentRow>, Error>
+    requires idle { conn.old.in_transaction ≡ false }
+    requires knows { Knows (state S.Store conn.old) known.old }
+    ensures value { Tells (state S.Store conn.old) (state S.Store conn.new) result
+        (λ c answer. answer ≡ segment_row_of c.facts batch.now rec.now app segment) }
+    ensures ranged { IfOk result
+        (λ answer. IfSome answer (λ (row : SegmentRowValue). row.low ≤ 31)) }
+    ensures knows { Knows (state S.Store conn.new) known.new }
+    ensures looks { Looks (state S.Store conn.old) (state S.Store conn.new) }
+{
+    match known_segment(conn, known, batch, rec, app, segment)? {
+        Some(row) => Ok(Some(row)),
+        None => segment_read(conn, known, batch, rec, app, segment),
+    }
 }

@@ -6,50 +6,67 @@ ghost use Rattle.job_facts.specs.declared.rows.SessionRow.{SessionRow as Session
 ghost use Rattle.job_facts.specs.Rows.{session_row_of};
 ghost use Rattle.job_facts.specs.States.{running_session};
 ghost use Rattle.row_reads.specs.Reads.{Looks};
+ghost use Rattle.store_reads.specs.Known.{Knows};
+ghost use Rattle.store_reads.specs.Sessions.{row_named};
 ghost use Rattle.store_reads.specs.Tells.{Tells};
 
+use crate::known::Known;
 use crate::numbers::END;
 use job_facts::SessionRow;
-use row_reads::{batch_name, record_at};
+use row_reads::{SessionAt, batch_name, record_at};
 use sqlite::{Alter, Connection, Error};
 use store_data::Name;
 
-/// The session of this number.
+// A session, of the record of this name in the batch of this name.
+fn row_named(found: &SessionAt, batch: Name, rec: Name) -> SessionRow
+    ensures { result ≡ row_named found.now batch rec }
+{
+    SessionRow {
+        machine: found.machine,
+        batch,
+        rec,
+        stands: found.stands,
+        words: found.words,
+        cursor: found.cursor,
+    }
+}
+
+/// The session of this number. The names of its batch and its record are read unless the record is
+/// known.
 pub fn session<S: Alter>(
     conn: &mut Connection<S>,
+    known: &Known,
     session: u64,
 ) -> Result<Option<SessionRow>, Error>
-    requires { conn.old.in_transaction ≡ false }
+    requires idle { conn.old.in_transaction ≡ false }
+    requires knows { Knows (state S.Store conn.old) known.now }
     ensures value { Tells (state S.Store conn.old) (state S.Store conn.new) result
         (λ c answer. answer ≡ session_row_of c.facts session) }
     ensures ranged { IfOk result
         (λ answer. IfSome answer (λ (row : SessionRowValue). IsCursor row.cursor)) }
     ensures looks { Looks (state S.Store conn.old) (state S.Store conn.new) }
-    ensures idle { conn.new.in_transaction ≡ false }
 {
     if session >= END {
         return Err(Error::InvalidQuery);
     }
     row_laws::sessions_by_number();
     row_laws::batches_by_id();
+    row_laws::batches_by_name();
+    row_laws::records_by_name();
     row_laws::records_by_place();
     let Some(found) = row_reads::session(conn, session)? else {
         return Ok(None);
     };
+    if let Some(card) = known.at(found.batch, found.place) {
+        return Ok(Some(row_named(&found, card.batch, card.rec)));
+    }
     let Some(batch) = batch_name(conn, found.batch)? else {
         return Ok(None);
     };
     let Some(card) = record_at(conn, found.batch, found.place)? else {
         return Ok(None);
     };
-    Ok(Some(SessionRow {
-        machine: found.machine,
-        batch,
-        rec: card.name,
-        stands: found.stands,
-        words: found.words,
-        cursor: found.cursor,
-    }))
+    Ok(Some(row_named(&found, batch, card.name)))
 }
 
 /// The number of a machine's running session.
@@ -61,7 +78,6 @@ pub fn running_session<S: Alter>(
     ensures value { Tells (state S.Store conn.old) (state S.Store conn.new) result
         (λ c answer. answer ≡ running_session c.facts machine.now) }
     ensures looks { Looks (state S.Store conn.old) (state S.Store conn.new) }
-    ensures idle { conn.new.in_transaction ≡ false }
 {
     row_laws::running_sessions_by_machine();
     row_reads::running_session(conn, machine)

@@ -1,33 +1,33 @@
 use Rattle.std.proofs.Common.{arith}
 use Rattle.sqlite.specs.Held.{state}
-use Rattle.job_facts.specs.Contents.{IsOwed, committed}
-use Rattle.sql_rows.specs.Image.{Moves}
-use Rattle.table_rows.specs.After.{rows_written}
 use Rattle.table_rows.specs.Kept.{kept_reply}
-use Rattle.schema.specs.Takes.{Takes}
-use Rattle.schema.proofs.Taking.{change_taken, ends_then, left_then}
+use Rattle.store_reads.proofs.Knowing.{knows_after}
+use Rattle.schema.proofs.Knowing.{knows_written}
+use Rattle.schema.proofs.Taking.{change_ends, change_left}
 use Rattle.schema.proofs.keeping.keep.Goals as goal
 
 pub returns-in-Ok-clause-ok : goal.returns-in-Ok-clause-ok
 returns-in-Ok-clause-ok g c clean =
-    let kept = kept_reply c.args.entry.now in
-    let change = c.args.change.now in
-    let w = c.in-Ok.writing in
-    let old = state g.S.Store c.args.conn.now in
     let looks = c.writing_of.ensures.looks in
-    ends_then (Moves (rows_written w kept)) (Takes (IsOwed change kept) (λ d. committed d change kept))
-    old (state g.S.Store c.writing_of.new.conn) (state g.S.Store c.commit.new.conn) looks.kept looks.survives
-    (λ early b moves. change_taken c.rows_with_reply.ensures c.rows_after_change.ensures change w kept old.now b (λ d sound owed holds. c.in-Ok.ensures.value early d sound holds owed.keeps) moves)
-    c.commit.result (omega (arith, c.commit.ensures.crash.clean)) (c.commit.ensures.ok clean)
+    change_ends c.rows_with_reply.ensures c.rows_after_change.ensures c.args.change.now c.in-Ok.writing (kept_reply c.args.entry.now)
+    (state g.S.Store c.args.conn.now) (state g.S.Store c.writing_of.new.conn) (state g.S.Store c.commit.new.conn) looks.kept looks.survives
+    (λ early d sound owed holds. c.in-Ok.ensures.value early d sound holds owed.keeps) c.commit.result (omega (arith, c.commit.ensures.crash.clean)) (c.commit.ensures.ok clean)
 
 pub returns-in-Ok-clause-crash : goal.returns-in-Ok-clause-crash
 returns-in-Ok-clause-crash g c =
-    let kept = kept_reply c.args.entry.now in
-    let change = c.args.change.now in
-    let w = c.in-Ok.writing in
-    let old = state g.S.Store c.args.conn.now in
     let looks = c.writing_of.ensures.looks in
-    left_then (Moves (rows_written w kept)) (Takes (IsOwed change kept) (λ d. committed d change kept))
-    old (state g.S.Store c.writing_of.new.conn) (state g.S.Store c.commit.new.conn) looks.kept looks.survives
-    (λ early b moves. change_taken c.rows_with_reply.ensures c.rows_after_change.ensures change w kept old.now b (λ d sound owed holds. c.in-Ok.ensures.value early d sound holds owed.keeps) moves)
-    c.commit.ensures.crash
+    change_left c.rows_with_reply.ensures c.rows_after_change.ensures c.args.change.now c.in-Ok.writing (kept_reply c.args.entry.now)
+    (state g.S.Store c.args.conn.now) (state g.S.Store c.writing_of.new.conn) (state g.S.Store c.commit.new.conn) looks.kept looks.survives
+    (λ early d sound owed holds. c.in-Ok.ensures.value early d sound holds owed.keeps) c.commit.ensures.crash
+
+pub returns-in-Ok-clause-knows : goal.returns-in-Ok-clause-knows
+returns-in-Ok-clause-knows g c =
+    let kept = kept_reply c.args.entry.now in
+    let old = state g.S.Store c.args.conn.now in
+    let mid = state g.S.Store c.writing_of.new.conn in
+    knows_written c.in-Ok.writing kept mid (state g.S.Store c.commit.new.conn) c.args.known.now c.forget_for.new.self (knows_after old mid c.args.known.now c.writing_of.ensures.looks c.requires.knows)
+    (λ clean. omega (arith, clean, c.commit.ensures.crash.clean)) c.forget_for.ensures.before (λ t. c.forget_for.ensures.after t kept) c.commit.result c.commit.ensures.ok c.commit.ensures.err
+
+pub returns-in-Err-clause-knows : goal.returns-in-Err-clause-knows
+returns-in-Err-clause-knows g c =
+    knows_after (state g.S.Store c.args.conn.now) (state g.S.Store c.writing_of.new.conn) c.args.known.now c.writing_of.ensures.looks c.requires.knows

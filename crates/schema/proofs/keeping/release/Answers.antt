@@ -1,10 +1,14 @@
+use Rattle.std.proofs.Common.{arith, refl}
 use Rattle.sqlite.specs.Held.{state}
 use Rattle.job_facts.specs.Contents.{IsOwedRelease, released}
 use Rattle.sql_rows.specs.Image.{Moves}
 use Rattle.table_rows.specs.After.{rows_written}
 use Rattle.table_rows.specs.Kept.{kept_reply}
 use Rattle.table_rows.specs.declared.writing.Writing.TheVariants as writing
+use Rattle.store_reads.specs.Known.{known_records}
+use Rattle.store_reads.proofs.Knowing.{known_after}
 use Rattle.schema.specs.Takes.{Takes}
+use Rattle.schema.proofs.Knowing.{knows_written}
 use Rattle.schema.proofs.Taking.{ends_as, left_as, release_taken}
 use Rattle.schema.proofs.keeping.release.Goals as goal
 
@@ -21,3 +25,10 @@ returns-clause-crash g c =
     let upto = c.args.upto in
     left_as (Moves (rows_written (writing.Releases kept.client upto) kept)) (Takes (IsOwedRelease upto kept) (λ d. released d upto kept)) (state g.S.Store c.args.conn.now) (state g.S.Store c.commit.new.conn)
     (release_taken c.rows_after_release.ensures upto kept _) c.commit.ensures.crash
+
+pub returns-clause-knows : goal.returns-clause-knows
+returns-clause-knows g c =
+    let kept = kept_reply c.args.entry.now in
+    let w = writing.Releases kept.client c.args.upto in
+    knows_written w kept (state g.S.Store c.args.conn.now) (state g.S.Store c.commit.new.conn) c.args.known.now c.args.known.now c.requires.knows
+    (λ clean. omega (arith, clean, c.commit.ensures.crash.clean)) (λ t known. known) (λ t. known_after w kept t (known_records c.args.known.now) refl) c.commit.result c.commit.ensures.ok c.commit.ensures.err

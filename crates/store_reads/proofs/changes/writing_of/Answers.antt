@@ -17,5 +17,5 @@ returns-in_ok-place-in-Remakes-clause-value g c clean d sound is owed = rw c.in-
 pub returns-in_ok-place-in-Withdraws-clause-value : goal.returns-in_ok-place-in-Withdraws-clause-value
 returns-in_ok-place-in-Withdraws-clause-value g c clean d sound is owed = rw c.in-Withdraws.is (c.in_ok-place-in-Withdraws.place, (c.in_ok-place-in-Withdraws.ensures.value clean).1 d sound is, refl)
 
-pub returns-in_ok-discarded-in-Discards-clause-value : goal.returns-in_ok-discarded-in-Discards-clause-value
-returns-in_ok-discarded-in-Discards-clause-value g c clean d sound is owed = rw c.in-Discards.is (c.in_ok-discarded-in-Discards.discarded, (c.in_ok-discarded-in-Discards.ensures.value clean).1 d sound is, refl)
+pub returns-in-Discards-clause-value : goal.returns-in-Discards-clause-value
+returns-in-Discards-clause-value g c clean = rw c.in-Discards.is (if_ok c.discard_writing.result _ _ (λ w told d sound is owed. told.1 d sound is) (c.discard_writing.ensures.value clean))

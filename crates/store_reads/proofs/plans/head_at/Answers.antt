@@ -7,5 +7,5 @@ use Rattle.store_reads.proofs.plans.head_at.Goals as goal
 
 pub head_of-requires : goal.head_of-requires
 head_of-requires c =
-    subst (All IsGroupingAt) (sym (c.as_slice-2.ensures.value ∙ c.of_application-own.ensures))
-    (All-filter (λ (g : GroupingAt). bytes_eq g.aid c.in-Some.aid) IsGroupingAt c.args.groupings.items c.requires)
+    subst (All IsGroupingAt) (sym (c.as_slice.ensures.value ∙ c.in_ok-own.ensures))
+    (All-filter (λ (g : GroupingAt). bytes_eq g.aid c.in-Some.aid) IsGroupingAt c.args.groupings.now c.requires)

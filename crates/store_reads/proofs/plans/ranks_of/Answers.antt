@@ -4,7 +4,7 @@ use Rattle.std.specs.List.{range_with_len}
 use Rattle.std.proofs.lemmas.List.{get_or-replicate, take_all}
 use Rattle.store_data.specs.Ranks.{ranks}
 use Rattle.store_reads.proofs.Ranks.{any_has, rank_kept, rank_passed}
-use Rattle.store_reads.proofs.plans.ranks_of.Goals.{then-has-from+in_ok-push, else-has-from}
+use Rattle.store_reads.proofs.plans.ranks_of.Goals.{then-has-rank+in_ok-push, else-has-rank}
 use Rattle.store_reads.proofs.plans.ranks_of.Goals as goal
 
 pub loop-g-init : goal.loop-g-init
@@ -16,13 +16,12 @@ loop-rank-preserved c =
     let k = c.loop-rank.rank in
     let all = take_all c.loop-g.g-index gs c.loop-g-test.false in
     let marked : get_or c.loop-g.has k false ≡ any_has gs k = c.loop-g.invariant.has k c.loop-rank-test.true ∙ ap (λ xs. any_has xs k) all in
-    let at : get_or c.loop-g.has k false ≡ get_or c.loop-g.has c.from-in-loop-rank.result false = ap (λ n. get_or c.loop-g.has n false) (sym c.from-in-loop-rank.ensures) in
-    elim c.if-has-from.branch [
-      | then-has-from+in_ok-push w ↦
-          rank_kept (any_has gs) k c.loop-rank.auto.rank c.loop-rank.ranks.items c.if-has-from.ranks.items c.loop-rank.invariant (sym marked ∙ at ∙ w.if-has-from.true)
+    elim c.if-has-rank.branch [
+      | then-has-rank+in_ok-push w ↦
+          rank_kept (any_has gs) k c.loop-rank.auto.rank c.loop-rank.ranks.items c.if-has-rank.ranks.items c.loop-rank.invariant (sym marked ∙ w.if-has-rank.true)
           (ap (λ (v : Vec ℕ Global). v.items) w.ranks-is ∙ w.in_ok-push.ensures.items)
-      | else-has-from w ↦
-          rank_passed (any_has gs) k c.loop-rank.auto.rank c.loop-rank.ranks.items c.if-has-from.ranks.items c.loop-rank.invariant (sym marked ∙ at ∙ w.if-has-from.false)
+      | else-has-rank w ↦
+          rank_passed (any_has gs) k c.loop-rank.auto.rank c.loop-rank.ranks.items c.if-has-rank.ranks.items c.loop-rank.invariant (sym marked ∙ w.if-has-rank.false)
           (ap (λ (v : Vec ℕ Global). v.items) w.ranks-is)
     ]
 

@@ -1,7 +1,12 @@
-use Rattle.std.proofs.Common.{sym, ◌∙◌}
+use Rattle.std.proofs.Common.{Some, ap, arith, sym, ◌∙◌}
+use Rattle.std.specs.Prelude.{find}
 use Rattle.sqlite.specs.Held.{state}
-use Rattle.image_laws.specs.Image.{stored_batches, stored_records, stored_sessions}
-use Rattle.store_reads.proofs.Found.{no_batch, no_record, no_session, session_told}
+use Rattle.sqlite.specs.State.{HasCleanDisk}
+use Rattle.image_laws.specs.Image.{image, stored_batches, stored_records, stored_sessions}
+use Rattle.table_rows.specs.Keys.{is_record_at}
+use Rattle.store_reads.proofs.ByKnown.{session_by_known, sound_apart}
+use Rattle.store_reads.proofs.Found.{name_told, no_batch, no_record, no_session, session_told}
+use Rattle.store_reads.proofs.KnownRows.{known_in}
 use Rattle.store_reads.proofs.Telling.{both_shown, shown, three_shown}
 use Rattle.store_reads.proofs.sessions.session.Goals as goal
 
@@ -42,6 +47,24 @@ returns-clause-value g c =
     c.session.ensures.looks c.batch_name.ensures.looks c.record_at.ensures.looks
     (rw c.in-Some.is at c.in_ok-found.ensures.found) (rw c.in-Some-2.is at c.in_ok-batch.ensures.found) (rw c.in-Some-3.is at c.in_ok-card.ensures.found)
     (λ d sound first second third.
-    session_told (stored_sessions d.facts) (stored_batches d.facts) (stored_records d.facts) id s (first (c.sessions_by_number.ensures.once d.facts id))
-    c.in-Some-2.batch (second (c.batches_by_id.ensures.once d.facts s.batch)) c.in-Some-3.card (third (c.records_by_place.ensures.once d.facts s.batch s.place))
+    ap Some c.row_named-2.ensures
+    ∙ session_told (stored_sessions d.facts) (stored_batches d.facts) (stored_records d.facts) id s (first (c.sessions_by_number.ensures.once d.facts id))
+    c.in-Some-2.batch (second (c.batches_by_id.ensures.once d.facts s.batch))
+    c.in-Some-3.card.name (name_told (find (is_record_at s.batch s.place) (stored_records d.facts)) c.in-Some-3.card (third (c.records_by_place.ensures.once d.facts s.batch s.place)))
     ∙ sym (c.sessions_by_number.ensures.row d.facts id sound.facts))
+
+pub returns-in-Some-at-clause-value : goal.returns-in-Some-at-clause-value
+returns-in-Some-at-clause-value g c clean =
+    let old = state g.S.Store c.args.conn.now in
+    let s = c.in-Some.found in
+    let k = c.in-Some-at.card.now in
+    let early : HasCleanDisk old = omega (arith, clean, c.session.ensures.looks.survives.clean) in
+    let shows = (rw c.in-Some.is at c.in_ok-found.ensures.found) clean in (
+      shows.0,
+      λ d sound is.
+          let known = known_in old c.args.known.now c.requires.knows early shows.0 k c.in-Some-at.ensures.known (image d) is (sound_apart c.batches_by_name.ensures.once c.records_by_name.ensures.once d sound) in
+          ap Some c.row_named.ensures
+          ∙ session_by_known d k known (c.batches_by_id.ensures.once d.facts) (c.records_by_place.ensures.once d.facts) c.args.session s (shows.1 (image d) is (c.sessions_by_number.ensures.once d.facts c.args.session))
+          c.in-Some-at.ensures.id c.in-Some-at.ensures.place
+          ∙ sym (c.sessions_by_number.ensures.row d.facts c.args.session sound.facts),
+    )

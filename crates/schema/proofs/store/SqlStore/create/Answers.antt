@@ -1,7 +1,16 @@
 use Rattle.std.proofs.Common.{sym, ◌∙◌}
 use Rattle.sqlite.specs.Held.{state}
 use Rattle.schema.proofs.Founding.{before_or_nothing, holds_nothing, left_made, only_nothing}
+use Rattle.schema.proofs.Knowing.{knows_created}
 use Rattle.schema.proofs.store.SqlStore.create.Goals as goal
+
+pub invariant_of-result : goal.invariant_of-result
+invariant_of-result g c =
+    let none = sym c.schema.ensures.value ∙ c.is_empty.ensures.0 c.if-not-is_empty.false in
+    record {
+      idle = c.make_tables.ensures.idle;
+      knows = knows_created (state g.S.Store c.args.conn) (state g.S.Store c.make_tables.new.conn) c.new.result c.new.ensures none c.in-Ok.ensures.ok;
+    }
 
 pub returns-in-Ok-clause-holds : goal.returns-in-Ok-clause-holds
 returns-in-Ok-clause-holds g c clean =

@@ -9,4 +9,4 @@ returns-clause-all_or_nothing g c =
     let v = c.args in
     let entry : Entry = record { client = v.client.now; number = v.number; ask = v.ask.now; status = v.status; body = v.body.now } in
     told_commits c.same_rows_same_contents.ensures (IsOwed c.args.change.now entry) (λ d. committed d c.args.change.now entry) (λ d sound owed. sound_committed d entry sound c.args.change.now owed)
-    (state g.S.Store c.args.self.now.conn) (state g.S.Store c.keep-answer.new.conn) _ _ _ _ c.keep-answer.ensures.crash c.keep-answer.result c.told-2.result c.told-2.ensures.told c.keep-answer.ensures.ok c.keep-answer.ensures.err
+    (state g.S.Store c.args.self.now.conn) (state g.S.Store c.keep-answer.new.conn) _ _ _ _ c.keep-answer.ensures.crash c.keep-answer.result c.told.result c.told.ensures.told c.keep-answer.ensures.ok c.keep-answer.ensures.err

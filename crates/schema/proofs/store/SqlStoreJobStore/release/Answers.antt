@@ -9,4 +9,4 @@ returns-clause-all_or_nothing g c =
     let v = c.args in
     let entry : Entry = record { client = v.client.now; number = v.number; ask = v.ask.now; status = v.status; body = v.body.now } in
     told_commits c.same_rows_same_contents.ensures (IsOwedRelease c.args.mark entry) (λ d. released d c.args.mark entry) (λ d sound owed. sound_released d entry sound c.args.mark owed)
-    (state g.S.Store c.args.self.now.conn) (state g.S.Store c.release-answer.new.conn) _ _ _ _ c.release-answer.ensures.crash c.release-answer.result c.told-2.result c.told-2.ensures.told c.release-answer.ensures.ok c.release-answer.ensures.err
+    (state g.S.Store c.args.self.now.conn) (state g.S.Store c.release-answer.new.conn) _ _ _ _ c.release-answer.ensures.crash c.release-answer.result c.told.result c.told.ensures.told c.release-answer.ensures.ok c.release-answer.ensures.err

@@ -1,10 +1,12 @@
+use Rattle.std.proofs.Common.{refl}
 use Rattle.sqlite.specs.Held.{state}
 use Rattle.store_reads.proofs.Placed.{lot_discarded}
 use Rattle.store_reads.proofs.Telling.{shown}
-use Rattle.store_reads.proofs.changes.discarded.Goals as goal
+use Rattle.store_reads.proofs.changes.discard_writing.Goals as goal
 
 pub returns-clause-value : goal.returns-clause-value
 returns-clause-value g c =
     let n = c.args.lot.now in
+    let row = c.in-Some.row in
     shown (state g.S.Store c.args.conn.now) (state g.S.Store c.lot.new.conn) _ _ (rw c.in-Some.is at c.in_ok-row.ensures.found)
-    (λ d sound is. lot_discarded d.facts n (c.lots_by_name.ensures.discarded d.facts n) c.in-Some.row (is (c.lots_by_name.ensures.once d.facts n sound.facts)))
+    (λ d sound is. (row.discarded, lot_discarded d.facts n (c.lots_by_name.ensures.discarded d.facts n) row (is (c.lots_by_name.ensures.once d.facts n sound.facts)), refl))

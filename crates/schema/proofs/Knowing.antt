@@ -1,0 +1,60 @@
+-- What a store knows of records stays so behind its commits, and begins with nothing.
+use Rattle.std.proofs.Common.{◌≡◌, [], All, Result, Ok, Err, OnErr, OnOk, sym, subst}
+use Rattle.std.proofs.Math.Logic.{∥∥₁_map}
+use Rattle.std.proofs.lemmas.List.Elements.{All-nil}
+use Rattle.sqlite.specs.Effect.{Database}
+use Rattle.sqlite.specs.Held.{Held, state}
+use Rattle.sqlite.specs.Store.{Ghosts}
+use Rattle.sqlite.specs.State.{HasCleanDisk, State}
+use Rattle.sqlite.specs.declared.error.Error.{Error}
+use Rattle.job_facts.specs.Contents.{Entry, no_contents}
+use Rattle.table_rows.specs.After.{rows_written}
+use Rattle.table_rows.specs.Tables.{Tables}
+use Rattle.table_rows.specs.declared.writing.Writing.{Writing}
+use Rattle.image_laws.specs.Image.{image}
+use Rattle.sql_base.specs.Columns.{no_schema}
+use Rattle.sql_base.specs.Ends.{Ends, IsKept}
+use Rattle.sql_rows.specs.Image.{IsImage, Moves}
+use Rattle.sql_tables.specs.Opening.{MakesAll}
+use Rattle.row_reads.specs.Reads.{Looks}
+use Rattle.store_reads.specs.declared.known.Known.{Known}
+use Rattle.store_reads.specs.Fixed.{fixed}
+use Rattle.store_reads.specs.Known.{AreKnownIn, HasKnown, IsKnownIn, Knows, known_records}
+use Rattle.store_reads.proofs.Knowing.{knows_after}
+use Rattle.adoption.specs.Adopts.{Adopts}
+use Rattle.adoption.specs.Comes.{Comes}
+use Rattle.schema.proofs.Founding.{founded}
+
+-- ---- a commit
+
+module _ (w : Writing) (entry : Entry) (old new : State) (before after : Known) (knows : Knows old before) (early : HasCleanDisk new → HasCleanDisk old)
+    (stays : (t : Tables) → AreKnownIn t (known_records before) → AreKnownIn t (known_records after))
+    (moves : (t : Tables) → AreKnownIn t (known_records before) → AreKnownIn (rows_written w entry t) (known_records after)) where
+  pub knows_written : {X : Type 0} (r : Result X Error) → (HasCleanDisk new → OnOk r (Ends (Moves (rows_written w entry)) old new)) → (HasCleanDisk new → OnErr r (IsKept old new)) → Knows new after
+  knows_written (Ok x) ok err clean live =
+      let k = ok clean in
+      record { rows = ∥∥₁_map (knows (early clean) k.was_open).rows (λ it. (rows_written w entry it.0, k.made it.0 it.1, moves it.0 it.2)) }
+  knows_written (Err e) ok err clean live =
+      let k = err clean in
+      record { rows = ∥∥₁_map (knows (early clean) (k.was_open live)).rows (λ it. (it.0, subst (IsImage it.0) (sym (k.now_is live)) it.1, stays it.0 it.2)) }
+
+-- ---- the beginning
+
+none_known : (t : Tables) (known : Known) → known_records known ≡ [] → AreKnownIn t (known_records known)
+none_known t known none apart = subst (All (IsKnownIn (fixed t))) (sym none) (All-nil (IsKnownIn (fixed t)))
+
+has_none : (t : Tables) (db : Database) (known : Known) → known_records known ≡ [] → IsImage t db → HasKnown db known
+has_none t db known none is = record { rows = ∣ (t, is, none_known t known none) ∣₁ }
+
+pub knows_created : (old new : State) (known : Known) → known_records known ≡ [] → old.now.schema ≡ no_schema → (HasCleanDisk new → Ends MakesAll old new) → Knows new known
+knows_created old new known none empty made clean live = has_none (image no_contents) new.now known none (founded old.now new.now empty (made clean).made)
+
+pub knows_adopted : (old new : State) (known : Known) → known_records known ≡ [] → (HasCleanDisk new → Comes Adopts old new) → Knows new known
+knows_adopted old new known none comes clean live =
+    let k = comes clean in
+    has_none (image k.made.contents) new.now known none (subst (IsImage (image k.made.contents)) (sym (k.shown live)) k.made.stands)
+
+-- ---- a read
+
+pub knows_still : {S : Type 0} (g : Ghosts S) (old new : Held S) (known : Known) → Looks (state g old) (state g new) → Knows (state g old) known → Knows (state g new) known
+knows_still g old new known = knows_after (state g old) (state g new) known

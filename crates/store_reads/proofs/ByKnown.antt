@@ -1,0 +1,118 @@
+-- What is told of contents by what is known of a record.
+use Rattle.std.proofs.Common.{◌≡◌, ℕ, List, Contains, Option, Some, None, Result, Ok, Err, IfOk, IfSome, IsTrue, map, sym, ap, subst, ◌∙◌, arith}
+use Rattle.std.specs.Prelude.{filter, find, option_map}
+use Rattle.std.specs.List.{flat_map}
+use Rattle.std.specs.Coded.{coded_option}
+use Rattle.std.proofs.Math.Logic.{∥∥₁_elim}
+use Rattle.std.proofs.Props.{props}
+use base.Stored.{Coded-set}
+use Rattle.sqlite.specs.State.{HasCleanDisk, State}
+use Rattle.sqlite.specs.declared.error.Error.{Error}
+use Rattle.job_facts.specs.contracts.rows.SegmentRow.{the_row}
+use Rattle.job_facts.specs.declared.rows.SegmentRow.{SegmentRow}
+use Rattle.job_facts.specs.Contents.{AreSound, Contents}
+use Rattle.job_facts.specs.Facts.{Facts}
+use Rattle.job_facts.specs.Rows.{segment_row_of}
+use Rattle.job_facts.specs.Sound.{IsSound}
+use Rattle.job_facts.specs.States.{plan_for}
+use Rattle.table_rows.specs.Keys.{is_batch, is_batch_named, is_grouping_at, is_record_at, is_record_named, is_session}
+use Rattle.table_rows.specs.Tables.{PassesOnce, StoredBatch, StoredRecord}
+use Rattle.image_laws.specs.Image.{image, stored_batches, stored_groupings, stored_records, stored_sessions}
+use Rattle.row_laws.specs.Telling.{plan_in, session_in}
+use Rattle.row_reads.specs.declared.groupings.CodedAt.{CodedAt}
+use Rattle.row_reads.specs.declared.sessions.SessionAt.{SessionAt}
+use Rattle.row_reads.specs.CardDecoding.{coded_at, coded_line, grouping_at, is_of_segment, line_of, session_at}
+use Rattle.row_reads.specs.Extremes.{AreSorted}
+use Rattle.row_reads.specs.Reads.{Looks}
+use Rattle.sql_rows.specs.Image.{IsImage}
+use Rattle.store_reads.specs.declared.known.Known.{Known}
+use Rattle.store_reads.specs.declared.known.KnownRecord.{KnownRecord}
+use Rattle.store_reads.specs.declared.plans.SegmentHead.{SegmentHead}
+use Rattle.store_reads.specs.declared.segments.BatchProduct.{BatchProduct}
+use Rattle.store_reads.specs.Fixed.{AreNamedApart, fixed}
+use Rattle.store_reads.specs.Known.{IsKnownIn, Knows, TellsKnown, TellsSome, known_records}
+use Rattle.store_reads.specs.Segments.{head_at, plan_at, row_in_plan}
+use Rattle.store_reads.specs.Sessions.{row_named}
+use Rattle.store_reads.proofs.Found.{session_told}
+use Rattle.store_reads.proofs.KnownRows.{batch_with_id, known_in, names_apart, product_with_name, record_with_name, record_with_place}
+use Rattle.store_reads.proofs.Ordered.{Rises}
+use Rattle.store_reads.proofs.SegmentRows.{row_of_head, row_with_head, row_without_head, segment_told}
+use Rattle.store_reads.proofs.Telling.{Shows, ShowsRows}
+
+pub sound_apart : ((f : Facts) (n : List ℕ) → IsSound f → PassesOnce (is_batch_named n) (stored_batches f)) → ((f : Facts) (id : ℕ) (n : List ℕ) → PassesOnce (is_record_named id n) (stored_records f))
+    → (c : Contents) → AreSound c → AreNamedApart (fixed (image c))
+sound_apart batches records c sound = names_apart c sound.facts.named.products.once (λ n. batches c.facts n sound.facts) (records c.facts)
+
+-- ---- a session
+
+module _ (c : Contents) (k : KnownRecord) (known : ∥ IsKnownIn (fixed (image c)) k ∥₁) (batches_once : (id : ℕ) → PassesOnce (is_batch id) (stored_batches c.facts))
+    (records_once : (id place : ℕ) → PassesOnce (is_record_at id place) (stored_records c.facts)) where
+  batch_named : (n : ℕ) → k.id ≡ n → Some k.batch ≡ option_map (λ (b : StoredBatch). b.name) (find (is_batch n) (stored_batches c.facts))
+  batch_named n is =
+      subst (λ (m : ℕ). Some k.batch ≡ option_map (λ (b : StoredBatch). b.name) (find (is_batch m) (stored_batches c.facts))) is
+      (∥∥₁_elim known (search props) (λ it. batch_with_id (image c) k it (batches_once k.id)))
+
+  record_named : (n p : ℕ) → k.id ≡ n → k.place ≡ p → Some k.rec ≡ option_map (λ (r : StoredRecord). r.name) (find (is_record_at n p) (stored_records c.facts))
+  record_named n p id_is place_is =
+      subst (λ (m : ℕ). Some k.rec ≡ option_map (λ (r : StoredRecord). r.name) (find (is_record_at m p) (stored_records c.facts))) id_is
+      (subst (λ (m : ℕ). Some k.rec ≡ option_map (λ (r : StoredRecord). r.name) (find (is_record_at k.id m) (stored_records c.facts))) place_is
+      (∥∥₁_elim known (search props) (λ it. record_with_place (image c) k it (records_once k.id k.place))))
+
+  pub session_by_known : (id : ℕ) (s : SessionAt) → Some s ≡ option_map session_at (find (is_session id) (stored_sessions c.facts)) → k.id ≡ s.batch → k.place ≡ s.place
+      → Some (row_named s k.batch k.rec) ≡ session_in (stored_sessions c.facts) (stored_batches c.facts) (stored_records c.facts) id
+  session_by_known id s s_is id_is place_is =
+      session_told (stored_sessions c.facts) (stored_batches c.facts) (stored_records c.facts) id s s_is k.batch (batch_named s.batch id_is) k.rec (record_named s.batch s.place id_is place_is)
+
+-- ---- a segment
+
+module _ (c : Contents) (k : KnownRecord) (it : IsKnownIn (fixed (image c)) k) (apart : AreNamedApart (fixed (image c))) (a q : ℕ)
+    (law : plan_for c.facts k.batch k.rec ≡ plan_in c.facts.products (stored_batches c.facts) (stored_records c.facts) (stored_groupings c.facts) k.batch k.rec) where
+  abbrev under : BatchProduct
+  under = record { id = k.id; product = k.product }
+
+  row_told : (found : Option SegmentRow) → found ≡ row_in_plan (plan_at c.facts under k.place k.rec) a q → found ≡ segment_row_of c.facts k.batch k.rec a q
+  row_told found is =
+      let x = record_with_name (image c) k it apart in
+      segment_told c.facts k.batch k.rec a q law under (product_with_name (image c) k it apart) x.0 x.1 found (is ∙ ap (λ n. row_in_plan (plan_at c.facts under n k.rec) a q) (sym x.2))
+
+  module _ (rising : Rises grouping_at line_of (filter (is_grouping_at k.id k.place) (stored_groupings c.facts))) where
+    pub without_head : None ≡ head_at k.groupings.items a q → None ≡ segment_row_of c.facts k.batch k.rec a q
+    without_head none = row_told None (row_without_head c.facts under k.place a q k.rec rising k.groupings.items it.groupings none)
+
+    pub with_head : (h : SegmentHead) → Some h ≡ head_at k.groupings.items a q
+        → (cs : List CodedAt) → AreSorted coded_line (map coded_at (filter (is_of_segment k.id k.place h.aid h.rank) (stored_groupings c.facts))) cs
+        → Some (row_of_head under h (flat_map (λ (g : CodedAt). g.coded) cs)) ≡ segment_row_of c.facts k.batch k.rec a q
+    with_head h h_is cs coded =
+        row_told (Some (row_of_head under h (flat_map (λ (g : CodedAt). g.coded) cs))) (row_with_head c.facts under k.place a q k.rec rising k.groupings.items it.groupings h h_is cs coded)
+
+module _ (k : KnownRecord) (b r : List ℕ) (b_is : k.batch ≡ b) (r_is : k.rec ≡ r) (a q : ℕ) where
+  of_names : (f : Facts) → segment_row_of f k.batch k.rec a q ≡ segment_row_of f b r a q
+  of_names f = ap (λ n. segment_row_of f n k.rec a q) b_is ∙ ap (λ n. segment_row_of f b n a q) r_is
+
+  -- a record that was known
+  pub segment_by_known : (old new : State) (known : Known) → Knows old known → Contains (known_records known) k → Looks old new → ((c : Contents) → AreSound c → AreNamedApart (fixed (image c)))
+      → (result : Result (Option SegmentRow) Error) → TellsKnown k old new result (λ c answer. answer ≡ segment_row_of c.facts k.batch k.rec a q)
+      → (HasCleanDisk new → IfOk result (λ answer. IfSome answer (λ (row : SegmentRow). IsTrue old.is_open)))
+      → TellsSome old new result (λ c row. Some row ≡ segment_row_of c.facts b r a q)
+  segment_by_known old new known knows there looks apart (Err e) told live = λ clean. tt
+  segment_by_known old new known knows there looks apart (Ok None) told live = λ clean. tt
+  segment_by_known old new known knows there looks apart (Ok (Some row)) told live = λ clean.
+      let early : HasCleanDisk old = omega (arith, clean, looks.survives.clean) in (
+        live clean,
+        λ c sound is.
+            ∥∥₁_elim (known_in old known knows early (live clean) k there (image c) is (apart c sound)) (Coded-set (coded_option the_row.coded) _ _) (λ it. told clean c sound (λ _. is) it)
+            ∙ of_names c.facts,
+      )
+
+  -- a record that was read before
+  pub segment_by_read : (old mid new : State) → Looks old mid → Looks mid new → (HasCleanDisk mid → ShowsRows old (λ t. AreNamedApart (fixed t) → IsKnownIn (fixed t) k))
+      → ((c : Contents) → AreSound c → AreNamedApart (fixed (image c)))
+      → (answer : Option SegmentRow) → (HasCleanDisk new → (c : Contents) → AreSound c → (IsTrue mid.is_open → IsImage (image c) mid.now) → IsKnownIn (fixed (image c)) k → answer ≡ segment_row_of c.facts k.batch k.rec a q)
+      → HasCleanDisk new → Shows old (λ c. answer ≡ segment_row_of c.facts b r a q)
+  segment_by_read old mid new one two shows apart answer told clean =
+      let early : HasCleanDisk mid = omega (arith, clean, two.survives.clean) in
+      let s = shows early in (
+        s.0,
+        λ c sound is.
+            told clean c sound (λ live. subst (IsImage (image c)) (sym ((one.kept early).now_is live)) is) (s.1 (image c) is (apart c sound)) ∙ of_names c.facts,
+      )

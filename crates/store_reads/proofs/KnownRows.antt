@@ -1,0 +1,204 @@
+-- A record that is known in rows: in any order of them, and by look-ups among them.
+use Rattle.std.proofs.Common.{◌≡◌, ◌==◌, ◌&&◌, ℕ, zero, suc, ◌<◌, Bool, true, false, inl, inr, List, [], ◌∷◌, Contains, length, get_or, map, Option, Some, None, IsTrue, refl, sym, ap, subst, ◌∙◌, arith}
+use Rattle.std.specs.Prelude.{AllPairs, bytes_eq, filter, find, option_and_then, option_map}
+use Rattle.std.specs.List.Sorted.{IsPermutation}
+use Rattle.std.proofs.Math.Logic.{∥∥₁_map}
+use Rattle.std.proofs.lemmas.Bool.{and_from, and_parts, both_ways, cases_Bool, cond-false, cond-true}
+use Rattle.std.proofs.lemmas.Bool.Decides.{nat_tests}
+use Rattle.std.proofs.lemmas.List.{get_or-map, length-map}
+use Rattle.std.proofs.lemmas.List.Elements.{All-contains, All-contains_itself}
+use Rattle.std.proofs.lemmas.List.Sorted.{Contains-permutation, IsPermutation-map, IsPermutation-sym, IsPermutation-trans}
+use Rattle.std.proofs.lemmas.Map.Keys.{IsDistinct-IsPermutation, IsDistinct-from_apart, apart_from_distinct}
+use Rattle.sqlite.specs.State.{HasCleanDisk, State}
+use Rattle.store_data.specs.declared.row.Product.{Product}
+use Rattle.store_data.proofs.GroupLemmas.{bytes_eq-same, same-bytes_eq}
+use Rattle.job_facts.specs.Contents.{Contents}
+use Rattle.job_facts.specs.Sound.{AreNamedOnce}
+use Rattle.job_facts.specs.States.{product_named}
+use Rattle.job_facts.proofs.Lists.{find-All}
+use Rattle.step_laws.proofs.BlankSums.{bytes_eq_either, named_once}
+use Rattle.step_laws.proofs.Permuted.{IsPermutation-filter}
+use Rattle.table_rows.specs.Keys.{is_batch, is_batch_named, is_grouping_at, is_record_at, is_record_named}
+use Rattle.table_rows.specs.Tables.{HaveSameRows, PassesOnce, StoredBatch, StoredRecord, Tables}
+use Rattle.table_rows.proofs.Found.{find_passes}
+use Rattle.image_laws.specs.Image.{image, stored_batches, stored_records}
+use Rattle.row_laws.proofs.Finding.{AllPairs-from_map, AllPairs-map, find-map}
+use Rattle.row_reads.specs.declared.records.RecordAt.{RecordAt}
+use Rattle.row_reads.specs.CardDecoding.{grouping_at, line_of, record_at}
+use Rattle.row_reads.specs.Extremes.{AreSorted}
+use Rattle.sql_rows.specs.Image.{IsImage}
+use Rattle.sql_rows.proofs.OneImage.{one_image}
+use Rattle.store_reads.specs.declared.known.Known.{Known}
+use Rattle.store_reads.specs.declared.known.KnownRecord.{KnownRecord}
+use Rattle.store_reads.specs.Fixed.{AreNamedApart, FixedBatch, FixedRecord, fixed, fixed_batch, fixed_record, is_named, is_named_in}
+use Rattle.store_reads.specs.Known.{IsKnownIn, Knows, known_records}
+use Rattle.store_reads.specs.declared.segments.BatchProduct.{BatchProduct}
+use Rattle.store_reads.specs.Segments.{product_in, product_under}
+use Rattle.store_reads.proofs.Found.{found_some}
+
+-- ---- lists in another order
+
+apart_moved : {X : Type 0} (alike : X → X → Bool) → ((x y : X) → alike x y ≡ alike y x) → (xs ys : List X) → IsPermutation xs ys → AllPairs (λ x y. alike x y ≡ false) xs → AllPairs (λ x y. alike x y ≡ false) ys
+apart_moved alike flips xs ys moved apart = λ i j d. apart_from_distinct alike ys i j d (IsDistinct-IsPermutation alike flips xs ys moved (IsDistinct-from_apart alike xs apart))
+
+and_flips : (a b : Bool) → (a && b) ≡ (b && a)
+and_flips true true = refl
+and_flips true false = refl
+and_flips false true = refl
+and_flips false false = refl
+
+not_both : (a b : Bool) → (a ≡ true → b ≡ false) → (a && b) ≡ false
+not_both true b other = other refl
+not_both false b other = refl
+
+other_not : (a b : Bool) → (a && b) ≡ false → a ≡ true → b ≡ false
+other_not true b apart hit = apart
+other_not false b apart hit = absurd (cc)
+
+once_moved : {X : Type 0} (p : X → Bool) (xs ys : List X) → IsPermutation xs ys → PassesOnce p xs → PassesOnce p ys
+once_moved p xs ys moved once = λ i j d before within.
+    other_not (p (get_or ys i d)) (p (get_or ys j d))
+    (apart_moved (λ x y. p x && p y) (λ x y. and_flips (p x) (p y)) xs ys moved (λ i j d before within. not_both (p (get_or xs i d)) (p (get_or xs j d)) (once i j d before within)) i j d before within)
+
+module _ (t u : Tables) (same : HaveSameRows t u) where
+  pub names_moved : AreNamedApart (fixed t) → AreNamedApart (fixed u)
+  names_moved apart = record {
+    products = apart_moved bytes_eq bytes_eq_either _ _ (IsPermutation-map (λ (p : Product). p.code) _ _ same.products) apart.products;
+    batches = λ n. once_moved (is_named n) _ _ (IsPermutation-map fixed_batch _ _ same.batches) (apart.batches n);
+    records = λ id n. once_moved (is_named_in id n) _ _ (IsPermutation-map fixed_record _ _ same.records) (apart.records id n);
+  }
+
+  pub known_moved : (k : KnownRecord) → IsKnownIn (fixed t) k → IsKnownIn (fixed u) k
+  known_moved k it = record {
+    batch = Contains-permutation _ _ _ (IsPermutation-map fixed_batch _ _ same.batches) it.batch;
+    product = Contains-permutation _ _ _ same.products it.product;
+    record_there = Contains-permutation _ _ _ (IsPermutation-map fixed_record _ _ same.records) it.record_there;
+    groupings = (
+      IsPermutation-trans _ _ _ (IsPermutation-sym _ _ (IsPermutation-map grouping_at _ _ (IsPermutation-filter _ _ _ same.groupings))) it.groupings.0,
+      it.groupings.1,
+    );
+  }
+
+-- what is known is so of the contents whose rows the database has
+pub known_in : (s : State) (known : Known) → Knows s known → HasCleanDisk s → IsTrue s.is_open → (k : KnownRecord) → Contains (known_records known) k
+    → (t : Tables) → IsImage t s.now → AreNamedApart (fixed t) → ∥ IsKnownIn (fixed t) k ∥₁
+known_in s known knows clean live k there t is apart =
+    ∥∥₁_map (knows clean live).rows (λ it.
+    known_moved it.0 t (one_image it.0 t s.now it.1 is) k
+    (All-contains (IsKnownIn (fixed it.0)) (known_records known) k (it.2 (names_moved t it.0 (one_image t it.0 s.now is it.1) apart)) there))
+
+-- the names of the batches and records of sound contents are apart
+pub names_apart : (c : Contents) → AreNamedOnce (map (λ (p : Product). p.code) c.facts.products) → ((n : List ℕ) → PassesOnce (is_batch_named n) (stored_batches c.facts))
+    → ((id : ℕ) (n : List ℕ) → PassesOnce (is_record_named id n) (stored_records c.facts)) → AreNamedApart (fixed (image c))
+names_apart c products batches records = record {
+  products = products;
+  batches = λ n. AllPairs-map (λ v w. is_named n v ≡ true → is_named n w ≡ false) fixed_batch (stored_batches c.facts) (batches n);
+  records = λ id n. AllPairs-map (λ v w. is_named_in id n v ≡ true → is_named_in id n w ≡ false) fixed_record (stored_records c.facts) (records id n);
+}
+
+-- so no two rows have one name
+module _ (t : Tables) (apart : AreNamedApart (fixed t)) where
+  pub batches_once : (n : List ℕ) → PassesOnce (is_batch_named n) t.batches
+  batches_once n = AllPairs-from_map (λ v w. is_named n v ≡ true → is_named n w ≡ false) fixed_batch t.batches (apart.batches n)
+
+  pub records_once : (id : ℕ) (n : List ℕ) → PassesOnce (is_record_named id n) t.records
+  records_once id n = AllPairs-from_map (λ v w. is_named_in id n v ≡ true → is_named_in id n w ≡ false) fixed_record t.records (apart.records id n)
+
+-- ---- look-ups
+
+-- what is there is found, where nothing else passes
+found_once : {X : Type 0} (p : X → Bool) (xs : List X) (x : X) → PassesOnce p xs → Contains xs x → p x ≡ true → find p xs ≡ Some x
+found_once {X} p xs x once there hit = at xs there.0 there.1 there.2 once
+  where
+    at : (ys : List X) (k : ℕ) → k < length ys → get_or ys k x ≡ x → PassesOnce p ys → find p ys ≡ Some x
+    at [] k within is once = absurd (omega (arith, within))
+    at (y ∷ ys) zero within is once = cond-true (p y) (Some y) (find p ys) (ap p is ∙ hit) ∙ ap Some is
+    at (y ∷ ys) (suc k) within is once = elim (cases_Bool (p y)) [
+      | inl here ↦ absurd (both_ways (p x) (sym (ap p is) ∙ once 0 (suc k) x (omega arith) within here) hit)
+      | inr miss ↦ cond-false (p y) (Some y) (find p ys) miss ∙ at ys k (omega (arith, within)) is (λ i j d before later. once (suc i) (suc j) d (omega (arith, before)) (omega (arith, later)))
+    ]
+
+-- by what of it no change touches
+found_by_part : {X Y : Type 0} (part : X → Y) (p : Y → Bool) (xs : List X) (y : Y) → Contains (map part xs) y → PassesOnce (λ x. p (part x)) xs → p y ≡ true
+    → (x : X) × (find (λ x. p (part x)) xs ≡ Some x) × (y ≡ part x)
+found_by_part part p xs y there once hit =
+    found_some part (find (λ x. p (part x)) xs) y
+    (sym (found_once p (map part xs) y (AllPairs-map (λ v w. p v ≡ true → p w ≡ false) part xs once) there hit) ∙ find-map p part xs)
+
+same_number : (n : ℕ) → (n == n) ≡ true
+same_number n = grind (arith, nat_tests)
+
+module _ (t : Tables) (k : KnownRecord) (it : IsKnownIn (fixed t) k) where
+  abbrev batch_part : FixedBatch
+  batch_part = record { id = k.id; name = k.batch; product = k.product.code }
+
+  abbrev record_part : FixedRecord
+  record_part = record { batch = k.id; place = k.place; name = k.rec }
+
+  pub batch_with_id : PassesOnce (is_batch k.id) t.batches → Some k.batch ≡ option_map (λ (b : StoredBatch). b.name) (find (is_batch k.id) t.batches)
+  batch_with_id once =
+      let b = found_by_part fixed_batch (λ (b : FixedBatch). b.id == k.id) t.batches batch_part it.batch once (same_number k.id) in
+      ap (λ (e : FixedBatch). Some e.name) b.2 ∙ sym (ap (option_map (λ (b : StoredBatch). b.name)) b.1)
+
+  pub record_with_place : PassesOnce (is_record_at k.id k.place) t.records → Some k.rec ≡ option_map (λ (r : StoredRecord). r.name) (find (is_record_at k.id k.place) t.records)
+  record_with_place once =
+      let r = found_by_part fixed_record (λ (r : FixedRecord). (r.batch == k.id) && (r.place == k.place)) t.records record_part it.record_there once
+      (and_from (k.id == k.id) (k.place == k.place) (same_number k.id) (same_number k.place)) in
+      ap (λ (e : FixedRecord). Some e.name) r.2 ∙ sym (ap (option_map (λ (r : StoredRecord). r.name)) r.1)
+
+  module _ (apart : AreNamedApart (fixed t)) where
+    pub product_with_name : Some (let e : BatchProduct = record { id = k.id; product = k.product } in e) ≡ product_in t.products t.batches k.batch
+    product_with_name =
+        let b = found_by_part fixed_batch (is_named k.batch) t.batches batch_part it.batch (batches_once t apart k.batch) (bytes_eq-same k.batch) in
+        let p : product_named t.products k.product.code ≡ Some k.product =
+        found_once (λ (p : Product). bytes_eq p.code k.product.code) t.products k.product (named_once (λ (p : Product). p.code) t.products k.product.code apart.products) it.product (bytes_eq-same k.product.code) in
+        sym (ap (option_and_then (product_under t.products)) b.1
+        ∙ sym (ap (λ (e : FixedBatch). option_map (λ (p : Product). let e : BatchProduct = record { id = e.id; product = p } in e) (product_named t.products e.product)) b.2)
+        ∙ ap (option_map (λ (p : Product). let e : BatchProduct = record { id = k.id; product = p } in e)) p)
+
+    pub record_with_name : (x : RecordAt) × (Some x ≡ option_map record_at (find (is_record_named k.id k.rec) t.records)) × (x.place ≡ k.place)
+    record_with_name =
+        let r = found_by_part fixed_record (is_named_in k.id k.rec) t.records record_part it.record_there (records_once t apart k.id k.rec)
+        (and_from (k.id == k.id) (bytes_eq k.rec k.rec) (same_number k.id) (bytes_eq-same k.rec)) in
+        (record_at r.0, sym (ap (option_map record_at) r.1), sym (ap (λ (e : FixedRecord). e.place) r.2))
+
+-- ---- what was read
+
+in_map : {X Y : Type 0} (part : X → Y) (xs : List X) (x : X) (y : Y) → y ≡ part x → Contains xs x → Contains (map part xs) y
+in_map part xs x y is there =
+    (there.0, omega (arith, there.1, length-map xs part), get_or-map part xs there.0 x y there.1 ∙ ap part there.2 ∙ sym is)
+
+found_there : {X : Type 0} (p : X → Bool) (xs : List X) (x : X) → find p xs ≡ Some x → Contains xs x
+found_there p xs x is = find-All p (Contains xs) xs x (All-contains_itself xs) is
+
+two_steps : {X Y : Type 0} (f : X → Option Y) (o : Option X) (y : Y) → Some y ≡ option_and_then f o → (x : X) × (o ≡ Some x) × (Some y ≡ f x)
+two_steps f None y is = absurd (cc)
+two_steps f (Some x) y is = (x, refl, is)
+
+same_batch_part : (i j : ℕ) (m n p q : List ℕ) → i ≡ j → m ≡ n → p ≡ q → (let x : FixedBatch = record { id = i; name = m; product = p } in x) ≡ (let y : FixedBatch = record { id = j; name = n; product = q } in y)
+same_batch_part i j m n p q one two three = rw (one, two, three) refl
+
+same_record_part : (i j p q : ℕ) (m n : List ℕ) → i ≡ j → p ≡ q → m ≡ n → (let x : FixedRecord = record { batch = i; place = p; name = m } in x) ≡ (let y : FixedRecord = record { batch = j; place = q; name = n } in y)
+same_record_part i j p q m n one two three = rw (one, two, three) refl
+
+pub read_known : (t : Tables) (k : KnownRecord) (e : BatchProduct) → Some e ≡ product_in t.products t.batches k.batch → (x : RecordAt) → Some x ≡ option_map record_at (find (is_record_named e.id k.rec) t.records)
+    → AreSorted line_of (map grouping_at (filter (is_grouping_at e.id x.place) t.groupings)) k.groupings.items → k.id ≡ e.id → k.product ≡ e.product → k.place ≡ x.place → IsKnownIn (fixed t) k
+read_known t k e e_is x x_is sorted id_is product_is place_is =
+    let b = two_steps (product_under t.products) (find (is_batch_named k.batch) t.batches) e e_is in
+    let p = found_some (λ (p : Product). let e : BatchProduct = record { id = b.0.id; product = p } in e) (product_named t.products b.0.product) e b.2 in
+    let r = found_some record_at (find (is_record_named e.id k.rec) t.records) x x_is in
+    let named : b.0.name ≡ k.batch = same-bytes_eq b.0.name k.batch (find_passes (is_batch_named k.batch) t.batches b.0 b.1) in
+    let code : p.0.code ≡ b.0.product = same-bytes_eq p.0.code b.0.product (find_passes (λ (q : Product). bytes_eq q.code b.0.product) t.products p.0 p.1) in
+    let both = and_parts (r.0.batch == e.id) (bytes_eq r.0.name k.rec) (find_passes (is_record_named e.id k.rec) t.records r.0 r.1) in
+    let batch : r.0.batch ≡ e.id = grind (arith, nat_tests, both.0) in
+    let id : k.id ≡ b.0.id = id_is ∙ ap (λ (e : BatchProduct). e.id) p.2 in
+    let product : k.product ≡ p.0 = product_is ∙ ap (λ (e : BatchProduct). e.product) p.2 in
+    let place : k.place ≡ r.0.place = place_is ∙ ap (λ (x : RecordAt). x.place) r.2 in
+    record {
+      batch = in_map fixed_batch t.batches b.0 _ (same_batch_part _ _ _ _ _ _ id (sym named) (ap (λ (p : Product). p.code) product ∙ code)) (found_there (is_batch_named k.batch) t.batches b.0 b.1);
+      product = subst (Contains t.products) (sym product) (found_there (λ (q : Product). bytes_eq q.code b.0.product) t.products p.0 p.1);
+      record_there = in_map fixed_record t.records r.0 _ (same_record_part _ _ _ _ _ _ (id_is ∙ sym batch) place (sym (same-bytes_eq r.0.name k.rec both.1))) (found_there (is_record_named e.id k.rec) t.records r.0 r.1);
+      groupings =
+          subst (λ n. AreSorted line_of (map grouping_at (filter (is_grouping_at n k.place) t.groupings)) k.groupings.items) (sym id_is)
+          (subst (λ n. AreSorted line_of (map grouping_at (filter (is_grouping_at e.id n) t.groupings)) k.groupings.items) (sym place_is) sorted);
+    }
