@@ -7,7 +7,7 @@ use Rattle.job_facts.specs.declared.change.Change.{Change}
 use Rattle.job_facts.specs.declared.change.Change.TheVariants.{Nothing}
 use Rattle.job_facts.specs.declared.refusal.Refusal.TheVariants.{ReleaseTooFar}
 use Rattle.job_facts.specs.declared.reply.Reply.{Reply}
-use Rattle.job_facts.specs.declared.reply.Reply.TheVariants.{Product, Lot, Import, Opened, Next, Good, Spoiled, Reset, Discarded, Waiting, Withdrawn, Closed, Refused, Busy, Released, NumberReleased, Faulty}
+use Rattle.job_facts.specs.declared.reply.Reply.TheVariants.{Refused, Busy, Released, NumberReleased, Faulty}
 use Rattle.job_facts.specs.declared.request.Call.{Call}
 use Rattle.job_facts.specs.declared.request.Call.TheVariants.{Job, Release}
 use Rattle.job_facts.specs.Contents.{AreSound, Contents, Entry, IsNewEntry, IsOwed, IsOwedRelease, above, committed, entry_of, is_above, mark_of, released}
@@ -21,23 +21,11 @@ use Rattle.reply_store.specs.declared.deciding.Effect.TheVariants.{Changes, Mark
 use Rattle.reply_store.specs.Effects.{Decided, IsOwedBy, after_effect}
 
 status_is : (reply : Reply) → (status_of reply ≡ 200) ⊎ (status_of reply ≡ 409)
-status_is (Product p made) = inl refl
-status_is (Lot l made) = inl refl
-status_is (Import b records made rows) = inl refl
-status_is (Opened b blank command r s) = inl refl
-status_is (Next command k s) = inl refl
-status_is (Good s) = inl refl
-status_is (Spoiled s) = inl refl
-status_is (Reset s) = inl refl
-status_is (Discarded blank) = inl refl
-status_is (Waiting b r) = inl refl
-status_is (Withdrawn b r) = inl refl
-status_is (Closed b) = inl refl
 status_is (Refused why) = inr refl
 status_is (Busy s) = inr refl
-status_is (Released mark) = inl refl
 status_is (NumberReleased mark) = inr refl
 status_is (Faulty fault) = inr refl
+status_is _ = inl refl
 
 -- the arrival's client and number in range
 pub record IsNumbered (a : Arrived) : Type 0 where
