@@ -1,5 +1,6 @@
 //! Files of earlier versions, taken up and served: what was told is told again, a refusal that was
 //! kept stays, a card more is made, and the batches are reported.
+use crate::bodies::{accepted, answer, command, ended, imported, open, opened};
 use crate::disks::{Ended, Left, close, nothing, open};
 use crate::exchanges::Exchange;
 use crate::stops::{NO_STOP, adopted, created};
@@ -29,30 +30,14 @@ const ASK: &[u8] = b"/batch/B2/P1\0record,aid,rank,enc,tol,dgi\nR1,F00000000101,
 
 // The same import under a new number, and its card.
 const ANEW: [Exchange; 4] = [
-    Exchange(
-        "/c/office/7/batch/B2/P1",
-        MIXED,
-        200,
-        r#"{"batch":"B2","records":1,"result":"created","rows":1}"#,
-    ),
-    Exchange(
-        "/c/m1/7",
-        r#"{"do":"open","batch":"B2","blank":1002}"#,
-        200,
-        r#"{"batch":"B2","blank":1002,"command":"00A4040006F00000000101","index":0,"record":"R1","result":"command","session":3}"#,
-    ),
-    Exchange(
+    accepted!("/c/office/7/batch/B2/P1", MIXED, imported!("B2", 1)),
+    accepted!("/c/m1/7", open!("B2", 1002), opened!("B2", 1002, "R1", 3)),
+    accepted!(
         "/c/m1/8",
-        r#"{"do":"answer","session":3,"index":0,"sw":"9000"}"#,
-        200,
-        r#"{"command":"80E2A000059002021122","index":1,"result":"command","session":3}"#,
+        answer!(3, 0, "9000"),
+        command!("80E2A000059002021122", 1, 3)
     ),
-    Exchange(
-        "/c/m1/9",
-        r#"{"do":"answer","session":3,"index":1,"sw":"9000"}"#,
-        200,
-        r#"{"result":"good","session":3}"#,
-    ),
+    accepted!("/c/m1/9", answer!(3, 1, "9000"), ended!("good", 3)),
 ];
 
 const REPORTS: [(&[u8], &str); 2] = [

@@ -1,4 +1,5 @@
 //! Databases that are refused, each a sound one with one thing changed: it stays as it is.
+use crate::bodies::{accepted, ended, imported, lot, made, open, opened};
 use crate::exchanges::Exchange;
 use crate::refused::tables;
 use crate::stops::adopted;
@@ -154,49 +155,26 @@ const DAMAGED: [Damage; 17] = [
 
 // Two machines that have a card each, and a batch whose only record failed.
 const FURTHER: [Exchange; 7] = [
-    Exchange(
-        "/c/office/6",
-        r#"{"do":"lot","lot":"L2","product":"P1","first":2000,"count":5}"#,
-        200,
-        r#"{"lot":"L2","result":"created"}"#,
-    ),
-    Exchange(
+    accepted!("/c/office/6", lot!("L2", "P1", 2000, 5), made!("lot", "L2")),
+    accepted!(
         "/c/office/7/batch/B2/P1",
         "record,aid,rank,enc,tol,dgi\n\
         R1,F00000000101,1,0,0,0101027000\n\
         R2,F00000000101,1,0,0,0101027000\n",
-        200,
-        r#"{"batch":"B2","records":2,"result":"created","rows":2}"#,
+        imported!("B2", 2)
     ),
-    Exchange(
-        "/c/m1/7",
-        r#"{"do":"open","batch":"B2","blank":2000}"#,
-        200,
-        r#"{"batch":"B2","blank":2000,"command":"00A4040006F00000000101","index":0,"record":"R1","result":"command","session":3}"#,
-    ),
-    Exchange(
-        "/c/m2/1",
-        r#"{"do":"open","batch":"B2","blank":2001}"#,
-        200,
-        r#"{"batch":"B2","blank":2001,"command":"00A4040006F00000000101","index":0,"record":"R2","result":"command","session":4}"#,
-    ),
-    Exchange(
+    accepted!("/c/m1/7", open!("B2", 2000), opened!("B2", 2000, "R1", 3)),
+    accepted!("/c/m2/1", open!("B2", 2001), opened!("B2", 2001, "R2", 4)),
+    accepted!(
         "/c/office/8/batch/B3/P1",
         "record,aid,rank,enc,tol,dgi\nR1,F00000000101,1,0,0,0101027000\n",
-        200,
-        r#"{"batch":"B3","records":1,"result":"created","rows":1}"#,
+        imported!("B3", 1)
     ),
-    Exchange(
-        "/c/m3/1",
-        r#"{"do":"open","batch":"B3","blank":2002}"#,
-        200,
-        r#"{"batch":"B3","blank":2002,"command":"00A4040006F00000000101","index":0,"record":"R1","result":"command","session":5}"#,
-    ),
-    Exchange(
+    accepted!("/c/m3/1", open!("B3", 2002), opened!("B3", 2002, "R1", 5)),
+    accepted!(
         "/c/m3/2",
         r#"{"do":"abort","session":5}"#,
-        200,
-        r#"{"result":"spoiled","session":5}"#,
+        ended!("spoiled", 5)
     ),
 ];
 

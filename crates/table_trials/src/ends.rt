@@ -68,30 +68,31 @@ fn each_end_has_its_status_and_its_words(rt: HostRuntime) -> Result<(), Fail> {
     Ok(())
 }
 
-// Faults of a batch with the rows that they are told with.
-static FAULTS: [(Kind, u32, &str); 14] = [
-    (Kind::MarksDiffer, 2, "refused 21 row 2"),
-    (Kind::IdentifierTwice, 3, "refused 22 row 3"),
-    (Kind::TooManyBlocks, 2, "refused 23 row 2"),
-    (Kind::NotSixFields, 2, "refused 30 row 2"),
-    (Kind::Header, 1, "refused 31 row 1"),
-    (Kind::RecordName, 10, "refused 32 row 10"),
-    (Kind::Aid, 2, "refused 33 row 2"),
-    (Kind::Rank, 4, "refused 34 row 4"),
-    (Kind::Mark, 2, "refused 35 row 2"),
-    (Kind::Grouping, 2, "refused 36 row 2"),
-    (Kind::NotARecord, 2, "refused 37 row 2"),
-    (Kind::TooManyRows, 4_098, "refused 38 row 4098"),
-    (Kind::TooManyRecords, 1_026, "refused 39 row 1026"),
-    (Kind::NoRows, 1, "refused 40 row 1"),
+// Faults of a batch with their numbers, and the rows that they are told with.
+static FAULTS: [(Kind, u8, u32); 14] = [
+    (Kind::MarksDiffer, 21, 2),
+    (Kind::IdentifierTwice, 22, 3),
+    (Kind::TooManyBlocks, 23, 2),
+    (Kind::NotSixFields, 30, 2),
+    (Kind::Header, 31, 1),
+    (Kind::RecordName, 32, 10),
+    (Kind::Aid, 33, 2),
+    (Kind::Rank, 34, 4),
+    (Kind::Mark, 35, 2),
+    (Kind::Grouping, 36, 2),
+    (Kind::NotARecord, 37, 2),
+    (Kind::TooManyRows, 38, 4_098),
+    (Kind::TooManyRecords, 39, 1_026),
+    (Kind::NoRows, 40, 1),
 ];
 
 #[test]
 fn each_fault_of_a_batch_has_its_number_and_its_row(rt: HostRuntime) -> Result<(), Fail> {
-    for (kind, row, words) in &FAULTS {
-        let (row, kind) = (*row, *kind);
+    for (kind, number, row) in &FAULTS {
+        let (kind, row) = (*kind, *row);
         let end = End::Refused(RowFault { row, kind });
-        check_exit(&rt, rt.alloc(), end, 1, words)?;
+        let words = at_last!(format!(in rt.alloc(); "refused {number} row {row}"))?;
+        check_exit(&rt, rt.alloc(), end, 1, &words)?;
     }
     Ok(())
 }

@@ -79,15 +79,8 @@ pub(crate) fn told<S: JobStore>(
 ) -> Result<Kept, StoreFault>
     requires { IsArrival arrival.now }
 {
-    let ask = arrival.ask.as_slice();
-    handle(
-        alloc,
-        store,
-        &arrival.client,
-        arrival.number,
-        ask,
-        &arrival.request,
-    )
+    let (client, ask) = (&arrival.client, arrival.ask.as_slice());
+    handle(alloc, store, client, arrival.number, ask, &arrival.request)
 }
 
 /// The status and the body are those that an exchange says.

@@ -4,6 +4,8 @@
 #![tactic(auto)]
 
 #[cfg(test)]
+mod bodies;
+#[cfg(test)]
 mod carried;
 #[cfg(test)]
 mod causes;

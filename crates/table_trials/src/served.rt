@@ -1,4 +1,5 @@
 //! The store in a file, behind a socket that one thread serves and asks.
+use crate::bodies::refused;
 use crate::exchanges::Exchange;
 use crate::stories::{CLOSING, SET_UP};
 use event_lines::{EventLog, Level};
@@ -28,12 +29,7 @@ const CREATED: &[u8] =
     b"HTTP/1.1 200 OK\r\nContent-Type: application/json\r\nContent-Length: 35\r\nConnection: close\r\n\r\n{\"product\":\"P1\",\"result\":\"created\"}";
 
 // Another request under the product's number.
-const REUSED: Exchange = Exchange(
-    "/c/office/1",
-    r#"{"do":"reset"}"#,
-    409,
-    r#"{"code":72,"refused":"number-reused"}"#,
-);
+const REUSED: Exchange = refused!("/c/office/1", r#"{"do":"reset"}"#, 72, "number-reused");
 
 // The batch's report at the end.
 const REPORT: &str = "batch B1

@@ -3,6 +3,7 @@
 //!
 //! The rows and the schema of what is adopted are those of the same exchanges in our own tables.
 //! The tests over tables in memory say the same whichever one allocation is refused.
+use crate::bodies::{accepted, made, product};
 use crate::disks::{Ended, Left, Stop, close, nothing, open};
 use crate::exchanges::{Exchange, arrival, at_last, check_told, told};
 use crate::refused::tables;
@@ -67,12 +68,7 @@ const THREE: Version = Version {
 
 // A product whose name comes before that of the set-up, so that in order of their names products
 // stand in another order than they were put in.
-const EARLIER_NAME: Exchange = Exchange(
-    "/c/other/1",
-    r#"{"do":"product","product":"P0","max":255,"low":0,"check":false}"#,
-    200,
-    r#"{"product":"P0","result":"created"}"#,
-);
+const EARLIER_NAME: Exchange = accepted!("/c/other/1", product!("P0", 255), made!("product", "P0"));
 
 // Our own, with such products.
 const OUT_OF_ORDER: Version = Version {

@@ -4,7 +4,7 @@ ghost use Rattle.wire.specs.Asks.{IsInRange};
 
 use crate::again::{MayWantMemory, at_last};
 use crate::failing_writers::Limited;
-use job_facts::{Change, JobStore, Lot};
+use job_facts::{Change, JobStore, Lot, NewBatch};
 use list_store::ListStore;
 use server::{End, Served, serve_one};
 use std::alloc::{AllocError, Global};
@@ -51,14 +51,15 @@ pub(crate) fn stocked(alloc: Global) -> Result<ListStore, Fail> {
         first: 1000,
         count: 3,
     };
-    let batch = Change::AddsBatch {
+    let batch = NewBatch {
         number: 1,
-        batch,
+        name: batch,
         product,
         records: 1,
         raw: b"record,aid,rank,enc,tol,dgi\nR1,F00000000101,1,0,0,0101027000\n",
     };
     let (product, lot) = (Change::AddsProduct { product }, Change::AddsLot { lot });
+    let batch = Change::AddsBatch { batch };
     let mut store = ListStore::new(alloc);
     at_last!(store.commit(&office, 1, b"ask", 200, b"body", &product))?;
     at_last!(store.commit(&office, 2, b"ask", 200, b"body", &lot))?;

@@ -11,32 +11,57 @@ use store_data::Name;
 
 mod events;
 
-const RELEASED: &[u8] =
-    b"HTTP/1.1 200 OK\r\nContent-Type: application/json\r\nContent-Length: 37\r\nConnection: close\r\n\r\n{\"mark\":10000000,\"result\":\"released\"}";
+/// A reply to a machine: its status, and its JSON with its length.
+macro_rules! reply {
+    ($status:literal, $length:literal, $body:literal) => {
+        concat!(
+            "HTTP/1.1 ",
+            $status,
+            "\r\nContent-Type: application/json\r\nContent-Length: ",
+            $length,
+            "\r\nConnection: close\r\n\r\n",
+            $body
+        )
+    };
+}
 
-const RESET: &[u8] =
-    b"HTTP/1.1 200 OK\r\nContent-Type: application/json\r\nContent-Length: 30\r\nConnection: close\r\n\r\n{\"result\":\"reset\",\"session\":0}";
+use reply;
 
-const OPENED: &[u8] =
-    b"HTTP/1.1 200 OK\r\nContent-Type: application/json\r\nContent-Length: 117\r\nConnection: close\r\n\r\n{\"batch\":\"B1\",\"blank\":1000,\"command\":\"00A4040006F00000000101\",\"index\":0,\"record\":\"R1\",\"result\":\"command\",\"session\":1}";
+const RELEASED: &str = reply!("200 OK", 37, r#"{"mark":10000000,"result":"released"}"#);
 
-const NEXT: &[u8] =
-    b"HTTP/1.1 200 OK\r\nContent-Type: application/json\r\nContent-Length: 75\r\nConnection: close\r\n\r\n{\"command\":\"80E28000050101027000\",\"index\":1,\"result\":\"command\",\"session\":1}";
+const RESET: &str = reply!("200 OK", 30, r#"{"result":"reset","session":0}"#);
 
-const GOOD: &[u8] =
-    b"HTTP/1.1 200 OK\r\nContent-Type: application/json\r\nContent-Length: 29\r\nConnection: close\r\n\r\n{\"result\":\"good\",\"session\":1}";
+const OPENED: &str = reply!(
+    "200 OK",
+    117,
+    r#"{"batch":"B1","blank":1000,"command":"00A4040006F00000000101","index":0,"record":"R1","result":"command","session":1}"#
+);
+
+const NEXT: &str = reply!(
+    "200 OK",
+    75,
+    r#"{"command":"80E28000050101027000","index":1,"result":"command","session":1}"#
+);
+
+const GOOD: &str = reply!("200 OK", 29, r#"{"result":"good","session":1}"#);
 
 // The replies to a machine that makes one card of two commands with boot 1.
-const REPLIES: [&[u8]; 5] = [RELEASED, RESET, OPENED, NEXT, GOOD];
+const REPLIES: [&str; 5] = [RELEASED, RESET, OPENED, NEXT, GOOD];
 
 const PRINTED: &[u8] =
     b"1000 00A4040006F00000000101 9000\n1000 80E28000050101027000 9000\n1000 good\n";
 
-const STORAGE: &[u8] =
-    b"HTTP/1.1 503 Service Unavailable\r\nContent-Type: application/json\r\nContent-Length: 32\r\nConnection: close\r\n\r\n{\"code\":503,\"refused\":\"storage\"}";
+const STORAGE: &str = reply!(
+    "503 Service Unavailable",
+    32,
+    r#"{"code":503,"refused":"storage"}"#
+);
 
-const MALFORMED: &[u8] =
-    b"HTTP/1.1 400 Bad Request\r\nContent-Type: application/json\r\nContent-Length: 34\r\nConnection: close\r\n\r\n{\"code\":400,\"refused\":\"malformed\"}";
+const MALFORMED: &str = reply!(
+    "400 Bad Request",
+    34,
+    r#"{"code":400,"refused":"malformed"}"#
+);
 
 // The card's line.
 const CARD: &[u8] = b"1000\n";
@@ -45,7 +70,7 @@ const CARD: &[u8] = b"1000\n";
 #[derive(Drop)]
 struct Replies<'a> {
     alloc: Global,
-    replies: &'a [&'a [u8]],
+    replies: &'a [&'a str],
     asked: usize,
 }
 
@@ -56,7 +81,7 @@ impl Exchange for Replies<'_> {
 
     fn exchange(&mut self, _message: &[u8]) -> Result<Option<Vec<u8>>, AllocError> {
         let came = match self.replies.get(self.asked) {
-            Some(reply) => Some(Vec::from_slice(self.alloc, reply)?),
+            Some(reply) => Some(Vec::from_slice(self.alloc, reply.as_bytes())?),
             None => None,
         };
         self.asked = self.asked.saturating_add(1);
@@ -70,7 +95,7 @@ fn feed_of_limited(
     rt: &impl Abort,
     alloc: Global,
     machine: Name,
-    replies: &[&[u8]],
+    replies: &[&str],
     room: usize,
 ) -> Result<(), FeedStop> {
     let asked = 0;

@@ -126,9 +126,10 @@ fn planned(
     served_over(alloc, store, opened, texts, turns, Level::Usual)
 }
 
+// Usually an accepted request has no line, and where they are off there is none at all.
 #[test]
-fn each_connection_has_a_line(rt: HostRuntime) -> Result<(), Fail> {
-    let events = b"made db=\"shop.db\"
+fn connections_have_lines_by_the_level(rt: HostRuntime) -> Result<(), Fail> {
+    let all = b"made db=\"shop.db\"
 answered status=200 request=\"POST /c/office/1 HTTP/1.1\"
 answered status=200 request=\"POST /c/office/1 HTTP/1.1\"
 answered status=409 code=72 name=number-reused request=\"POST /c/office/1 HTTP/1.1\"
@@ -137,8 +138,17 @@ answered status=409 code=56 name=batch-unknown request=\"GET /batch/B9 HTTP/1.1\
 broken request=\"GET /batch/B9 HTTP/1.1\"
 closed connections=6
 ";
+    let usual = b"made db=\"shop.db\"
+answered status=409 code=72 name=number-reused request=\"POST /c/office/1 HTTP/1.1\"
+answered status=400 code=400 name=malformed request=\"POST /c/office/01 HTTP/1.1\"
+answered status=409 code=56 name=batch-unknown request=\"GET /batch/B9 HTTP/1.1\"
+broken request=\"GET /batch/B9 HTTP/1.1\"
+closed connections=6
+";
     let lines = b"listening 127.0.0.1:8807\nserved 6\n";
-    assert_ends!(rt; all_kinds(rt.alloc(), Level::All), Ok(()), lines, events);
+    assert_ends!(rt; all_kinds(rt.alloc(), Level::All), Ok(()), lines, all);
+    assert_ends!(rt; all_kinds(rt.alloc(), Level::Usual), Ok(()), lines, usual);
+    assert_ends!(rt; all_kinds(rt.alloc(), Level::Off), Ok(()), lines, b"");
     Ok(())
 }
 
@@ -167,27 +177,6 @@ fn each_refusal_has_its_code_and_its_name(rt: HostRuntime) -> Result<(), Fail> {
     for (body, words) in bodies {
         assert_eq!(rt; refusal_in(body), words);
     }
-    Ok(())
-}
-
-#[test]
-fn usually_an_accepted_request_has_no_line(rt: HostRuntime) -> Result<(), Fail> {
-    let events = b"made db=\"shop.db\"
-answered status=409 code=72 name=number-reused request=\"POST /c/office/1 HTTP/1.1\"
-answered status=400 code=400 name=malformed request=\"POST /c/office/01 HTTP/1.1\"
-answered status=409 code=56 name=batch-unknown request=\"GET /batch/B9 HTTP/1.1\"
-broken request=\"GET /batch/B9 HTTP/1.1\"
-closed connections=6
-";
-    let lines = b"listening 127.0.0.1:8807\nserved 6\n";
-    assert_ends!(rt; all_kinds(rt.alloc(), Level::Usual), Ok(()), lines, events);
-    Ok(())
-}
-
-#[test]
-fn where_they_are_off_there_is_no_line(rt: HostRuntime) -> Result<(), Fail> {
-    let lines = b"listening 127.0.0.1:8807\nserved 6\n";
-    assert_ends!(rt; all_kinds(rt.alloc(), Level::Off), Ok(()), lines, b"");
     Ok(())
 }
 
@@ -323,30 +312,43 @@ impl<'a> Connections for Cut<'a> {
         Ok((Pieces::new(text, 7), Limited::new(self.room, 5)))
     }
 
-    fn back(&mut self, _incoming: Pieces<'a>, _writer: Limited, _served: Served) {}
+    fn back(&mut self, _incoming: Pieces<'a>, _writer: Limited, _served: Served) {
+        // Nothing is kept of a connection that was served.
+    }
 }
 
 // Serves these, whose replies are taken up to so many bytes, over lists.
-fn cut_at(alloc: Global, texts: &[&[u8]], room: usize) -> Result<Ended, AllocError> {
+fn serve_cut<W: Write, E: Write + Drop>(
+    alloc: Global,
+    texts: &[&[u8]],
+    room: usize,
+    writer: &mut W,
+    events: &mut EventLog<E>,
+) -> Result<(), ServeStop> {
     let mut connections = Cut {
         texts,
         taken: 0,
         room,
     };
-    let mut lines = Vec::new(alloc);
-    let mut events = EventLog::new(Level::Usual, Vec::new(alloc));
-    let turns = texts.len().min(6) as u32;
     let store = ListStore::new(alloc);
-    let outcome = serve_and_tell(
+    let turns = texts.len().min(6) as u32;
+    serve_and_tell(
         alloc,
         store,
         &mut connections,
-        &mut lines,
-        &mut events,
+        writer,
+        events,
         &NEW,
         8807,
         turns,
-    );
+    )
+}
+
+// The same, where each line can be written.
+fn cut_at(alloc: Global, texts: &[&[u8]], room: usize) -> Result<Ended, AllocError> {
+    let mut lines = Vec::new(alloc);
+    let mut events = EventLog::new(Level::Usual, Vec::new(alloc));
+    let outcome = serve_cut(alloc, texts, room, &mut lines, &mut events);
     Ok(Ended {
         outcome,
         lines,
@@ -377,24 +379,9 @@ fn a_reply_that_is_not_taken_is_unsent(rt: HostRuntime) -> Result<(), Fail> {
 
 // What these writers take of a product, up to so many bytes.
 fn cut_lines(alloc: Global, room: usize, event_room: usize) -> Result<Ended, AllocError> {
-    let mut connections = Cut {
-        texts: &[PRODUCT],
-        taken: 0,
-        room: 512,
-    };
     let mut writer = Limited::new(room, 3);
     let mut events = EventLog::new(Level::All, Limited::new(event_room, 3));
-    let store = ListStore::new(alloc);
-    let outcome = serve_and_tell(
-        alloc,
-        store,
-        &mut connections,
-        &mut writer,
-        &mut events,
-        &NEW,
-        8807,
-        1,
-    );
+    let outcome = serve_cut(alloc, &[PRODUCT], 512, &mut writer, &mut events);
     Ok(Ended {
         outcome,
         lines: writer.taken().to_vec(alloc)?,

@@ -1,5 +1,5 @@
 //! Event lines of feeds over replies in memory, line by line.
-use super::{NEXT, OPENED, PRINTED, RELEASED, REPLIES, RESET, Replies, STORAGE};
+use super::{NEXT, OPENED, PRINTED, RELEASED, REPLIES, RESET, Replies, STORAGE, reply};
 use crate::exchanges::name;
 use crate::failing_writers::Limited;
 use event_lines::{EventLog, Level};
@@ -9,26 +9,30 @@ use std::process::Abort;
 use std::test::Fail;
 use store_data::Name;
 
-const BLANK_USED: &[u8] =
-    b"HTTP/1.1 409 Conflict\r\nContent-Type: application/json\r\nContent-Length: 34\r\nConnection: close\r\n\r\n{\"code\":60,\"refused\":\"blank-used\"}";
+/// A refusal.
+macro_rules! refusal {
+    ($length:literal, $body:literal) => {
+        reply!("409 Conflict", $length, $body)
+    };
+}
 
-const NUMBER_REUSED: &[u8] =
-    b"HTTP/1.1 409 Conflict\r\nContent-Type: application/json\r\nContent-Length: 37\r\nConnection: close\r\n\r\n{\"code\":72,\"refused\":\"number-reused\"}";
+const BLANK_USED: &str = refusal!(34, r#"{"code":60,"refused":"blank-used"}"#);
 
-const BATCH_UNKNOWN: &[u8] =
-    b"HTTP/1.1 409 Conflict\r\nContent-Type: application/json\r\nContent-Length: 37\r\nConnection: close\r\n\r\n{\"code\":56,\"refused\":\"batch-unknown\"}";
+const NUMBER_REUSED: &str = refusal!(37, r#"{"code":72,"refused":"number-reused"}"#);
 
-const BUSY: &[u8] =
-    b"HTTP/1.1 409 Conflict\r\nContent-Type: application/json\r\nContent-Length: 48\r\nConnection: close\r\n\r\n{\"code\":61,\"refused\":\"machine-busy\",\"session\":7}";
+const BATCH_UNKNOWN: &str = refusal!(37, r#"{"code":56,"refused":"batch-unknown"}"#);
 
-const NUMBER_RELEASED: &[u8] =
-    b"HTTP/1.1 409 Conflict\r\nContent-Type: application/json\r\nContent-Length: 55\r\nConnection: close\r\n\r\n{\"code\":73,\"mark\":20000000,\"refused\":\"number-released\"}";
+const BUSY: &str = refusal!(48, r#"{"code":61,"refused":"machine-busy","session":7}"#);
 
-const SPOILED: &[u8] =
-    b"HTTP/1.1 200 OK\r\nContent-Type: application/json\r\nContent-Length: 32\r\nConnection: close\r\n\r\n{\"result\":\"spoiled\",\"session\":1}";
+const NUMBER_RELEASED: &str = refusal!(
+    55,
+    r#"{"code":73,"mark":20000000,"refused":"number-released"}"#
+);
+
+const SPOILED: &str = reply!("200 OK", 32, r#"{"result":"spoiled","session":1}"#);
 
 // A connection on which nothing comes before its end.
-const NOTHING: &[u8] = b"";
+const NOTHING: &str = "";
 
 // The most bytes of event lines in a test.
 const ROOM: usize = 512;
@@ -37,10 +41,48 @@ const ROOM: usize = 512;
 #[derive(Drop)]
 struct Case {
     list: &'static [u8],
-    replies: &'static [&'static [u8]],
+    replies: &'static [&'static str],
     end: Result<(), FeedStop>,
     printed: &'static [u8],
     events: &'static [u8],
+}
+
+// A feed of no card, which ends when the machine is reset.
+fn idle(replies: &'static [&'static str], events: &'static [u8]) -> Case {
+    Case {
+        list: b"",
+        replies,
+        end: Ok(()),
+        printed: b"",
+        events,
+    }
+}
+
+// A feed of one card, which is rejected.
+fn rejected(replies: &'static [&'static str], events: &'static [u8]) -> Case {
+    Case {
+        list: b"1000\n",
+        replies,
+        end: Ok(()),
+        printed: b"1000 rejected\n",
+        events,
+    }
+}
+
+// A feed that a bad line ends.
+fn stopped(
+    list: &'static [u8],
+    replies: &'static [&'static str],
+    printed: &'static [u8],
+    events: &'static [u8],
+) -> Case {
+    Case {
+        list,
+        replies,
+        end: Err(FeedStop::BadLine),
+        printed,
+        events,
+    }
 }
 
 // How a feed ended, what it printed, and its event lines.
@@ -128,28 +170,19 @@ fn check_each(rt: &impl Abort, alloc: Global, cases: &[Case]) -> Result<(), Fail
 #[test]
 fn a_refused_opening_has_its_number_and_code(rt: HostRuntime) -> Result<(), Fail> {
     let cases = [
-        Case {
-            list: b"1000\n",
-            replies: &[RELEASED, RESET, BLANK_USED],
-            end: Ok(()),
-            printed: b"1000 rejected\n",
-            events: b"rejected serial=1000 number=10000003 code=60 name=blank-used\n",
-        },
-        Case {
-            list: b"1000\n",
-            replies: &[RELEASED, RESET, BATCH_UNKNOWN],
-            end: Ok(()),
-            printed: b"1000 rejected\n",
-            events: b"rejected serial=1000 number=10000003 code=56 name=batch-unknown\n",
-        },
+        rejected(
+            &[RELEASED, RESET, BLANK_USED],
+            b"rejected serial=1000 number=10000003 code=60 name=blank-used\n",
+        ),
+        rejected(
+            &[RELEASED, RESET, BATCH_UNKNOWN],
+            b"rejected serial=1000 number=10000003 code=56 name=batch-unknown\n",
+        ),
         // A session runs, which the next request resets.
-        Case {
-            list: b"1000\n",
-            replies: &[RELEASED, RESET, BUSY, RESET],
-            end: Ok(()),
-            printed: b"1000 rejected\n",
-            events: b"rejected serial=1000 number=10000003 code=61 name=machine-busy\n",
-        },
+        rejected(
+            &[RELEASED, RESET, BUSY, RESET],
+            b"rejected serial=1000 number=10000003 code=61 name=machine-busy\n",
+        ),
         Case {
             list: b"1000\n1001\n",
             replies: &[RELEASED, RESET, NUMBER_RELEASED],
@@ -171,13 +204,10 @@ fn a_refused_opening_has_its_number_and_code(rt: HostRuntime) -> Result<(), Fail
 
 #[test]
 fn a_used_boot_is_noticed(rt: HostRuntime) -> Result<(), Fail> {
-    let case = Case {
-        list: b"1000\n",
-        replies: &[RELEASED, RESET, NUMBER_REUSED],
-        end: Ok(()),
-        printed: b"1000 rejected\n",
-        events: b"rejected serial=1000 number=10000003 code=72 name=number-reused\nboot-used number=10000003\n",
-    };
+    let case = rejected(
+        &[RELEASED, RESET, NUMBER_REUSED],
+        b"rejected serial=1000 number=10000003 code=72 name=number-reused\nboot-used number=10000003\n",
+    );
     check(&rt, rt.alloc(), name("m1")?, &case);
     Ok(())
 }
@@ -208,21 +238,15 @@ fn a_spoiled_card_has_its_cause(rt: HostRuntime) -> Result<(), Fail> {
 #[test]
 fn a_try_that_changes_nothing_is_noticed(rt: HostRuntime) -> Result<(), Fail> {
     let cases = [
-        Case {
-            list: b"",
-            replies: &[STORAGE, RELEASED, STORAGE, STORAGE, RESET],
-            end: Ok(()),
-            printed: b"",
-            events: b"again number=10000001 tries=1 reply=\"HTTP/1.1 503 Service Unavailable\"\nagain number=10000002 tries=1 reply=\"HTTP/1.1 503 Service Unavailable\"\nagain number=10000002 tries=2 reply=\"HTTP/1.1 503 Service Unavailable\"\n",
-        },
+        idle(
+            &[STORAGE, RELEASED, STORAGE, STORAGE, RESET],
+            b"again number=10000001 tries=1 reply=\"HTTP/1.1 503 Service Unavailable\"\nagain number=10000002 tries=1 reply=\"HTTP/1.1 503 Service Unavailable\"\nagain number=10000002 tries=2 reply=\"HTTP/1.1 503 Service Unavailable\"\n",
+        ),
         // A connection that ends before its reply has none.
-        Case {
-            list: b"",
-            replies: &[NOTHING, NOTHING, RELEASED, RESET],
-            end: Ok(()),
-            printed: b"",
-            events: b"again number=10000001 tries=1\nagain number=10000001 tries=2\n",
-        },
+        idle(
+            &[NOTHING, NOTHING, RELEASED, RESET],
+            b"again number=10000001 tries=1\nagain number=10000001 tries=2\n",
+        ),
         // So has one that can't be had: ten are the most.
         Case {
             list: b"1000\n",
@@ -232,13 +256,10 @@ fn a_try_that_changes_nothing_is_noticed(rt: HostRuntime) -> Result<(), Fail> {
             events: b"again number=10000002 tries=1\nagain number=10000002 tries=2\nagain number=10000002 tries=3\nagain number=10000002 tries=4\nagain number=10000002 tries=5\nagain number=10000002 tries=6\nagain number=10000002 tries=7\nagain number=10000002 tries=8\nagain number=10000002 tries=9\nagain number=10000002 tries=10\n",
         },
         // A reply to another call is none.
-        Case {
-            list: b"",
-            replies: &[NUMBER_REUSED, RELEASED, RESET],
-            end: Ok(()),
-            printed: b"",
-            events: b"again number=10000001 tries=1 reply=\"HTTP/1.1 409 Conflict\"\n",
-        },
+        idle(
+            &[NUMBER_REUSED, RELEASED, RESET],
+            b"again number=10000001 tries=1 reply=\"HTTP/1.1 409 Conflict\"\n",
+        ),
     ];
     check_each(&rt, rt.alloc(), &cases)
 }
@@ -247,114 +268,103 @@ fn a_try_that_changes_nothing_is_noticed(rt: HostRuntime) -> Result<(), Fail> {
 #[test]
 fn a_first_line_is_escaped_and_short(rt: HostRuntime) -> Result<(), Fail> {
     let cases = [
-        Case {
-            list: b"",
-            replies: &[
-                b"HTTP/1.0 502 Bad Gateway\nServer: x\r\n\r\n",
+        idle(
+            &[
+                "HTTP/1.0 502 Bad Gateway\nServer: x\r\n\r\n",
                 RELEASED,
                 RESET,
             ],
-            end: Ok(()),
-            printed: b"",
-            events: b"again number=10000001 tries=1 reply=\"HTTP/1.0 502 Bad Gateway\"\n",
-        },
-        Case {
-            list: b"",
-            replies: &[
-                b"SSH-2.0 \"x\"\\ \x00\x7f\xc3\xa4~",
-                b"\r\n",
+            b"again number=10000001 tries=1 reply=\"HTTP/1.0 502 Bad Gateway\"\n",
+        ),
+        idle(
+            &["SSH-2.0 \"x\"\\ \x00\x7f\u{e4}~", "\r\n", RELEASED, RESET],
+            b"again number=10000001 tries=1 reply=\"SSH-2.0 \\x22x\\x22\\x5C \\x00\\x7F\\xC3\\xA4~\"\nagain number=10000001 tries=2 reply=\"\"\n",
+        ),
+        idle(
+            &[
+                "0123456789012345678901234567890123456789012345678901234567890123456789012345678901234567890123456789X\r\n",
                 RELEASED,
                 RESET,
             ],
-            end: Ok(()),
-            printed: b"",
-            events: b"again number=10000001 tries=1 reply=\"SSH-2.0 \\x22x\\x22\\x5C \\x00\\x7F\\xC3\\xA4~\"\nagain number=10000001 tries=2 reply=\"\"\n",
-        },
-        Case {
-            list: b"",
-            replies: &[
-                b"0123456789012345678901234567890123456789012345678901234567890123456789012345678901234567890123456789X\r\n",
-                RELEASED,
-                RESET,
-            ],
-            end: Ok(()),
-            printed: b"",
-            events: b"again number=10000001 tries=1 reply=\"0123456789012345678901234567890123456789012345678901234567890123456789012345678901234567890123456789\"\n",
-        },
+            b"again number=10000001 tries=1 reply=\"0123456789012345678901234567890123456789012345678901234567890123456789012345678901234567890123456789\"\n",
+        ),
     ];
     check_each(&rt, rt.alloc(), &cases)
 }
 
-// Lists whose second line is bad, behind a card that gets good, and the event line of what is wrong with it.
-static BAD_LINES: [(&[u8], &[u8]); 18] = [
-    (b"1000\n\n1002\n", b"bad-line line=2 cause=empty\n"),
-    (b"1000\n\n", b"bad-line line=2 cause=empty\n"),
+// Event lines of what is wrong with a list's second line, and such lists, whose first card gets good.
+static BAD_LINES: [(&[u8], &[&[u8]]); 5] = [
     (
-        b"1000\n1001\r\n1002\r\n",
+        b"bad-line line=2 cause=empty\n",
+        &[b"1000\n\n1002\n", b"1000\n\n"],
+    ),
+    (
         b"bad-line line=2 cause=ends-in-cr\n",
+        &[
+            b"1000\n1001\r\n1002\r\n",
+            b"1000\n1001 9000\r\n",
+            b"1000\n\r",
+        ],
     ),
     (
-        b"1000\n1001 9000\r\n",
-        b"bad-line line=2 cause=ends-in-cr\n",
+        b"bad-line line=2 cause=space\n",
+        &[
+            b"1000\n1001  9000\n",
+            b"1000\n 1001\n",
+            b"1000\n1001 \n",
+            b"1000\n \n",
+        ],
     ),
-    (b"1000\n\r", b"bad-line line=2 cause=ends-in-cr\n"),
-    (b"1000\n1001  9000\n", b"bad-line line=2 cause=space\n"),
-    (b"1000\n 1001\n", b"bad-line line=2 cause=space\n"),
-    (b"1000\n1001 \n", b"bad-line line=2 cause=space\n"),
-    (b"1000\n \n", b"bad-line line=2 cause=space\n"),
-    (b"1000\n01001\n", b"bad-line line=2 cause=serial\n"),
     (
-        b"1000\n1000000000000000000\n",
         b"bad-line line=2 cause=serial\n",
+        &[
+            b"1000\n01001\n",
+            b"1000\n1000000000000000000\n",
+            b"1000\n-1\n",
+            b"1000\nserial 9000\n",
+            b"1000\n1001\t9000\n",
+            b"1000\n1001\xc2\xa09000 900\n",
+        ],
     ),
-    (b"1000\n-1\n", b"bad-line line=2 cause=serial\n"),
-    (b"1000\nserial 9000\n", b"bad-line line=2 cause=serial\n"),
-    (b"1000\n1001\t9000\n", b"bad-line line=2 cause=serial\n"),
-    (b"1000\n1001 900\n", b"bad-line line=2 cause=word\n"),
-    (b"1000\n1001 90000\n", b"bad-line line=2 cause=word\n"),
-    (b"1000\n1001 9000 90g0\n", b"bad-line line=2 cause=word\n"),
     (
-        b"1000\n1001\xc2\xa09000 900\n",
-        b"bad-line line=2 cause=serial\n",
+        b"bad-line line=2 cause=word\n",
+        &[
+            b"1000\n1001 900\n",
+            b"1000\n1001 90000\n",
+            b"1000\n1001 9000 90g0\n",
+        ],
     ),
 ];
 
 #[test]
 fn a_bad_line_has_its_number_and_cause(rt: HostRuntime) -> Result<(), Fail> {
     let (alloc, machine) = (rt.alloc(), name("m1")?);
-    for (list, events) in BAD_LINES {
-        let case = Case {
-            list,
-            replies: &REPLIES,
-            end: Err(FeedStop::BadLine),
-            printed: PRINTED,
-            events,
-        };
-        check(&rt, alloc, machine, &case);
+    for (events, lists) in BAD_LINES {
+        for list in lists {
+            let case = stopped(*list, &REPLIES, PRINTED, events);
+            check(&rt, alloc, machine, &case);
+        }
     }
     Ok(())
 }
 
 #[test]
 fn lines_of_a_list_count_from_one(rt: HostRuntime) -> Result<(), Fail> {
-    let (alloc, machine) = (rt.alloc(), name("m1")?);
-    let first = Case {
-        list: b"\n1000\n",
-        replies: &[RELEASED, RESET],
-        end: Err(FeedStop::BadLine),
-        printed: b"",
-        events: b"bad-line line=1 cause=empty\n",
-    };
-    let third = Case {
-        list: b"1000\n1001\nx",
-        replies: &[RELEASED, RESET, BLANK_USED, BLANK_USED],
-        end: Err(FeedStop::BadLine),
-        printed: b"1000 rejected\n1001 rejected\n",
-        events: b"rejected serial=1000 number=10000003 code=60 name=blank-used\nrejected serial=1001 number=10000004 code=60 name=blank-used\nbad-line line=3 cause=serial\n",
-    };
-    check(&rt, alloc, machine, &first);
-    check(&rt, alloc, machine, &third);
-    Ok(())
+    let cases = [
+        stopped(
+            b"\n1000\n",
+            &[RELEASED, RESET],
+            b"",
+            b"bad-line line=1 cause=empty\n",
+        ),
+        stopped(
+            b"1000\n1001\nx",
+            &[RELEASED, RESET, BLANK_USED, BLANK_USED],
+            b"1000 rejected\n1001 rejected\n",
+            b"rejected serial=1000 number=10000003 code=60 name=blank-used\nrejected serial=1001 number=10000004 code=60 name=blank-used\nbad-line line=3 cause=serial\n",
+        ),
+    ];
+    check_each(&rt, rt.alloc(), &cases)
 }
 
 // A writer of event lines that fails has their beginning, and the feed goes on.
