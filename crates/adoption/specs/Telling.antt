@@ -18,7 +18,8 @@ Tells NotOurs db = (v : Version) → ¬ IsOfVersion v db
 Tells Unsound db = ((v : Version) × IsOfVersion v db) × ((v : Version) → ¬ HoldsSoundRows v db)
 Tells (Sound v t) db = HoldsRows v t db × AreOfSoundContents t
 
--- rows of this version are those of sound contents, or not; where they are, they are told in another order
+-- rows of this version are those of sound contents, or not; where they are, they are told in
+-- another order
 abbrev pub Judges : Version → Tables → Found → Type 0
 Judges v t NotOurs = ⊥
 Judges v t Unsound = ¬ AreOfSoundContents t

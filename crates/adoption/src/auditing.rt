@@ -1,9 +1,8 @@
 //! The audit of a database.
-ghost use Rattle.std.specs.Prelude.{◌≡◌, false, IfOk, IfSome, IsTrue, MatchOption};
+ghost use Rattle.std.specs.Prelude.{◌≡◌, false, IfOk, MatchOption};
 ghost use Rattle.sqlite.specs.Held.{state};
 ghost use Rattle.sqlite.specs.State.{HasCleanDisk, Survives};
 ghost use Rattle.sql_base.specs.Ends.{IsKept};
-ghost use Rattle.sql_tables.specs.Alike.{HasJust};
 ghost use Rattle.sql_tables.specs.Ours.{AreThere};
 ghost use Rattle.sql_tables.specs.Versions.{schema_of};
 ghost use Rattle.table_reads.specs.Holding.{IsOfVersion};

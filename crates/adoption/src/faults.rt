@@ -31,8 +31,8 @@ impl From<Error> for OpenFault {
     }
 }
 
-/// What a store says of SQLite's error. Rows of sound contents are refused nothing, so an error that
-/// says neither that memory is refused nor that the disk is full is one of the device.
+/// What a store says of SQLite's error. Rows of sound contents are refused nothing, so an error
+/// that says neither that memory is refused nor that the disk is full is one of the device.
 pub fn fault_of(error: Error) -> StoreFault
     ensures { result ≡ fault_for error }
 {

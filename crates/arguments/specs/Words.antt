@@ -251,8 +251,8 @@ IsRefusedBy kinds NotText = ⊥
 IsRefusedBy kinds BadName = ⊥
 IsRefusedBy kinds Memory = ⊤
 
--- clap refuses the words so, or it takes them and they are a usage fault, since they ask for nothing
--- or tell a batch or a machine by what isn't a name
+-- clap refuses the words so, or it takes them and they are a usage fault, since they ask for
+-- nothing or tell a batch or a machine by what isn't a name
 abbrev pub IsRefusal : List Text → WordsFault → Type 0
 IsRefusal words (Help text) = IsRefusedBy (fault_of program words) (Help text)
 IsRefusal words (Version text) = IsRefusedBy (fault_of program words) (Version text)

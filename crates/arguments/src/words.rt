@@ -1,7 +1,7 @@
 //! The program's words: the subcommand that they ask for, each of its values in its range.
 ghost use Rattle.std.specs.Prelude.{◌≡◌, ◌≤◌, ◌<◌, ◌^◌, ℕ, [], IfOk, IfErr, IfSome, IsTrue, ◌↔◌};
-ghost use Rattle.std.specs.Prelude.{None, Some, false, map, option_map};
-ghost use Rattle.clap.specs.Words.{HasKind, Kinds, app_of, fault_of, first_of, rule_of};
+ghost use Rattle.std.specs.Prelude.{None, Some, false, map};
+ghost use Rattle.clap.specs.Words.{HasKind, Kinds, app_of, fault_of, rule_of};
 ghost use Rattle.clap.specs.declared.builder.command.Command.TheViews.{out-Command as fields_of};
 ghost use Rattle.clap.specs.Words.{found_of, rows_of, subcommand_rows_of};
 ghost use Rattle.arguments.specs.Words.{InRange, IsNumber, IsRefusal, IsRefusedBy, Means};
@@ -54,8 +54,8 @@ pub enum Words {
     Feed { port: u16, start: FeedStart },
 }
 
-/// What a feed starts with: its machine, the boot of that machine, 1 to 9,999,999,999, and the batch
-/// that its cards are for.
+/// What a feed starts with: its machine, the boot of that machine, 1 to 9,999,999,999, and the
+/// batch that its cards are for.
 #[derive(Clone, Copy, PartialEq, Eq)]
 pub struct FeedStart {
     pub machine: Name,

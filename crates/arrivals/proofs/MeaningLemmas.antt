@@ -42,7 +42,8 @@ contents_old c a e are not_released some = rw (not_released, among_kept c.kept a
 pub contents_new : (c : Contents) (a : Arrived) → is_released c.marks a ≡ false → entry_of c.kept a.client a.number ≡ None → contents_after c (a ∷ []) ≡ contents_with c a
 contents_new c a not_released none = rw (not_released, among_kept c.kept a, none) refl
 
--- an arrival by its three cases: what holds of the contents that each leaves, and of what it is told
+-- an arrival by its three cases: what holds of the contents that each leaves, and of what it is
+-- told
 pub decided_by : (c : Contents) (a : Arrived) (P : Contents → Told → Type 0) → AreAbove c
     → (is_released c.marks a ≡ true → P c (told_of (NumberReleased (mark_of c.marks a.client))))
     → ((e : Entry) → is_released c.marks a ≡ false → entry_of c.kept a.client a.number ≡ Some e → P c (told_by a.ask e))

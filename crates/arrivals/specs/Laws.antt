@@ -17,6 +17,7 @@ RepeatsAreTold = (c : Contents) (a : Arrived) (between : List Arrived) → AreAb
     let after = contents_after c (a ∷ between) in
     is_released after.marks a ≡ false → told_on after a ≡ told_on c a
 
--- on the same contents, in whatever order sets and maps stand, an arrival is told the same, and leaves the same again
+-- on the same contents, in whatever order sets and maps stand, an arrival is told the same, and
+-- leaves the same again
 abbrev pub AreToldAlike : Type 0
 AreToldAlike = (c d : Contents) (a : Arrived) → AreSound c → AreSame c d → (told_on c a ≡ told_on d a) × AreSame (contents_after c (a ∷ [])) (contents_after d (a ∷ []))

@@ -1,4 +1,5 @@
--- What arrivals mean: the first of each number acts, each later one is told what is kept, and one whose number is released is told so.
+-- What arrivals mean: the first of each number acts, each later one is told what is kept, and one
+-- whose number is released is told so.
 use Rattle.std.specs.Prelude.{ℕ, ◌==◌, ◌&&◌, ◌||◌, nat_le, max, Bool, if◌then◌else◌, List, [], ◌∷◌, ◌++◌, map, bytes_eq, Option, option_map}
 use Rattle.std.specs.List.{list_any}
 use Rattle.job_facts.specs.declared.request.Call.{Call}
@@ -87,7 +88,8 @@ abbrev pub entries_of : Facts → List Mark → List Arrived → List Entry
 entries_of f marks [] = []
 entries_of f marks (a ∷ rest) = entry_with a (reply_to f marks a) ∷ entries_of (facts_with f a) (marks_with marks a) rest
 
--- the contents after arrivals: the firsts among them act, and what is kept up to the marks at the end is gone
+-- the contents after arrivals: the firsts among them act, and what is kept up to the marks at the
+-- end is gone
 abbrev pub contents_after : Contents → List Arrived → Contents
 contents_after c arrivals =
     let new = firsts (map number_of c.kept) c.marks arrivals in
@@ -114,7 +116,8 @@ told_by ask e = told_again ask (reply_of_entry e)
 abbrev pub answer : List Entry → Arrived → Option Told
 answer kept a = option_map (told_by a.ask) (entry_of kept a.client a.number)
 
--- what an arrival is told on these contents: that its number is released, or by the entry of its number, or where there is none its own reply
+-- what an arrival is told on these contents: that its number is released, or by the entry of its
+-- number, or where there is none its own reply
 abbrev pub told_on : Contents → Arrived → Told
 told_on c a =
     if is_released c.marks a then told_of (NumberReleased (mark_of c.marks a.client))

@@ -1,4 +1,5 @@
--- What is told of a reply (this project's profile): its status, and its body, which is compact JSON (RFC 8259) with the members in order of their names.
+-- What is told of a reply (this project's profile): its status, and its body, which is compact JSON
+-- (RFC 8259) with the members in order of their names.
 use Rattle.std.specs.Prelude.{ℕ, List}
 use Rattle.job_facts.specs.declared.refusal.Refusal.TheVariants.{NumberReused}
 use Rattle.job_facts.specs.declared.reply.Reply.{Reply}

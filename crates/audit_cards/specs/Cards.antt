@@ -12,7 +12,8 @@ use Rattle.table_rows.specs.Tables.{StoredWord}
 abbrev pub status_words : List StoredWord → List ℕ
 status_words words = map (λ (w : StoredWord). w.sw) words
 
--- the words are a session's of this plan: they leave its card at this cursor, and the last of them stops it or not
+-- the words are a session's of this plan: they leave its card at this cursor, and the last of them
+-- stops it or not
 pub record Leaves (plan : Plan) (words : List ℕ) (cursor : Cursor) (stops : Bool) : Type 0 where
   pub words_are : AreWords (commands_of plan) words
   pub stops_is : last_stops (commands_of plan) words ≡ stops

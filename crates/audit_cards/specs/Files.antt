@@ -75,7 +75,8 @@ pub record IsFileOf (product : Product) (raw : List ℕ) (rows : List Row) : Typ
 abbrev pub IsUnread : Product → List ℕ → Type 0
 IsUnread product raw = (rows : List Row) → batch_of product raw ≡ Ok rows → ⊥
 
--- a batch with its file's rows by their records, the rows of its records, and its sessions by their records
+-- a batch with its file's rows by their records, the rows of its records, and its sessions by their
+-- records
 pub record HasFile (t : Tables) (b : StoredBatch) (product : Product) (groups : List (List Row)) (records : List StoredRecord) (sessions : List StoredSession) : Type 0 where
   pub batch_is : find (is_batch b.id) t.batches ≡ Some b
   pub product_is : product_named t.products b.product ≡ Some product

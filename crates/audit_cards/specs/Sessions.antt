@@ -77,7 +77,8 @@ pub record IsSoundCount (cards spoiled : ℕ) (withdrawn : Bool) (remakes : ℕ)
   pub remade_all : 1 ≤ cards → remakes ≡ spoiled
   pub withdrawn_none : withdrawn ≡ true → cards ≡ 0
 
--- the state of a record, by whether a session of it is good, whether one runs, whether it is withdrawn, and whether it failed
+-- the state of a record, by whether a session of it is good, whether one runs, whether it is
+-- withdrawn, and whether it failed
 abbrev pub state_by_count : Bool → Bool → Bool → Bool → RecordState
 state_by_count good running withdrawn failed =
     if good then rec.Good

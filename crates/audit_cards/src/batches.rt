@@ -1,5 +1,6 @@
 //! Batches, with their files, their records, groupings and sessions.
-ghost use Rattle.std.specs.Prelude.{◌≡◌, ◌↔◌, ◌<◌, IfOk, IfSome, IsTrue, All, Some, None, true, filter, find, map};
+ghost use Rattle.std.specs.Prelude.{◌≡◌, ◌↔◌, ◌<◌, IfOk, IfSome, IsTrue, All, Some, None, true};
+ghost use Rattle.std.specs.Prelude.{filter, find, map};
 ghost use Rattle.std.specs.List.Sorted.{IsNonDecreasingBy};
 ghost use Rattle.store_data.specs.Name.{is_name};
 ghost use Rattle.store_data.specs.Sequence.{IsProduct};
@@ -69,7 +70,8 @@ fn groupings_of<'a>(tables: &'a Tables, batch: &StoredBatch) -> &'a [StoredGroup
     range_of(&tables.groupings, batch.id)
 }
 
-// Whether these are the rows of the rows of the batch's file, the records of which have these names.
+// Whether these are the rows of the rows of the batch's file, the records of which have these
+// names.
 fn has_groupings(
     batch: &StoredBatch,
     groupings: &[StoredGrouping],

@@ -1,5 +1,6 @@
 //! Where the words of a session leave its card.
-ghost use Rattle.std.specs.Prelude.{◌≡◌, ◌∷◌, ◌++◌, [], ℕ, List, false, IfSome, None, Some, slice_get};
+ghost use Rattle.std.specs.Prelude.{◌≡◌, ◌∷◌, ◌++◌, [], ℕ, List, false, IfSome, None, Some};
+ghost use Rattle.std.specs.Prelude.{slice_get};
 ghost use Rattle.store_data.specs.Cursor.{IsSegmentAt, cursor_at};
 ghost use Rattle.store_data.specs.Sequence.{IsPlan, Plan, commands_of};
 ghost use Rattle.job_facts.specs.Facts.{Session};
@@ -95,7 +96,8 @@ pub(crate) fn card_after(plan: &RecordPlan<'_>, words: &[StoredWord]) -> Option<
     Some(card)
 }
 
-// The state of a session that goes on with the command at the cursor, or is good where there is none.
+// The state of a session that goes on with the command at the cursor, or is good where there is
+// none.
 fn state_at(plan: &RecordPlan<'_>, cursor: &Cursor) -> SessionState
     requires { IsPlan plan.now }
     ensures { (s : Session) → Leaves plan.now s.words cursor.now false → s.ended ≡ false

@@ -1,6 +1,5 @@
 //! The records and the groupings of a batch's file.
-ghost use Rattle.std.specs.Prelude.{◌≡◌, ◌↔◌, ℕ, IfOk, IsTrue, Some, map, slice_get};
-ghost use Rattle.store_data.specs.declared.row.Row.{Row as RowValue};
+ghost use Rattle.std.specs.Prelude.{◌≡◌, ◌↔◌, IfOk, IsTrue, Some, map, slice_get};
 ghost use Rattle.table_rows.specs.After.{new_grouping};
 ghost use Rattle.audit_laws.specs.Audited.{key_of};
 ghost use Rattle.audit_cards.specs.Files.{IsNamed, groupings_in, keys_of, names_in};

@@ -5,7 +5,8 @@ ghost use Rattle.job_facts.specs.Sound.{has_card};
 ghost use Rattle.job_facts.specs.States.{same_session_state};
 ghost use Rattle.audit_laws.specs.Audited.{IsAuditedRecord, IsAuditedSession, is_withdrawn};
 ghost use Rattle.audit_order.specs.Order.{AreReady};
-ghost use Rattle.audit_cards.specs.Sessions.{HasPlan, HasRows, IsSoundCount, StandsBy, state_by_count};
+ghost use Rattle.audit_cards.specs.Sessions.{HasPlan, HasRows, IsSoundCount, StandsBy};
+ghost use Rattle.audit_cards.specs.Sessions.{state_by_count};
 ghost use Rattle.audit_cards.specs.Sessions.{states_in};
 
 use crate::by_record::SessionRef;

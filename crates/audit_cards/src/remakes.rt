@@ -1,5 +1,6 @@
 //! Remakes: the turns of each record.
-ghost use Rattle.std.specs.Prelude.{◌≡◌, ◌↔◌, ◌<◌, ◌^◌, ◌+◌, ◌++◌, List, IfSome, IsTrue, None, flat_map};
+ghost use Rattle.std.specs.Prelude.{◌≡◌, ◌↔◌, ◌<◌, ◌^◌, ◌+◌, ◌++◌, List, IfSome, IsTrue, None};
+ghost use Rattle.std.specs.Prelude.{flat_map};
 ghost use Rattle.table_rows.specs.Tables.{StoredRemake as RemakeValue};
 ghost use Rattle.audit_laws.specs.Audited.{turns_of};
 ghost use Rattle.audit_cards.specs.Sessions.{turn_of};

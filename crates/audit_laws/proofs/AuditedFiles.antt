@@ -1,4 +1,5 @@
--- The rows of an image by its batches and sessions: ids count up, and each file and each session gives just its own rows.
+-- The rows of an image by its batches and sessions: ids count up, and each file and each session
+-- gives just its own rows.
 use Rattle.std.proofs.Common.{◌≡◌, ℕ, ◌+◌, ◌==◌, Bool, true, false, List, [], ◌∷◌, length, map, Some, refl, sym, ap, ◌∙◌, subst}
 use Rattle.std.specs.Prelude.{filter, slice_get}
 use Rattle.std.specs.List.{enumerate_from, flat_map, range_with_len}

@@ -1,4 +1,5 @@
--- What the audit tests holds of the same rows in another order of those tables whose order tells nothing.
+-- What the audit tests holds of the same rows in another order of those tables whose order tells
+-- nothing.
 use Rattle.std.proofs.Common.{◌≡◌, ◌≢◌, ◌==◌, ℕ, Bool, false, not, List, get_or, map, inl, inr, sym, ap, ◌∙◌, subst, arith, IsPermutation}
 use Rattle.std.specs.Prelude.{AllPairs, IsSome, IsTrue, bytes_eq, count_by, nat_lt, option_map, unwrap_or}
 use Rattle.std.specs.List.{enumerate_from, flat_map}

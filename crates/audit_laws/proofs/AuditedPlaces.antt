@@ -1,4 +1,5 @@
--- Where the batches, records and sessions of sound facts stand in their image, and what is kept of its rows by ids and places.
+-- Where the batches, records and sessions of sound facts stand in their image, and what is kept of
+-- its rows by ids and places.
 use Rattle.std.proofs.Common.{◌≡◌, ℕ, ◌+◌, ◌<◌, ◌==◌, ◌&&◌, Bool, true, List, [], get_or, length, map, All, Some, inl, inr, sym, ap, subst, ◌∙◌, arith}
 use Rattle.std.specs.Prelude.{bytes_eq, filter, slice_get}
 use Rattle.std.specs.List.{enumerate_from, list_any}

@@ -13,7 +13,8 @@ use Rattle.audit_laws.proofs.InOrder.{IsBelow}
 
 -- ---- rows of what is numbered
 
--- rows whose first number is that of what they are of, and that stand in the order of the others there
+-- rows whose first number is that of what they are of, and that stand in the order of the others
+-- there
 module _ {X Y : Type 0} (first : Y → ℕ) (others : Y → List ℕ) (g : ℕ × X → List Y) (own : (e : ℕ × X) → All (λ y. first y ≡ e.0) (g e))
     (inside : (e : ℕ × X) → AllPairs (λ x y. IsBelow (others x) (others y)) (g e)) where
   abbrev Below : Y → Y → Type 0

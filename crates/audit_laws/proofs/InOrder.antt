@@ -1,4 +1,5 @@
--- Rows in the order of keys that differ: those of a list that stands in this order, in any order in which no key falls, are that list.
+-- Rows in the order of keys that differ: those of a list that stands in this order, in any order in
+-- which no key falls, are that list.
 use Rattle.std.proofs.Common.{◌≡◌, ◌≢◌, ◌⊎◌, ℕ, zero, suc, ◌<◌, ◌==◌, ◌&&◌, ◌||◌, Bool, true, List, [], ◌∷◌, length, get_or, All, Contains, inl, inr, refl, sym, ap, ◌∙◌, subst, arith, IsPermutation}
 use Rattle.std.specs.Prelude.{AllPairs, nat_lt}
 use Rattle.std.proofs.lemmas.Bool.{and_from, and_parts, eq-eqb, eqb-true, false≢true, or_cases, or_left, or_right}

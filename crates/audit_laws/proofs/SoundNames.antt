@@ -1,4 +1,5 @@
--- Names and numbers in audited rows: a batch by its id and by its name, a record by its place and by its name.
+-- Names and numbers in audited rows: a batch by its id and by its name, a record by its place and
+-- by its name.
 use Rattle.std.proofs.Common.{◌≡◌, ℕ, ◌+◌, ◌==◌, ◌&&◌, Bool, true, false, List, [], map, get_or, All, Some, inl, inr, refl, sym, ap, subst, ◌∙◌, arith}
 use Rattle.std.specs.Prelude.{AllPairs, bytes_eq, find, option_map, slice_get, unwrap_or}
 use Rattle.std.specs.List.{enumerate_from, flat_map}

@@ -1,4 +1,5 @@
--- What was told of records and batches is sound in the contents of audited rows; and so these are sound.
+-- What was told of records and batches is sound in the contents of audited rows; and so these are
+-- sound.
 use Rattle.std.proofs.Common.{◌≡◌, ℕ, ◌==◌, ◌&&◌, Bool, true, false, cond, List, [], map, get_or, All, Option, Some, None, refl, sym, ap, subst, ◌∙◌, arith}
 use Rattle.std.specs.Prelude.{AllPairs, IsSome, IsTrue, bytes_eq, count_by, find}
 use Rattle.std.specs.List.{list_all, range_with_len}

@@ -1,4 +1,5 @@
--- The sessions of audited rows, as facts: their words, their records, their states and their cursors.
+-- The sessions of audited rows, as facts: their words, their records, their states and their
+-- cursors.
 use Rattle.std.proofs.Common.{◌≡◌, ℕ, ◌+◌, ◌==◌, Bool, true, false, List, map, get_or, All, Option, Some, None, refl, sym, ap, ◌∙◌, arith}
 use Rattle.std.specs.Prelude.{filter, find, option_and_then, option_map, slice_get, unwrap_or}
 use Rattle.std.specs.List.{enumerate_from}

@@ -1,4 +1,5 @@
--- When the rows of the tables are those of sound contents, told row by row: the audit (docs/TABLES.md, "When rows are taken").
+-- When the rows of the tables are those of sound contents, told row by row: the audit
+-- (docs/TABLES.md, "When rows are taken").
 use Rattle.std.specs.Prelude.{◌≡◌, ◌≢◌, ◌≤◌, ◌==◌, ◌&&◌, ◌||◌, ℕ, Bool, true, false, not, nat_lt, List, [], ◌∷◌, map, flat_map, filter, find, length, count_by, bytes_eq, All, AllPairs, IsPermutation, IsTrue, Some}
 use Rattle.std.specs.List.{enumerate_from, range_with_len}
 use Rattle.store_data.specs.declared.row.Product.{Product}
@@ -63,8 +64,8 @@ named_session t s = record {
   ended = s.ended;
 }
 
--- its words are at most its record's commands, and only the last may fail; its state and its cursor are by these;
--- its blank lies in a lot of its batch's product
+-- its words are at most its record's commands, and only the last may fail; its state and its cursor
+-- are by these; its blank lies in a lot of its batch's product
 pub record IsAuditedSession (t : Tables) (s : StoredSession) : Type 0 where
   pub machine : IsName s.machine
   pub batch : StoredBatch

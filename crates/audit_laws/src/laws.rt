@@ -1,4 +1,5 @@
-//! What the audit tests of rows is just that they are those of sound contents. Each function does nothing; who calls it has its law.
+//! What the audit tests of rows is just that they are those of sound contents. Each function does
+//! nothing; who calls it has its law.
 ghost use Rattle.job_facts.specs.Contents.{AreSound, Contents};
 ghost use Rattle.image_laws.specs.Image.{image};
 ghost use Rattle.image_laws.specs.Decided.{contents_of};

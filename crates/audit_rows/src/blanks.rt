@@ -1,7 +1,7 @@
 //! Blanks, their lots and their sessions.
 ghost use Rattle.std.specs.Prelude.{◌≡◌, ◌≢◌, ◌≤◌, ◌+◌, ◌^◌, ◌&&◌, ◌↔◌, IfOk, IsTrue, All, nat_le};
 ghost use Rattle.std.specs.Prelude.{nat_lt};
-ghost use Rattle.std.specs.Prelude.{AllPairs, IsPermutation, count_by, map, not};
+ghost use Rattle.std.specs.Prelude.{AllPairs, IsPermutation, count_by, map};
 ghost use Rattle.std.specs.List.Sorted.{IsNonDecreasing};
 ghost use Rattle.job_facts.specs.States.{is_in};
 ghost use Rattle.table_rows.specs.Tables.{StoredBlank as BlankValue, StoredLot as LotValue};

@@ -1,4 +1,5 @@
-//! Whether the rows of the store's tables are those of sound contents, and where not, which rule fails.
+//! Whether the rows of the store's tables are those of sound contents, and where not, which rule
+//! fails.
 #![tactic(auto)]
 
 mod audit;

@@ -1,5 +1,6 @@
 //! Machines, and the sessions that run on them.
-ghost use Rattle.std.specs.Prelude.{◌≡◌, ◌≤◌, ◌↔◌, ℕ, List, IfOk, IsTrue, All, count_by, filter, map};
+ghost use Rattle.std.specs.Prelude.{◌≡◌, ◌≤◌, ◌↔◌, ℕ, List, IfOk, IsTrue, All, count_by, filter};
+ghost use Rattle.std.specs.Prelude.{map};
 ghost use Rattle.job_facts.specs.Sound.{IsName};
 ghost use Rattle.job_facts.specs.States.{is_running};
 ghost use Rattle.table_rows.specs.Keys.{is_running_on};

@@ -1,5 +1,6 @@
 //! Products, lots and batches by their names.
-ghost use Rattle.std.specs.Prelude.{◌≡◌, ◌↔◌, ◌+◌, ◌&&◌, ◌||◌, IsSome, IsTrue, All, not, bytes_eq, nat_le};
+ghost use Rattle.std.specs.Prelude.{◌≡◌, ◌↔◌, ◌+◌, ◌&&◌, ◌||◌, IsSome, IsTrue, All, not, bytes_eq};
+ghost use Rattle.std.specs.Prelude.{nat_le};
 ghost use Rattle.store_data.specs.Sequence.{IsProduct};
 ghost use Rattle.job_facts.specs.Sound.{AreLots, AreProducts, IsLot, IsName};
 ghost use Rattle.job_facts.specs.States.{product_named};

@@ -13,8 +13,8 @@ use std::alloc::{AllocError, Global};
 use table_rows::Tables;
 
 /// The first rule that the rows, in any order, break: none where they are those of sound contents.
-/// The rows all stay, and are sorted. Time is the rows' bytes, and their number times its logarithm.
-/// Errors: refused memory.
+/// The rows all stay, and are sorted. Time is the rows' bytes, and their number times its
+/// logarithm. Errors: refused memory.
 pub fn first_failing(alloc: Global, tables: &mut Tables) -> Result<Option<Rule>, AllocError>
     ensures sound { IfOk result (λ found. IsNone found ↔
         ((c : Contents) × AreSound c × HaveSameRows tables.old (image c))) }

@@ -1,4 +1,5 @@
--- The first record with too many fields, found by what each byte ends, is one of the records of the text.
+-- The first record with too many fields, found by what each byte ends, is one of the records of the
+-- text.
 use Rattle.std.proofs.Common.{◌≡◌, ◌≤◌, ◌<◌, ◌+◌, ℕ, Bool, true, false, List, [], ◌∷◌, ◌++◌, length, slice_get, Option, Some, None, refl, sym, ap, ◌∙◌, arith, add-one, drop, subst, inl, inr}
 use Rattle.std.specs.Prelude.{◌⊎◌, ◌==◌, IfSome, nat_lt, slice_index, if◌then◌else◌}
 use Rattle.std.proofs.lemmas.Bool.{cases_Bool, cond_both, ltb-true, ne_eqb}

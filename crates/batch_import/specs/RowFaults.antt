@@ -1,4 +1,5 @@
--- The kinds of faults that a row of a batch file has, and the first row that has one (this project's profile).
+-- The kinds of faults that a row of a batch file has, and the first row that has one (this
+-- project's profile).
 use Rattle.std.specs.Prelude.{◌==◌, ◌+◌, ◌&&◌, ◌||◌, ℕ, Bool, true, false, not, slice_index, List, [], ◌∷◌, ◌++◌, length, nat_le, nat_lt, is_none, Option, Some, None, Result, Ok, Err, bytes_eq}
 use Rattle.std.specs.List.{filter_map, find}
 use Rattle.std.specs.Cmp.Lexicographic.{pointwise}
@@ -33,7 +34,8 @@ abbrev pub is_plain : Enc → Bool
 is_plain Plain = true
 is_plain enc = false
 
--- whether a grouping is one of a record: its first identifier byte is 01 to 0A and its second not 00 (EMV Book 3, SFI 1 to 10)
+-- whether a grouping is one of a record: its first identifier byte is 01 to 0A and its second not
+-- 00 (EMV Book 3, SFI 1 to 10)
 abbrev pub is_for_record : List ℕ → Bool
 is_for_record coded = nat_le 1 (slice_index coded 0) && nat_le (slice_index coded 0) 10 && not (slice_index coded 1 == 0)
 
@@ -63,8 +65,8 @@ pub record PlacedRow : Type 0 where
 abbrev pub record_names : List (List (List ℕ)) → List (List ℕ)
 record_names rows = first_appearances (filter_map (λ fields. name_of_text (field fields 0)) rows)
 
--- whether a data row has a fault of a kind; `check` is the product's. 38: 4,096 data rows stand before it. 39: with it there
--- are over 1,024 names of records
+-- whether a data row has a fault of a kind; `check` is the product's. 38: 4,096 data rows stand
+-- before it. 39: with it there are over 1,024 names of records
 abbrev pub row_has : Bool → PlacedRow → Kind → Bool
 row_has check row NotSixFields = not (length row.fields == 6)
 row_has check row RecordName = is_none row.values.name

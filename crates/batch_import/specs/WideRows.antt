@@ -35,7 +35,8 @@ ends_of act.EndRecord = ends.Record
 ends_of act.Skip = ends.Nothing
 ends_of act.Copy = ends.Nothing
 
--- what is found behind a byte, by what it ended: so many records, and so many fields of the record at hand
+-- what is found behind a byte, by what it ended: so many records, and so many fields of the record
+-- at hand
 abbrev pub found_after : Ends → ℕ → ℕ → (ℕ → ℕ → Option ℕ) → Option ℕ
 found_after ends.Nothing records fields more = more records fields
 found_after ends.Field records fields more = if nat_lt 4 fields then Some records else more records (fields + 1)

@@ -32,7 +32,8 @@ abbrev pub with_file_row : ℕ → List (List ℕ) → ℕ × Row → Tables →
 with_file_row batch names row t =
     with_grouping (new_grouping batch (with_key names row.1.rec) row) (with_records (record_if_new batch names row.1.rec) t)
 
--- a step on the way: the first rows of a file were put in, with records of these names; the next has this number
+-- a step on the way: the first rows of a file were put in, with records of these names; the next
+-- has this number
 pub record IsImported (check : Bool) (raw : List ℕ) (batch : ℕ) (names : List (List ℕ)) (number : ℕ) (left : Left) (old new : State) : Type 0 where
   pub taken : List Row
   pub more : Coming

@@ -15,7 +15,8 @@ pub record AreBelow (end : ℕ) (n : BatchTotals) : Type 0 where
   pub sessions : n.sessions < end
   pub spoiled : n.spoiled < end
 
--- a record has a place that SQL has a number for, and its counts and those of its batch are below this
+-- a record has a place that SQL has a number for, and its counts and those of its batch are below
+-- this
 pub record IsPlacedBelow (end : ℕ) (p : RecordPlace) : Type 0 where
   pub batch : p.batch < 2 ^ 63
   pub place : p.place < 2 ^ 63

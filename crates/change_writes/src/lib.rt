@@ -1,4 +1,5 @@
-//! Each change of the facts, and each release: its statements in turn, with its reply in one transaction.
+//! Each change of the facts, and each release: its statements in turn, with its reply in one
+//! transaction.
 #![tactic(auto)]
 
 mod cards;

@@ -16,7 +16,8 @@ value c = unwrap_or (hex_digit_value c) 255
 abbrev pub byte : ℕ → ℕ → ℕ
 byte a b = value a % 16 * 16 + value b % 16
 
--- where all bytes so far are digits, the first pairs make the first i bytes; else the text makes none
+-- where all bytes so far are digits, the first pairs make the first i bytes; else the text makes
+-- none
 abbrev pub IsDecoded : List ℕ → List ℕ → ℕ → Bool → Type 0
 IsDecoded text bytes i true = decode_pairs 0 text ≡ prepend (take i bytes) (decode_pairs (2 * i) (drop (2 * i) text))
 IsDecoded text bytes i false = (e : FromHexError) × (decode_pairs 0 text ≡ Err e)

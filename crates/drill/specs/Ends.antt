@@ -23,12 +23,14 @@ pub record Done (S : Type 0) : Type 0 where
   pub served : S
   pub store : S
 
--- a server that stops is opened over again: its store has told no fault yet, and holds what it held unless a fault had shut it
+-- a server that stops is opened over again: its store has told no fault yet, and holds what it held
+-- unless a fault had shut it
 abbrev pub GoesOn : {S : Type 0} → (S → State) → (S → Type 0) → S → S → Bool → Type 0
 GoesOn state usable served store true = IsAnew (state store) × (usable served → Reopens (state served) (state store))
 GoesOn state usable served store false = store ≡ served
 
--- these lines did this one after the other, from a store and a shop floor to others, and then those are left
+-- these lines did this one after the other, from a store and a shop floor to others, and then those
+-- are left
 abbrev pub AreDone : {S : Type 0} → (S → State) → (S → Type 0) → S → Floor → List (List ℕ) → List (Done S) → S → Floor → List (List ℕ) → Type 0
 AreDone state usable s fl ls [] last floor left = (s ≡ last) × (fl ≡ floor) × (ls ≡ left)
 AreDone state usable s fl [] (d ∷ ds) last floor left = ⊥
@@ -46,7 +48,8 @@ abbrev pub IsLast : {S : Type 0} → (S → State) → S → Floor → List (Lis
 IsLast {S} state s fl [] did = ⊥
 IsLast {S} state s fl (l ∷ behind) did = (served : S) × Steps state s served fl l behind (Some did)
 
--- why it ends in a line that was done: it is not printed whole, or the server stops and its store does not open over again
+-- why it ends in a line that was done: it is not printed whole, or the server stops and its store
+-- does not open over again
 abbrev pub EndsIn : {S : Type 0} → (S → State) → S → Floor → List (List ℕ) → Did → DrillStop → Type 0
 EndsIn state s fl left did (stop.BadLine n) = ⊥
 EndsIn state s fl left did stop.WriteFailed = IsLast state s fl left did

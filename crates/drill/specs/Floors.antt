@@ -1,4 +1,5 @@
--- The shop floor of a drill: machines, packets and replies, what its lines do to them, and what they print (this project's profile).
+-- The shop floor of a drill: machines, packets and replies, what its lines do to them, and what
+-- they print (this project's profile).
 use Rattle.std.specs.Prelude.{◌≡◌, ℕ, ◌+◌, ◌-◌, ◌==◌, ◌&&◌, Bool, if◌then◌else◌, List, [], ◌∷◌, ◌++◌, length, bytes_eq, codes, position, slice_get, slice_set, Option, Some, None, option_map, option_and_then, Result, Ok, Err, Vec}
 use Rattle.std.specs.Global.{Global}
 use Rattle.std.specs.List.{list_any}
@@ -17,7 +18,8 @@ use Rattle.drill.specs.declared.sent.Returned.{Returned}
 use Rattle.drill.specs.declared.turn.Turn.{Turn}
 use Rattle.drill.specs.declared.turn.Turn.TheVariants as turn
 
--- the feeders of the machines that are there, the boots that they used, and all packets and replies, the oldest first
+-- the feeders of the machines that are there, the boots that they used, and all packets and
+-- replies, the oldest first
 pub record Floor : Type 0 where
   pub machines : List FeederState
   pub boots : List Boot

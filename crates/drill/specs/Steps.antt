@@ -18,7 +18,8 @@ use Rattle.drill.specs.declared.step.Did.{Did as DidValue}
 use Rattle.drill.specs.Deliveries.{delivery_of}
 use Rattle.drill.specs.Scripts.{asked}
 
--- what is there after a line, how many lines behind it were its file, what it printed, and whether the server stops then
+-- what is there after a line, how many lines behind it were its file, what it printed, and whether
+-- the server stops then
 pub record Did : Type 0 where
   pub floor : Floor
   pub taken : ℕ
@@ -72,7 +73,8 @@ delivered p reply fl = record {
 abbrev pub stopped : Floor → Did
 stopped fl = record { floor = fl; taken = 0; text = line (codes "stopped"); stops = true }
 
--- for the first time or again; at a stop before the commit nothing is handed to the store, and at one behind it nobody gets the reply
+-- for the first time or again; at a stop before the commit nothing is handed to the store, and at
+-- one behind it nobody gets the reply
 abbrev pub Brings : {S : Type 0} → (S → State) → S → S → Floor → Stop → Option Packet → Option Did → Type 0
 Brings state old new fl stop.No (Some p) did = (reply : List ℕ) × Answers state old new p.message reply × (did ≡ Some (delivered p reply fl))
 Brings state old new fl stop.Before (Some p) did = (new ≡ old) × (did ≡ Some (stopped fl))
@@ -102,7 +104,8 @@ abbrev pub ByTurn : {S : Type 0} → (S → State) → S → S → Floor → Lis
 ByTurn state old new fl text behind None did = ByDelivery state old new fl text behind (delivery_of text) did
 ByTurn state old new fl text behind (Some t) did = (new ≡ old) × Moves fl t did
 
--- what a line does with the lines behind it; nothing where it has no form of the drill's, or names what isn't there
+-- what a line does with the lines behind it; nothing where it has no form of the drill's, or names
+-- what isn't there
 abbrev pub Steps : {S : Type 0} → (S → State) → S → S → Floor → List ℕ → List (List ℕ) → Option Did → Type 0
 Steps state old new fl text behind did = ByTurn state old new fl text behind (turn_of text) did
 

@@ -2,7 +2,8 @@
 ghost use Rattle.std.specs.Prelude.{◌≡◌, ◌≤◌, ◌<◌, ◌^◌, IfOk, IfSome, OnOk, length, option_map};
 ghost use Rattle.std.specs.List.{list_any};
 ghost use Rattle.feeder.specs.Table.{asked, started};
-ghost use Rattle.drill.specs.Floors.{GoesBack, backed, carded, comes, empty_floor, inserted, is_boot};
+ghost use Rattle.drill.specs.Floors.{GoesBack, backed, carded, comes, empty_floor, inserted};
+ghost use Rattle.drill.specs.Floors.{is_boot};
 ghost use Rattle.drill.specs.Floors.{packet_at, packet_of, place_of, powered, sent, turned};
 ghost use Rattle.drill.specs.Floors.{Turns, with_reply};
 ghost use Rattle.drill.specs.Turns.{IsTurn};
@@ -216,8 +217,8 @@ impl Floor {
         self.packets.get((packet - 1) as usize)
     }
 
-    /// Keeps the reply to a packet of this machine and this number, and tells how many there are. It
-    /// fails only where memory is refused.
+    /// Keeps the reply to a packet of this machine and this number, and tells how many there are.
+    /// It fails only where memory is refused.
     pub fn keep(&mut self, machine: Name, number: u64, bytes: Bytes) -> Result<usize, AllocError>
         ensures { IfOk result (λ count. (self.new ≡ with_reply machine number bytes self.old)
             × (count ≡ length self.new.replies)) }

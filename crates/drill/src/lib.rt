@@ -1,5 +1,5 @@
-//! A drill: a server that begins empty, and a shop floor of machines, packets and replies, moved by a
-//! script's lines.
+//! A drill: a server that begins empty, and a shop floor of machines, packets and replies, moved by
+//! a script's lines.
 #![tactic(auto)]
 
 mod delivery;

@@ -9,7 +9,8 @@ use Rattle.faulty_store.specs.declared.device.Fault.TheVariants.{Failed, FailedA
 use Rattle.faulty_store.specs.declared.device.Plan.{Plan}
 use Rattle.faulty_store.specs.declared.store.FaultyStore.{FaultyStore}
 
--- Of one that is shut nothing is known but that its contents are sound. A crash leaves what the lists hold: each write that has reached the device.
+-- Of one that is shut nothing is known but that its contents are sound. A crash leaves what the
+-- lists hold: each write that has reached the device.
 abbrev pub state_of : Contents → Device → State
 state_of c device = record {
   holds = λ d. AreSound d × (device.is_shut ≡ false → c ≡ d);

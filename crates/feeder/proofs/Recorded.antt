@@ -1,4 +1,5 @@
--- What is recorded of arrivals: their meaning, what each was told, and that repeats are told it again.
+-- What is recorded of arrivals: their meaning, what each was told, and that repeats are told it
+-- again.
 use Rattle.std.proofs.Common.{◌≡◌, ◌⊎◌, ◌||◌, ℕ, zero, suc, true, false, List, [], ◌∷◌, ◌++◌, length, take, All, Option, Some, None, Result, Ok, Err, refl, sym, ap, ◌∙◌, inl, inr, arith}
 use Rattle.std.specs.Prelude.{slice_get}
 use Rattle.std.proofs.Math.Seq.{take-append_seam}

@@ -17,12 +17,14 @@ use Rattle.step_laws.proofs.GoodCards.{running_begun}
 use Rattle.arrivals.specs.Commands.{IsCommand}
 use Rattle.wire.specs.ReplyText.{IsReply}
 
--- an opening that is told a command opened this session of its blank, and the command is its record's first
+-- an opening that is told a command opened this session of its blank, and the command is its
+-- record's first
 abbrev pub OpenFits : Facts → List ℕ → ℕ → Reply → Type 0
 OpenFits f client blank (reply.Opened batch told command rec s) = (x : Session) × (session_numbered f.sessions s ≡ Some x) × (x.machine ≡ client) × (x.blank ≡ blank) × IsCommand f x.batch x.rec 0 command
 OpenFits f client blank _ = ⊤
 
--- an answer that is told a command is told the next of its session's record, and one that is told good made its session good
+-- an answer that is told a command is told the next of its session's record, and one that is told
+-- good made its session good
 abbrev pub AnswerFits : Facts → List ℕ → ℕ → ℕ → Reply → Type 0
 AnswerFits f client s k (reply.Next command index told) =
     (told ≡ s) × (index ≡ k + 1) × (x : Session) × (session_numbered f.sessions s ≡ Some x) × (x.machine ≡ client) × IsCommand f x.batch x.rec index command

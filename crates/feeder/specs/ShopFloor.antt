@@ -47,7 +47,8 @@ abbrev pub GoodCardsAreWhole : World → Type 0
 GoodCardsAreWhole w = (serial : ℕ) (x : Session) → IsSessionOf w.contents.facts serial x → session_state w.contents.facts x ≡ session.Good
     → (w.cards serial).received ≡ sequence_of w.contents.facts x
 
--- a card that received any command is charged to one session, and received a beginning of the sequence of that session's record
+-- a card that received any command is charged to one session, and received a beginning of the
+-- sequence of that session's record
 abbrev pub CardsAreCharged : World → Type 0
 CardsAreCharged w = (serial : ℕ) → (w.cards serial).received ≢ []
     → (x : Session) × IsChargedTo w.contents.facts serial x × IsBeginning (w.cards serial).received (sequence_of w.contents.facts x)
@@ -101,7 +102,8 @@ DecidedIsTold w = (i : ℕ) (g : Answered) → slice_get w.decided i ≡ Some g
 abbrev pub AcknowledgedIsDecided : World → Type 0
 AcknowledgedIsDecided w = All (λ (g : Answered). (i : ℕ) × (slice_get w.decided i ≡ Some g)) w.replies
 
--- the repeat of a decided arrival, whose reply may be lost, gets its reply again, unless its number is released
+-- the repeat of a decided arrival, whose reply may be lost, gets its reply again, unless its number
+-- is released
 abbrev pub RepeatsAreTold : World → Type 0
 RepeatsAreTold w = All (λ (g : Answered). is_released w.contents.marks g.arrival ≡ false → told_on w.contents g.arrival ≡ g.told) w.decided
 

@@ -1,4 +1,5 @@
--- The shop floor: machines with their feeders and cards, a network that loses, repeats, delays and reorders, and a server that stops.
+-- The shop floor: machines with their feeders and cards, a network that loses, repeats, delays and
+-- reorders, and a server that stops.
 use Rattle.std.specs.Prelude.{◌==◌, ◌||◌, ℕ, Bool, true, false, if◌then◌else◌, List, [], ◌∷◌, ◌++◌, bytes_eq, slice_get, Option, Some, None, Result, Ok, Err}
 use Rattle.std.specs.List.{list_any}
 use Rattle.job_facts.specs.declared.request.Arrival.{Arrival}
@@ -46,7 +47,8 @@ pub record Answered : Type 0 where
 
 pub record World : Type 0 where
   pub contents : Contents
-  -- every packet ever sent, every reply ever given, and every arrival ever decided, whether or not its reply was given; the oldest first
+  -- every packet ever sent, every reply ever given, and every arrival ever decided, whether or not
+  -- its reply was given; the oldest first
   pub packets : List Packet
   pub replies : List Answered
   pub decided : List Answered
@@ -138,7 +140,8 @@ sent w (Some x) = sent_by w x.feeder (asked x.feeder)
 abbrev pub answered : World → Arrived → Answered
 answered w a = record { arrival = a; told = told_on w.contents a }
 
--- an arrival is decided, unless the server stops before that; its reply is given, unless it stops then
+-- an arrival is decided, unless the server stops before that; its reply is given, unless it stops
+-- then
 abbrev pub decides : World → Arrived → World
 decides w a = record w { contents = contents_after w.contents (a ∷ []); decided = w.decided ++ answered w a ∷ [] }
 

@@ -1,4 +1,5 @@
--- A feed (this project's profile): a machine that is given one card after the other, what its feeder's acts do, and what is printed of them.
+-- A feed (this project's profile): a machine that is given one card after the other, what its
+-- feeder's acts do, and what is printed of them.
 use Rattle.std.specs.Prelude.{ℕ, ◌+◌, ◌==◌, Bool, false, if◌then◌else◌, List, [], ◌∷◌, ◌++◌, Option, Some, None, Result, Ok, Err}
 use Rattle.job_facts.specs.declared.reply.Reply.{Reply}
 use Rattle.job_facts.specs.declared.request.Call.{Call}

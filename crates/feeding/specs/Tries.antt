@@ -73,7 +73,8 @@ abbrev pub IsBadLine : List (List ℕ) → Type 0
 IsBadLine [] = ⊥
 IsBadLine (l ∷ ls) = card_of l ≡ None
 
--- no card is in, and all were put in; or the next line has another form; or a later boot released the numbers; or ten tries changed nothing; or memory was refused in a further try
+-- no card is in, and all were put in; or the next line has another form; or a later boot released
+-- the numbers; or ten tries changed nothing; or memory was refused in a further try
 abbrev pub EndsBy : Feed → Result (Unit {0}) FeedStop → Type 0
 EndsBy f (Ok u) = (f.feeder.stand ≡ Idle) × (f.left ≡ [])
 EndsBy f (Err stop.BadLine) = (f.feeder.stand ≡ Idle) × IsBadLine f.left

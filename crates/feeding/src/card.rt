@@ -4,7 +4,7 @@ ghost use Rattle.std.specs.Prelude.{string_bytes};
 ghost use Rattle.text_io.specs.Numbers.{status_word};
 ghost use Rattle.wire.specs.Sending.{word_text};
 ghost use Rattle.hex.specs.Hex.{encode_upper};
-ghost use Rattle.feeding.specs.Cards.{all_of, applied_line, card_by, card_line, card_of};
+ghost use Rattle.feeding.specs.Cards.{all_of, applied_line, card_line, card_of};
 ghost use Rattle.feeding.specs.Cards.{end_line, gives, next_word};
 ghost use Rattle.feeding.specs.Views.{card_view};
 

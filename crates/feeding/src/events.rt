@@ -1,6 +1,5 @@
 //! The event lines of a feed.
 ghost use Rattle.std.specs.Prelude.{◌≡◌, ◌==◌, ◌||◌, IfOk, IfSome, Some, map, option_map, position};
-ghost use Rattle.event_lines.specs.Notes.{Notes};
 ghost use Rattle.event_lines.specs.Views.{text_of};
 ghost use Rattle.feeding.specs.Events.{IsNoted, again_line, cards_in, exhausted_line, first_line};
 ghost use Rattle.feeding.specs.Events.{flaw_line, flaw_lines, lines_with, refusal_in};

@@ -1,5 +1,6 @@
 //! A feed: a machine that is given one card after the other.
-ghost use Rattle.std.specs.Prelude.{◌≡◌, ◌<◌, ◌≤◌, List, ℕ, IfOk, OnOk, Some, drop, map, option_map};
+ghost use Rattle.std.specs.Prelude.{◌≡◌, ◌<◌, ◌≤◌, List, ℕ, IfOk, OnOk, Some, drop, map};
+ghost use Rattle.std.specs.Prelude.{option_map};
 ghost use Rattle.text_io.specs.Lines.{lines as lines_in};
 ghost use Rattle.feeder.specs.Table.{asked};
 ghost use Rattle.feeder.specs.Table.{Eject, after_card};

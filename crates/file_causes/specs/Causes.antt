@@ -20,7 +20,8 @@ use Rattle.file_causes.specs.declared.difference.Difference.TheVariants.{OtherVe
 abbrev pub IsNotOurs : Database → Type 0
 IsNotOurs db = (v : Version) → ¬ IsOfVersion v db
 
--- they are those of a version but for what their own row says, or they differ from those of the nearest version
+-- they are those of a version but for what their own row says, or they differ from those of the
+-- nearest version
 abbrev pub SaysHow : Database → Difference → Type 0
 SaysHow db OtherVersion = (v : Version) × HasJust db.schema (schema_of v) × ¬ SaysVersion v db
 SaysHow db difference = Differs (schema_of (nearest db.schema)) db.schema difference

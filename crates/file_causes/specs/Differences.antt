@@ -17,14 +17,16 @@ use Rattle.file_causes.specs.declared.difference.Difference.TheVariants.{Empty, 
 abbrev pub has_table : Schema → List ℕ → Bool
 has_table s name = list_any (λ t. same_name t.name name) s.tables
 
--- or a view has it, or a table that is kept as it is, since it isn't understood or a trigger or an index that isn't binds it
+-- or a view has it, or a table that is kept as it is, since it isn't understood or a trigger or an
+-- index that isn't binds it
 abbrev pub has_view : Schema → List ℕ → Bool
 has_view s name = list_any (λ v. same_name v.name name) s.views
 
 abbrev pub is_taken : Schema → List ℕ → Bool
 is_taken s name = has_table s name || has_view s name
 
--- the version that a schema is compared with: the newest, unless the groupings stand under their earlier name alone
+-- the version that a schema is compared with: the newest, unless the groupings stand under their
+-- earlier name alone
 abbrev pub nearest : Schema → Version
 nearest s = if has_table s (codes "grouping") && not (has_table s (codes "grouping2"))
     then (if has_table s (codes "mark") then Two else One) else Three

@@ -4,8 +4,8 @@ ghost use Rattle.file_causes.specs.Words.{name_in, word_of};
 
 use std::fmt;
 
-/// How the tables of a database differ from ours, of the version that they are nearest to. Names are
-/// the bytes of the file, which somebody else may have chosen.
+/// How the tables of a database differ from ours, of the version that they are nearest to. Names
+/// are the bytes of the file, which somebody else may have chosen.
 #[derive(Debug, Drop, PartialEq, Eq)]
 pub enum Difference {
     /// The database has no table, no index and no view.

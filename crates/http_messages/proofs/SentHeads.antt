@@ -1,4 +1,5 @@
--- The head of a request that is sent: where it ends, what it is judged, and what is heard with its body.
+-- The head of a request that is sent: where it ends, what it is judged, and what is heard with its
+-- body.
 use Rattle.std.proofs.Common.{◌≡◌, ◌<◌, ◌≤◌, ◌+◌, ◌-◌, ◌^◌, ◌==◌, ℕ, zero, suc, Bool, true, false, cond, List, [], ◌∷◌, ◌++◌, length, take, drop, reverse, get_or, Option, Some, None, inl, inr, refl, sym, ap, subst, ◌∙◌, codes, decimal, arith, append_assoc, append-nil, length-append, length-drop, length-take-le}
 use Rattle.std.specs.Prelude.{◌&&◌, not, nat_eq, nat_lt, nat_le, slice_index, Ok}
 use Rattle.std.specs.List.{ends_with, list_all}

@@ -67,7 +67,8 @@ size_in [] = Ok 0
 size_in (f ∷ []) = size_text f.1
 size_in (f ∷ g ∷ more) = Err Malformed
 
--- by the fields of a head: this project's profile, within RFC 9112 section 6.3: no transfer coding, and at most one size
+-- by the fields of a head: this project's profile, within RFC 9112 section 6.3: no transfer coding,
+-- and at most one size
 unfoldable pub body_size : List Pair → Result ℕ FixedReply
 body_size fields =
     if list_any (is_named (codes "transfer-encoding")) fields then Err Malformed

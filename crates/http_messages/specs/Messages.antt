@@ -1,4 +1,5 @@
--- Messages: HTTP/1.1 (RFC 9112), as this project's profile takes them, by the whole bytes of a connection.
+-- Messages: HTTP/1.1 (RFC 9112), as this project's profile takes them, by the whole bytes of a
+-- connection.
 use Rattle.std.specs.Prelude.{◌≡◌, ◌<◌, ◌≤◌, ℕ, nat_lt, Bool, true, false, if◌then◌else◌, List, length, take, drop, Option, Some, None, Result, Ok, Err}
 pub use Rattle.text_io.specs.Inputs.{Tells}
 use Rattle.http_messages.specs.declared.message.Message.{Message}

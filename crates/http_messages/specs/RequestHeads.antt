@@ -1,4 +1,5 @@
--- The heads of requests, as clients send them: HTTP/1.1 (RFC 9112), with the lines of this project's profile.
+-- The heads of requests, as clients send them: HTTP/1.1 (RFC 9112), with the lines of this
+-- project's profile.
 use Rattle.std.specs.Prelude.{◌≡◌, ◌<◌, ℕ, ◌&&◌, Bool, true, nat_lt, List, ◌++◌, length, codes, decimal}
 use Rattle.std.specs.List.{list_all}
 use Rattle.http_messages.specs.Messages.{Brings, IsHeardAs, MessageParts}

@@ -1,11 +1,13 @@
--- The texts of replies: HTTP/1.1 (RFC 9112), with the lines of this project's profile. There is no clock, so no date.
+-- The texts of replies: HTTP/1.1 (RFC 9112), with the lines of this project's profile. There is no
+-- clock, so no date.
 use Rattle.std.specs.Prelude.{ℕ, ◌==◌, List, [], ◌++◌, length, codes, decimal, if◌then◌else◌, unwrap_or}
 use Rattle.http.specs.StatusCode.{reason_phrase}
 use Rattle.http_messages.specs.declared.reply.Content.{Content}
 use Rattle.http_messages.specs.declared.reply.Content.TheVariants.{Json, Report, OnlyMethod}
 use Rattle.http_messages.specs.declared.reply.Method.TheVariants.{Get, Post}
 
--- a status with its words (RFC 9110 section 15, with RFC 7231's words for 413; RFC 6585 section 5 for 431); there is no other than these
+-- a status with its words (RFC 9110 section 15, with RFC 7231's words for 413; RFC 6585 section 5
+-- for 431); there is no other than these
 abbrev pub status_text : ℕ → List ℕ
 status_text s =
     if s == 200 then codes "200 OK"

@@ -1,11 +1,13 @@
-//! Heads of messages: HTTP/1.1 (RFC 9112), as this project's profile takes them. No test takes memory.
+//! Heads of messages: HTTP/1.1 (RFC 9112), as this project's profile takes them. No test takes
+//! memory.
 ghost use Rattle.std.specs.Prelude.{◌≡◌, ◌+◌, ◌&&◌, All, length, map, min, nat_lt, true};
 ghost use Rattle.std.specs.List.{list_all};
 ghost use Rattle.std.specs.Char.{is_ascii_digit};
 ghost use Rattle.std.specs.Str.Parse.{digits_value};
 ghost use Rattle.text_io.specs.Inputs.{most_input};
 ghost use Rattle.httparse.specs.Spans.{IsHeaderWithin, header_bytes};
-ghost use Rattle.http_messages.specs.Heads.{IsJudged, body_size, has_bare_lf, is_named, pairs, size_text};
+ghost use Rattle.http_messages.specs.Heads.{IsJudged, body_size, has_bare_lf, is_named, pairs};
+ghost use Rattle.http_messages.specs.Heads.{size_text};
 ghost use Rattle.http_messages.specs.HeadTests.{IsRead, parts, found_of, one_more, size_by, values};
 
 use crate::fixed::FixedReply;
@@ -16,7 +18,8 @@ use text_io::{MOST_INPUT, are_digits};
 /// The most bytes of a body.
 const MOST_BODY: usize = MOST_INPUT as usize;
 
-/// The most pairs CR LF of a head: its first line, 32 header lines and its end (this project's profile).
+/// The most pairs CR LF of a head: its first line, 32 header lines and its end (this project's
+/// profile).
 const MOST_PAIRS: usize = 34;
 
 /// What a head asks for, and the size of the body that comes.
@@ -125,7 +128,8 @@ fn size_by(found: Found<'_>) -> Result<usize, FixedReply>
     }
 }
 
-// The values of the fields of a name, which are compared without regard to ASCII case (RFC 9110 section 5.1).
+// The values of the fields of a name, which are compared without regard to ASCII case (RFC 9110
+// section 5.1).
 fn find_named<'a>(head: &'a [u8], headers: &[HeaderSpan], name: &[u8]) -> Found<'a>
     requires { All (IsHeaderWithin (length head.now)) headers.now }
     ensures { found_of result ≡ values name.now (map (header_bytes head.now) headers.now) }

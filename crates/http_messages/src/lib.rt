@@ -1,4 +1,5 @@
-//! Messages over HTTP/1.1 (RFC 9112): the bytes of a connection as a message, and a reply's bytes before its body.
+//! Messages over HTTP/1.1 (RFC 9112): the bytes of a connection as a message, and a reply's bytes
+//! before its body.
 #![tactic(auto)]
 
 mod fixed;

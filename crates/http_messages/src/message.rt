@@ -1,7 +1,8 @@
 //! Messages: a head, and the body that it asks for.
 ghost use Rattle.std.specs.Prelude.{◌≡◌, ◌++◌, ℕ, List, IfOk, Ok, length};
 ghost use Rattle.http_messages.specs.HeadTests.{parts};
-ghost use Rattle.http_messages.specs.Messages.{IsBody, IsFilled, IsReading, IsReadingAfter, IsReadingBy};
+ghost use Rattle.http_messages.specs.Messages.{IsBody, IsFilled, IsReading, IsReadingAfter};
+ghost use Rattle.http_messages.specs.Messages.{IsReadingBy};
 ghost use Rattle.http_messages.specs.Messages.{Tells, as_parts};
 
 use crate::fixed::FixedReply;
@@ -35,7 +36,8 @@ pub enum Reading {
     Memory,
 }
 
-/// Reads one message, however its bytes are cut. Bytes behind it are ignored. Until a head passes its tests no memory is taken.
+/// Reads one message, however its bytes are cut. Bytes behind it are ignored. Until a head passes
+/// its tests no memory is taken.
 pub fn read_message<I: ByteSource>(alloc: Global, incoming: &mut I) -> Reading
     ensures { (bytes : List ℕ) × Tells (I.brings incoming.old) bytes × IsReading bytes result }
 {

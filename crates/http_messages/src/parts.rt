@@ -4,7 +4,8 @@ ghost use Rattle.http_messages.specs.ReplyParts.{body_behind, status_in};
 
 use crate::reading::find_end;
 
-/// The three digits of a reply's status, and its body (RFC 9112 sections 4 and 2.1). Where no head ends there is no body.
+/// The three digits of a reply's status, and its body (RFC 9112 sections 4 and 2.1). Where no head
+/// ends there is no body.
 pub fn reply_parts(reply: &[u8]) -> (&[u8], &[u8])
     ensures status { result.0.now ≡ status_in reply.now }
     ensures body { result.1.now ≡ body_behind reply.now }

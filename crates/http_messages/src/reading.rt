@@ -38,7 +38,8 @@ pub(crate) fn read_head<I: ByteSource>(incoming: &mut I, buf: &mut [u8; 8192]) -
     Reach::HeadTooLarge
 }
 
-/// How far the first CR LF CR LF reaches. None ends in the first bytes, which were looked at before.
+/// How far the first CR LF CR LF reaches. None ends in the first bytes, which were looked at
+/// before.
 pub(crate) fn find_end(bytes: &[u8], from: usize) -> Option<usize>
     requires within { from ≤ length bytes.now }
     requires before { least (ends_head bytes.now) from ≡ None }

@@ -6,7 +6,8 @@ ghost use Rattle.http_messages.specs.RequestHeads.{IsHeardBefore, IsTarget, requ
 use itoa::Buffer;
 use std::alloc::AllocError;
 
-/// Adds the head of a POST to this target, with a body of so many bytes (RFC 9112 section 3). It fails only where memory is refused.
+/// Adds the head of a POST to this target, with a body of so many bytes (RFC 9112 section 3). It
+/// fails only where memory is refused.
 #[tactic(auto, using(crate::proofs::SentHeads::sent_is_heard))]
 pub fn push_request_head(text: &mut Vec<u8>, target: &[u8], size: usize) -> Result<(), AllocError>
     ensures text { OnOk result (text.new.items ≡ text.old.items ++ request_head target.now size) }

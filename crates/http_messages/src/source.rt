@@ -18,7 +18,8 @@ pub trait ByteSource {
         ensures end { result ≡ 0 → IsAtEnd (brings self.old) };
 }
 
-/// A connection in memory: these bytes, which come in pieces of at most so many, and of one at least.
+/// A connection in memory: these bytes, which come in pieces of at most so many, and of one at
+/// least.
 #[derive(Clone, Copy)]
 pub struct Pieces<'a> {
     bytes: &'a [u8],

@@ -1,4 +1,5 @@
--- Requests in JSON (RFC 8259). Which members a request has, and their ranges, are this project's profile.
+-- Requests in JSON (RFC 8259). Which members a request has, and their ranges, are this project's
+-- profile.
 use Rattle.std.specs.Prelude.{ℕ, ◌-◌, ◌+◌, ◌^◌, ◌==◌, ◌&&◌, nat_le, suc, if◌then◌else◌, Bool, List, bytes_eq, codes, Option, Some, None, option_map, option_and_then}
 use Rattle.std.specs.Str.Parse.{digits_value}
 use Rattle.text_io.specs.Numbers.{is_word}
@@ -92,7 +93,8 @@ withdraw_in d = with_two (λ batch rec. request.Withdraw batch rec) (name_at (co
 unfoldable pub close_in : Data → Option Request
 close_in d = option_map (λ batch. request.Close batch) (name_at (codes "batch") d)
 
--- by the word of `do`, and by the count of the members, `do` among them, which leaves no room for a further one
+-- by the word of `do`, and by the count of the members, `do` among them, which leaves no room for a
+-- further one
 unfoldable pub request_by_word : List ℕ → ℕ → Data → Option Request
 request_by_word word count d =
     if bytes_eq word (codes "product") && (count == 5) then product_in d

@@ -3,7 +3,8 @@ ghost use Rattle.std.specs.Prelude.{◌≡◌, ◌++◌, [], ◌∷◌, Err, IfO
 ghost use Rattle.std.specs.Prelude.{bytes_eq, if◌then◌else◌};
 ghost use Rattle.store_data.specs.Name.{is_name};
 ghost use Rattle.job_facts.specs.Sound.{IsName};
-ghost use Rattle.http_requests.specs.Asks.{IsAsked, IsInRange, ask_in, ask_with, asked_of, import_tail};
+ghost use Rattle.http_requests.specs.Asks.{IsAsked, IsInRange, ask_in, ask_with, asked_of};
+ghost use Rattle.http_requests.specs.Asks.{import_tail};
 ghost use Rattle.http_requests.specs.Asks.{method_text, or_malformed};
 ghost use Rattle.http_messages.specs.Messages.{as_parts};
 ghost use Rattle.http_requests.specs.RouterRows.{shown};
@@ -20,7 +21,8 @@ use std::fmt;
 use store_data::{Bytes, Name};
 use text_io::number_in;
 
-/// The most bytes of what follows the number in a target: two names of at most 32 characters with what stands before them.
+/// The most bytes of what follows the number in a target: two names of at most 32 characters with
+/// what stands before them.
 const MOST_TAIL: usize = 72;
 
 /// An account that is asked for.
@@ -213,7 +215,8 @@ fn job_ask(alloc: Global, body: &[u8]) -> Result<Bytes, AllocError>
     Ok(Bytes::from_vec(ask))
 }
 
-// What a repeat of an import has to have alike: what follows the number in the target, a byte 00, and the body.
+// What a repeat of an import has to have alike: what follows the number in the target, a byte 00,
+// and the body.
 fn import_ask(alloc: Global, batch: &Name, product: &Name, body: &[u8]) -> Result<Bytes, AllocError>
     ensures { IfOk result (λ ask. ask ≡ ask_with (import_tail batch.now product.now) body.now) }
 {

@@ -1,4 +1,5 @@
-//! What a message asks: its target, its method, its names and its JSON; and the messages that clients post.
+//! What a message asks: its target, its method, its names and its JSON; and the messages that
+//! clients post.
 #![tactic(auto)]
 
 mod ask;

@@ -8,7 +8,8 @@ use serde_json::Value;
 use std::alloc::{AllocError, Global};
 use store_data::Name;
 
-/// The value that a body is, if it is JSON in UTF-8; of members with one name the last. It fails only where memory is refused.
+/// The value that a body is, if it is JSON in UTF-8; of members with one name the last. It fails
+/// only where memory is refused.
 #[tactic(auto, unfolding(crate::specs::Members::value_in))]
 pub fn value_in(alloc: Global, body: &[u8]) -> Result<Option<Value>, AllocError>
     ensures { IfOk result (λ v. option_map view v ≡ value_in body.now) }

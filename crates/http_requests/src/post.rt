@@ -21,8 +21,8 @@ use store_data::{Bytes, Name};
 /// Room for a head: a target with three names and a number of 18 digits, and the lines around it.
 const MOST_HEAD: usize = 256;
 
-/// The message that posts a body under a client's number, 1 to 999,999,999,999,999,999, and what it means: the call that the
-/// body is in JSON. It fails only where memory is refused.
+/// The message that posts a body under a client's number, 1 to 999,999,999,999,999,999, and what it
+/// means: the call that the body is in JSON. It fails only where memory is refused.
 pub fn job_text(alloc: Global, client: &Name, number: u64, body: &[u8]) -> Result<Bytes, AllocError>
     requires least { 1 ≤ number }
     requires most { number < 10 ^ 18 }
@@ -34,8 +34,9 @@ pub fn job_text(alloc: Global, client: &Name, number: u64, body: &[u8]) -> Resul
     text_with(alloc, client, number, b"", body)
 }
 
-/// The message that posts a batch file for a product under a client's number, 1 to 999,999,999,999,999,999, and what it means: the
-/// import of that file. It fails only where memory is refused.
+/// The message that posts a batch file for a product under a client's number, 1 to
+/// 999,999,999,999,999,999, and what it means: the import of that file. It fails only where memory
+/// is refused.
 pub fn import_text(
     alloc: Global,
     client: &Name,

@@ -1,9 +1,9 @@
 //! Requests in JSON (RFC 8259).
-ghost use Rattle.std.specs.Prelude.{◌≡◌, ◌<◌, ◌≤◌, ◌^◌, IfOk, IfSome, IsTrue};
-ghost use Rattle.store_data.specs.Name.{is_name};
+ghost use Rattle.std.specs.Prelude.{◌≡◌, ◌<◌, ◌≤◌, ◌^◌, IfOk, IfSome};
 ghost use Rattle.job_facts.specs.Requests.{IsCall, IsRequest};
 ghost use Rattle.serde_json.specs.View.{view};
-ghost use Rattle.http_requests.specs.Requests.{abort_in, answer_in, call_by_word, call_in, call_of_value};
+ghost use Rattle.http_requests.specs.Requests.{abort_in, answer_in, call_by_word, call_in};
+ghost use Rattle.http_requests.specs.Requests.{call_of_value};
 ghost use Rattle.http_requests.specs.Requests.{close_in, count_in, discard_in, flag_at, release_in};
 ghost use Rattle.http_requests.specs.Requests.{lot_in, number_within, open_in, product_in};
 ghost use Rattle.http_requests.specs.Requests.{remake_in, request_by_word};
@@ -19,7 +19,8 @@ use text_io::status_word;
 /// The largest serial, session and number (this project's profile).
 const MOST_SERIAL: u64 = 999_999_999_999_999_999;
 
-/// The call that a body is, if it is one (this project's profile). It fails only where memory is refused.
+/// The call that a body is, if it is one (this project's profile). It fails only where memory is
+/// refused.
 #[tactic(auto, unfolding(crate::specs::Requests::call_in))]
 pub(crate) fn call_of(alloc: Global, body: &[u8]) -> Result<Option<Call>, AllocError>
     ensures value { IfOk result (λ r. r ≡ call_in body.now) }

@@ -1,4 +1,5 @@
--- Look-ups among rows: what is found by its key in rows in any order, and what stands in an image under a key.
+-- Look-ups among rows: what is found by its key in rows in any order, and what stands in an image
+-- under a key.
 use Rattle.std.proofs.Common.{◌≡◌, ℕ, zero, suc, ◌+◌, ◌<◌, ◌≤◌, ◌==◌, ◌&&◌, Bool, true, false, List, [], ◌∷◌, ◌++◌, length, map, filter, find, slice_get, Option, Some, None, option_map, option_and_then, option_to_list, inl, inr, refl, ap, ◌∙◌, arith, append-nil, IsPermutation}
 use Rattle.std.specs.List.{enumerate_from, flat_map}
 use Rattle.std.proofs.lemmas.Bool.{cases_Bool}

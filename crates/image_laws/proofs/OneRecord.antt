@@ -1,4 +1,5 @@
--- The rows of records and batches, where one record alone comes to stand otherwise, by its sessions, remakes and withdrawal.
+-- The rows of records and batches, where one record alone comes to stand otherwise, by its
+-- sessions, remakes and withdrawal.
 use Rattle.std.proofs.Common.{◌≡◌, ℕ, ◌==◌, ◌&&◌, Bool, true, false, List, [], ◌∷◌, ◌++◌, All, map, Option, Some, None, inl, inr, refl, sym, ap, ◌∙◌, subst, arith}
 use Rattle.std.specs.Prelude.{bytes_eq, count_by}
 use Rattle.std.specs.List.{enumerate_from, list_any}
@@ -181,7 +182,8 @@ module _ (f : Facts) (sessions : List Session) (remakes withdrawn : List RecordN
           (All-weaker (λ q. bytes_eq r q ≡ false) (λ q. record_state next_facts b q ≡ record_state f b q)
           (λ q other. (others b q (and_right (bytes_eq b b) (bytes_eq r q) other)).stands) names (All-from_list_any (bytes_eq r) names none))
 
-      -- the record passes from one state to the other, by the batch's sessions as they stand in these
+      -- the record passes from one state to the other, by the batch's sessions as they stand in
+      -- these
       pub totals_pass : (states : List SessionState) → totals_by (record_states next_facts b) states ≡ more now (less was (totals_by (record_states f b) states))
       unfolding record_states
       totals_pass states =

@@ -1,4 +1,5 @@
--- One session that changes: its row, how it stands among those of its batch and of its record, and what stays.
+-- One session that changes: its row, how it stands among those of its batch and of its record, and
+-- what stays.
 use Rattle.std.proofs.Common.{◌≡◌, ◌≢◌, ℕ, zero, suc, ◌+◌, ◌≤◌, ◌<◌, ◌==◌, ◌&&◌, Bool, true, false, cond, List, [], ◌∷◌, ◌++◌, length, map, Some, refl, sym, ap, ◌∙◌, arith}
 use Rattle.std.specs.Prelude.{bytes_eq, filter}
 use Rattle.std.specs.List.{enumerate_from}

@@ -1,4 +1,5 @@
--- What the rows of an image give back of sets: of lots, discarded blanks, closed batches, and withdrawn and remade records.
+-- What the rows of an image give back of sets: of lots, discarded blanks, closed batches, and
+-- withdrawn and remade records.
 use Rattle.std.proofs.Common.{◌≡◌, ℕ, suc, ◌+◌, Bool, true, false, cond, List, [], ◌∷◌, ◌++◌, length, map, replicate, filter, slice_get, All, bytes_eq, Some, IsSome, inl, inr, refl, sym, ap, subst, ◌∙◌, arith, IsPermutation}
 use Rattle.std.specs.List.{enumerate_from, flat_map, list_any, range_with_len}
 use Rattle.std.proofs.lemmas.Bool.{cases_Bool, or_parts}

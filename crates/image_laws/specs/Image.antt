@@ -1,5 +1,5 @@
--- The image of contents: the rows of each table, where each column that follows from others has the value that the plain machine's
--- states and accounts give (this project's profile).
+-- The image of contents: the rows of each table, where each column that follows from others has the
+-- value that the plain machine's states and accounts give (this project's profile).
 use Rattle.std.specs.Prelude.{◌+◌, ℕ, Bool, true, false, List, [], ◌++◌, map, flat_map, count_by, bytes_eq, Option, Some, None, length}
 use Rattle.std.specs.List.{enumerate_from, position_or_len, range_with_len}
 use Rattle.store_data.specs.declared.row.Row.{Row}

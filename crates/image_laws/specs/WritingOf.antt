@@ -37,7 +37,8 @@ AreDiscardedOf f lot n = (l : Lot) × (lot_named f.lots lot ≡ Some l) × (n �
 abbrev pub IsOfRecord : Facts → List ℕ → List ℕ → (RecordPlace → Writing) → Writing → Type 0
 IsOfRecord f b r by w = (p : RecordPlace) × IsPlaceOf f b r p × (w ≡ by p)
 
--- a word after which its session runs on needs no more than itself; one after which it does not, its record
+-- a word after which its session runs on needs no more than itself; one after which it does not,
+-- its record
 abbrev pub IsOfWord : Facts → List ℕ → List ℕ → NewWord → SessionState → Writing → Type 0
 IsOfWord f b r word session.Running w = w ≡ writing.AddsWord word
 IsOfWord f b r word session.Good w = IsOfRecord f b r (writing.AddsLastWord word session.Good) w

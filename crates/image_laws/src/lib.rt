@@ -1,5 +1,5 @@
-//! Contents as rows of tables: how changes move these rows, and that the rows decide the contents. No
-//! function does anything; who calls one has its law.
+//! Contents as rows of tables: how changes move these rows, and that the rows decide the contents.
+//! No function does anything; who calls one has its law.
 #![tactic(auto)]
 
 mod decided_contents;

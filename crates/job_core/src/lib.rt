@@ -1,4 +1,5 @@
-//! The decisions of the plain job machine: what a request is answered, and the one fact that it adds.
+//! The decisions of the plain job machine: what a request is answered, and the one fact that it
+//! adds.
 #![tactic(auto)]
 
 mod decision;

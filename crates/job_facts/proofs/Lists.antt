@@ -1,4 +1,5 @@
--- Lists and options: lists around one place, look-ups, lists that grow at their end, and what is mapped.
+-- Lists and options: lists around one place, look-ups, lists that grow at their end, and what is
+-- mapped.
 use Rattle.std.proofs.Common.{◌≡◌, ℕ, zero, suc, ◌+◌, ◌<◌, ◌≤◌, Bool, true, false, cond, ◌||◌, ◌&&◌, List, [], ◌∷◌, ◌++◌, length, map, All, Option, Some, None, ◌⊎◌, inl, inr, ⊎_elim, refl, sym, ap, take, ◌∙◌, subst, arith}
 use Rattle.std.specs.Prelude.{AllPairs, bytes_eq, count_by, filter, find, option_map, slice_get}
 use Rattle.std.specs.List.{list_all, list_any}

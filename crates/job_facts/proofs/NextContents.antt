@@ -1,4 +1,5 @@
--- The contents that a store begins with, and that a commit or a release makes of sound ones, are sound.
+-- The contents that a store begins with, and that a commit or a release makes of sound ones, are
+-- sound.
 use Rattle.std.proofs.Common.{◌≡◌, ℕ, Bool, true, false, List, [], ◌∷◌, ◌++◌, All, not, refl, arith}
 use Rattle.std.specs.Prelude.{AllPairs, IsTrue, bytes_eq, filter}
 use Rattle.std.proofs.lemmas.Bool.{lt-ltb, not-true}

@@ -1,4 +1,5 @@
--- How a record stands by the states of its sessions, and what one more or another state makes of it.
+-- How a record stands by the states of its sessions, and what one more or another state makes of
+-- it.
 use Rattle.std.proofs.Common.{◌≡◌, ℕ, ◌+◌, ◌≤◌, Bool, true, false, cond, ltb, List, [], ◌∷◌, ◌++◌, refl, arith}
 use Rattle.std.specs.Prelude.{count_by}
 use Rattle.std.specs.List.{list_any}

@@ -1,4 +1,5 @@
--- What a store holds: the facts, the kept replies, and how far each client has released its numbers.
+-- What a store holds: the facts, the kept replies, and how far each client has released its
+-- numbers.
 use Rattle.std.specs.Prelude.{◌≡◌, ◌⊎◌, ◌≤◌, ◌<◌, ◌^◌, ◌==◌, ◌&&◌, ℕ, List, [], ◌∷◌, ◌++◌, All, AllPairs, Bool, false, not, nat_lt, filter, IsPermutation, bytes_eq, find, Option, None, option_map, unwrap_or, IsTrue}
 use Rattle.job_facts.specs.declared.change.Change.{Change}
 use Rattle.job_facts.specs.declared.rows.KeptReply.{KeptReply}

@@ -1,4 +1,5 @@
--- What callers owe of a request and of its arrival: their numbers are in their ranges (this project's profile).
+-- What callers owe of a request and of its arrival: their numbers are in their ranges (this
+-- project's profile).
 use Rattle.std.specs.Prelude.{◌≤◌, ◌<◌, ◌+◌, ◌^◌, ⊤}
 use Rattle.store_data.specs.Sequence.{IsProduct}
 use Rattle.job_facts.specs.declared.facts.Lot.{Lot}

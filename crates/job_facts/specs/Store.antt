@@ -9,7 +9,8 @@ pub record State : Type 1 where
   pub holds : Contents → Type 0
   -- how often its device did not return what was written
   pub doubts : ℕ
-  -- how often it answered that its device failed: it did, gave what it cannot have been given, or refused what was not owed; lists have no device
+  -- how often it answered that its device failed: it did, gave what it cannot have been given, or
+  -- refused what was not owed; lists have no device
   pub failed : ℕ
   -- how often it answered that its device is full
   pub full : ℕ

@@ -1,5 +1,5 @@
-//! The facts of batches, cards and blanks: requests, replies, what the plain machine makes of them by
-//! definition, and what a store of the facts promises.
+//! The facts of batches, cards and blanks: requests, replies, what the plain machine makes of them
+//! by definition, and what a store of the facts promises.
 #![tactic(auto)]
 
 mod change;

@@ -43,7 +43,7 @@ impl<T: Drop> From<AllocFailed<T>> for StoreFault {
 /// The facts and the kept replies. A read changes nothing, and may take memory from the store's own
 /// allocator.
 pub trait JobStore {
-    ghost use Rattle.std.specs.Prelude.{◌≡◌, ◌≤◌, ◌<◌, ◌^◌, IfOk, IfSome, Bool, length, option_map};
+    ghost use Rattle.std.specs.Prelude.{◌≡◌, ◌≤◌, ◌<◌, ◌^◌, IfOk, IfSome, length, option_map};
     ghost use Rattle.store_data.specs.Cursor.{IsCursor};
     ghost use Rattle.store_data.specs.Sequence.{IsProduct};
     ghost use Rattle.job_facts.specs.declared.rows.SegmentRow.{SegmentRow as SegmentRowValue};

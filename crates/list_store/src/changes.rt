@@ -8,7 +8,6 @@ use crate::kept::copied;
 use crate::lists::{FactLists, KeptBatch, KeptRecord, KeptSession, KnownProduct};
 use job_facts::{Change, StoreFault};
 use std::alloc::Global;
-use store_data::{Name, Product};
 
 /// Makes a change, or leaves the facts.
 pub(crate) fn change_facts(

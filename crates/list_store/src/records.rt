@@ -11,7 +11,7 @@ ghost use Rattle.job_facts.specs.Rows.{batch_has, batch_row_of, batch_size_of};
 ghost use Rattle.job_facts.specs.States.{is_closed, plan_for, records_named, records_of, rows_of};
 ghost use Rattle.job_facts.specs.States.{rows_of_record, rows_or_none};
 
-use crate::lists::{FactLists, KeptBatch};
+use crate::lists::FactLists;
 use crate::names::{batch_named, product_named};
 use batch_import::{ImportFault, Totals, check_batch, read_batch};
 use job_facts::{BatchRow, BatchSize, StoreFault};

@@ -9,7 +9,7 @@ use crate::lists::FactLists;
 use crate::records::record_rows;
 use job_facts::{SegmentRow, StoreFault};
 use std::alloc::Global;
-use store_data::{Aid, Name, RecordPlan, SegmentView};
+use store_data::{Aid, Name};
 
 /// A segment of a record, if the record has it.
 pub(crate) fn segment_row_of(

@@ -4,7 +4,8 @@ use Rattle.std.specs.Global.{Global}
 use Rattle.text_io.specs.Inputs.{Tells, IsWithin}
 use Rattle.text_io.specs.declared.writing.WriteFailed.{WriteFailed}
 
--- all that comes, where that has 8,192 bytes at most; and nothing, where the message wasn't sent whole
+-- all that comes, where that has 8,192 bytes at most; and nothing, where the message wasn't sent
+-- whole
 abbrev pub Comes : Option (List ℕ) → Result (Unit {0}) WriteFailed → Option (Vec ℕ Global) → Type 0
 Comes known (Ok u) came = (raw : List ℕ) × Tells known raw × IsWithin 8192 raw came
 Comes known (Err e) came = came ≡ None

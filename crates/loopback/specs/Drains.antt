@@ -11,7 +11,8 @@ start_of_reply reply = take 12 reply
 abbrev pub ends_early : List ℕ → Bool
 ends_early status = bytes_eq status (codes "400") || bytes_eq status (codes "413") || bytes_eq status (codes "431")
 
--- how many bytes are dropped behind a message, at most: a head and a body of the most bytes, where the reply may have come early
+-- how many bytes are dropped behind a message, at most: a head and a body of the most bytes, where
+-- the reply may have come early
 abbrev pub most_drained : List ℕ → ℕ
 most_drained reply = if ends_early (status_in reply) then most_input + 8192 else 0
 

@@ -1,4 +1,5 @@
--- How long one waits for a peer, and how long a message waits that comes again (this project's profile), in nanoseconds.
+-- How long one waits for a peer, and how long a message waits that comes again (this project's
+-- profile), in nanoseconds.
 use Rattle.std.specs.Prelude.{ℕ, zero, suc, ◌+◌, ◌-◌, ◌*◌, ◌^◌, min}
 use Rattle.loopback.specs.declared.clock.Side.{Side}
 use Rattle.loopback.specs.declared.clock.Side.TheVariants.{Server, Machine}

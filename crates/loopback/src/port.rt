@@ -75,8 +75,8 @@ impl<'a, R: Net + Clock> Port<'a, R> {
     }
 }
 
-/// A connection that can't be had, a write or a read that fails, and a text too long for a reply are
-/// as nothing that came.
+/// A connection that can't be had, a write or a read that fails, and a text too long for a reply
+/// are as nothing that came.
 impl<R: Net + Clock> Exchange for Port<'_, R> {
     ghost use Rattle.std.specs.Prelude.{None};
 

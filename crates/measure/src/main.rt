@@ -1,5 +1,5 @@
-//! The program `measure`: calls the record check, the check of a batch or the server on standard input, so that each is timed and
-//! weighed alone.
+//! The program `measure`: calls the record check, the check of a batch or the server on standard
+//! input, so that each is timed and weighed alone.
 #![tactic(auto)]
 
 ghost use Rattle.std.specs.Prelude.{◌≡◌, ◌↔◌, Some, codes, filter, length};
@@ -17,7 +17,8 @@ use store_data::{Name, Product};
 use text_io::MOST_INPUT;
 use tlv_check::is_record;
 
-/// The room that is asked for at once, in bytes: one more than a batch may have, so that reading a batch moves nothing.
+/// The room that is asked for at once, in bytes: one more than a batch may have, so that reading a
+/// batch moves nothing.
 const ROOM: usize = MOST_INPUT as usize + 1;
 
 /// How many bytes of a connection come at once, at most.

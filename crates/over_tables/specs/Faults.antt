@@ -1,4 +1,5 @@
--- What is told of a fault of a store, or of a read, for why a file is not taken (this project's profile).
+-- What is told of a fault of a store, or of a read, for why a file is not taken (this project's
+-- profile).
 use Rattle.std.specs.Prelude.{Option, None, Some, Result, Ok, Err}
 use Rattle.sqlite.specs.declared.error.Error.{Error}
 use Rattle.sqlite.specs.declared.error.Error.TheVariants.{SqliteFailure}

@@ -21,10 +21,10 @@ use subcommands::{End, end_of_close, run_feed};
 /// 32 MiB: of no larger one it learns when it is let go.
 const LARGE_BLOCK: usize = 33_488_896;
 
-// Once a large block was let go, the C library keeps blocks up to its size for the next that asks. Until
-// then it gives each back to the system after an arrival, and takes and clears it for the next, a third
-// of the time of an opening beside a batch of 600 KB. So one is made and let go untouched, which takes
-// no memory. Where it is refused, nothing changes.
+// Once a large block was let go, the C library keeps blocks up to its size for the next that asks.
+// Until then it gives each back to the system after an arrival, and takes and clears it for the
+// next, a third of the time of an opening beside a batch of 600 KB. So one is made and let go
+// untouched, which takes no memory. Where it is refused, nothing changes.
 fn keep_large_blocks(alloc: Global) {
     drop(Vec::<u8>::with_capacity(alloc, LARGE_BLOCK));
 }

@@ -19,7 +19,8 @@ use Rattle.plan_print.specs.Printed.{printed}
 use Rattle.plan_print.specs.declared.plan.PlanStop.{PlanStop}
 use Rattle.plan_print.specs.declared.plan.PlanStop.TheVariants as stop
 
--- for the input `raw` the text of its batch was written, a beginning of it where the writer failed, or nothing and a refusal
+-- for the input `raw` the text of its batch was written, a beginning of it where the writer failed,
+-- or nothing and a refusal
 abbrev pub PlanEnds : Product → List ℕ → Option (List ℕ) → Option (List ℕ) → Result (Unit {0}) PlanStop → Type 0
 PlanEnds p raw before after (Ok u) = (rows : List Row) × (length raw ≤ most_input) × (batch_of p raw ≡ Ok rows) × Appends before after (printed p rows)
 PlanEnds p raw before after (Err (stop.Refused fault)) = (length raw ≤ most_input) × (batch_of p raw ≡ Err fault) × Keeps before after

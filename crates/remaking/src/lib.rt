@@ -1,5 +1,5 @@
-//! A database of our tables of any version is made anew: its tables are dropped, our own are made, and
-//! rows are put into them, all in one transaction.
+//! A database of our tables of any version is made anew: its tables are dropped, our own are made,
+//! and rows are put into them, all in one transaction.
 #![tactic(auto)]
 
 mod anew;

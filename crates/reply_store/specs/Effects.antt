@@ -18,7 +18,8 @@ abbrev pub done : {T : Type 0} → Result T StoreFault → Result (Unit {0}) Sto
 done (Ok x) = Ok tt
 done (Err fault) = Err fault
 
--- the reply and the effect of a new number's call: what the plain machine decides, or a mark that does not fall and lies below the number
+-- the reply and the effect of a new number's call: what the plain machine decides, or a mark that
+-- does not fall and lies below the number
 abbrev pub Decided : Contents → List ℕ → ℕ → Call → Reply → Effect → Type 0
 Decided c client number (Job r) reply (Changes change) = Decides c.facts client r reply change
 Decided c client number (Job r) reply (Marks mark) = ⊥

@@ -20,7 +20,8 @@ Tried = Arrived × Bool
 abbrev pub decided : List Tried → List Arrived
 decided tried = map (λ (t : Tried). t.0) (filter (λ (t : Tried). t.1) tried)
 
--- the contents after the decided arrivals and one that the store failed, since when nothing was committed
+-- the contents after the decided arrivals and one that the store failed, since when nothing was
+-- committed
 abbrev pub IsPending : Contents → List Tried → Option Contents → Type 0
 IsPending c tried d =
     (i : ℕ) × (a : Arrived) × (slice_get tried i ≡ Some (a, false)) × (contents_after c (decided (take i tried)) ≡ contents_after c (decided tried))
@@ -36,7 +37,8 @@ pub record Leaves (old new : State) (tried : List Tried) : Type 0 where
   pub contents : IsHonest new → (c : Contents) → old.holds c → new.holds (contents_after c (decided tried))
   pub crash : IsHonest new → (c : Contents) (d : Option Contents) → old.holds c → new.may_leave d → MayBeLeft old.may_leave c tried d
 
--- what is left is told of one after the other: of none, of one more that is handled, and past what changes nothing
+-- what is left is told of one after the other: of none, of one more that is handled, and past what
+-- changes nothing
 pub record AreLeftInTurn {S : Type 0} (state : S → State) : Type 0 where
   pub none : (s : S) → Leaves (state s) (state s) []
   pub more : (first before after : S) (tried : List Tried) (a : Arrived) (result : Result Kept StoreFault)
@@ -54,7 +56,8 @@ tried served = map (λ (s : Served). (s.0, is_ok s.1)) served
 abbrev pub contents_before : Contents → List Served → ℕ → Contents
 contents_before c served i = contents_after c (decided (tried (take i served)))
 
--- what each was told, if it was decided, is what it is told on the contents that those before it leave
+-- what each was told, if it was decided, is what it is told on the contents that those before it
+-- leave
 abbrev pub AreTold : Contents → List Served → Type 0
 AreTold c served = (i : ℕ) (s : Served) → slice_get served i ≡ Some s → IfOk s.1 (λ k. told_on (contents_before c served i) s.0 ≡ told k)
 

@@ -1,4 +1,5 @@
--- The accounts of a batch and of a product's blanks (this project's profile): compact JSON (RFC 8259), the members in order of their names.
+-- The accounts of a batch and of a product's blanks (this project's profile): compact JSON (RFC
+-- 8259), the members in order of their names.
 use Rattle.std.specs.Prelude.{◌≡◌, ℕ, ◌+◌, List, Option, option_map}
 use Rattle.serde_json.specs.Written.{compact_text}
 use Rattle.job_facts.specs.declared.rows.BatchRow.{BatchRow}

@@ -36,7 +36,8 @@ store_answer (Err Write) = Ok tt
 
 -- ---- what is written
 
--- the text was written, a beginning of it where the writer failed, or where there is none, the refusal was told
+-- the text was written, a beginning of it where the writer failed, or where there is none, the
+-- refusal was told
 abbrev pub IsWritten : Refusal → Option (List ℕ) → Option (List ℕ) → Option (List ℕ) → Result (Unit {0}) AccountFault → Type 0
 IsWritten why text before after (Ok u) = (told : List ℕ) × (text ≡ Some told) × Appends before after told
 IsWritten why text before after (Err (Refused refusal)) = (refusal ≡ why) × (text ≡ None)

@@ -5,7 +5,8 @@
 ghost use Rattle.job_facts.specs.Accounts.{batch_totals, blank_totals};
 ghost use Rattle.job_facts.specs.Contents.{Contents};
 ghost use Rattle.job_facts.specs.Store.{CountsFaults, Stays};
-ghost use Rattle.job_facts.specs.declared.refusal.Refusal.TheVariants.{BatchUnknown, ProductUnknown};
+ghost use Rattle.job_facts.specs.declared.refusal.Refusal.TheVariants.{BatchUnknown};
+ghost use Rattle.job_facts.specs.declared.refusal.Refusal.TheVariants.{ProductUnknown};
 ghost use Rattle.reports.specs.Accounts.{AreAllCounted, AreAllStanding, batch_account};
 ghost use Rattle.reports.specs.Accounts.{blank_account};
 ghost use Rattle.reports.specs.Report.{report_text};
@@ -93,8 +94,8 @@ pub fn close_report<S: JobStore, W: Write>(
     Ok(())
 }
 
-/// The text of a batch's close report. Errors: the batch is unknown (refusal 56), the store's faults,
-/// and refused memory.
+/// The text of a batch's close report. Errors: the batch is unknown (refusal 56), the store's
+/// faults, and refused memory.
 pub fn report_of<S: JobStore>(
     alloc: Global,
     store: &mut S,

@@ -1,4 +1,5 @@
--- What the row of a batch tells of it: its product, its bytes, and how many rows and records it has.
+-- What the row of a batch tells of it: its product, its bytes, and how many rows and records it
+-- has.
 use Rattle.std.proofs.Common.{◌≡◌, ℕ, false, List, length, map, Option, Some, None, refl, sym, ap, ◌∙◌}
 use Rattle.std.specs.Prelude.{bytes_eq, find, option_map, unwrap_or}
 use Rattle.std.specs.List.{list_any}

@@ -1,4 +1,5 @@
--- Rows in the order of a number: those of a list whose numbers rise, in any order in which none falls, are that list.
+-- Rows in the order of a number: those of a list whose numbers rise, in any order in which none
+-- falls, are that list.
 use Rattle.std.proofs.Common.{◌≡◌, ℕ, suc, ◌<◌, ◌≤◌, ◌==◌, Bool, true, false, cond, List, [], ◌∷◌, All, Some, inl, inr, refl, sym, ap, ◌∙◌, subst, arith, IsPermutation}
 use Rattle.std.specs.Prelude.{AllPairs, count_by, find}
 use Rattle.std.proofs.lemmas.Bool.{cases_Bool, cond-false, cond-true}

@@ -1,4 +1,5 @@
--- What a query over one of our tables answers, by what its text asks and how the table's rows are encoded.
+-- What a query over one of our tables answers, by what its text asks and how the table's rows are
+-- encoded.
 use Rattle.std.proofs.Common.{◌≡◌, ℕ, Bool, true, false, List, [], ◌∷◌, drop, length, map, Option, Some, None, inl, inr, refl, sym, ap, subst, ◌∙◌, arith}
 use Rattle.std.specs.Prelude.{filter, find, option_map}
 use Rattle.std.specs.List.{list_any}
@@ -31,7 +32,8 @@ pub record Asks (text : List ℕ) (tree : ℕ) (filters project : List Term) : T
   pub plain : IsPlain (understood our_schema text)
   pub unlisted : reads_listing our_schema text ≡ false
 
--- a row as a query sees it: before one that is told without its rowid stands a rowid that nothing looks at
+-- a row as a query sees it: before one that is told without its rowid stands a rowid that nothing
+-- looks at
 abbrev pub whole : Bool → Row → Row
 whole true row = row
 whole false row = Null ∷ row

@@ -34,7 +34,8 @@ use Rattle.row_reads.specs.Decoding.{IsFirst, first_number, id_in}
 use Rattle.row_reads.specs.Extremes.{AreSorted, IsGreatest, IsLeastBy}
 use Rattle.row_reads.proofs.Asking.{all_found, look, part, tells, told_as, whole}
 
--- the rows of one tree that pass, by the first column that is shown, up or down, and as many as the limit says
+-- the rows of one tree that pass, by the first column that is shown, up or down, and as many as the
+-- limit says
 abbrev pub sorted_query : Bool → Term → ℕ → List Term → Term → List Term → Query
 sorted_query descending limit tree filters first more =
     record (from_tree tree filters (first ∷ more)) { order = (first, record { collation = Binary; descending = descending }) ∷ []; limit = limit }

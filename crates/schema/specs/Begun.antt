@@ -11,7 +11,8 @@ use Rattle.sql_tables.specs.declared.versions.Version.{Version}
 use Rattle.table_reads.specs.Holding.{HoldsRows}
 use Rattle.sql_tables.specs.Opening.{MakesAll}
 
--- the trees that it could leave before, or, where the database was empty, those of our tables without a row
+-- the trees that it could leave before, or, where the database was empty, those of our tables
+-- without a row
 abbrev pub LeavesNoOther : State → State → Type 0
 LeavesNoOther old new = HasCleanDisk new → (trees : Trees) → new.may_leave trees → old.may_leave trees ⊎ ((old.now.schema ≡ no_schema) × IsLeft MakesAll old trees)
 

@@ -18,7 +18,8 @@ use Rattle.schema.specs.Link.{link}
 use Rattle.adoption.specs.Faults.{fault_for}
 
 module _ {D : Type 0} {g : Ghosts D} where
-  -- Its two files were given back. Where their disks have returned what was written, the database file alone has the last commit, and the last commit has the rows of the contents.
+  -- Its two files were given back. Where their disks have returned what was written, the database
+  -- file alone has the last commit, and the last commit has the rows of the contents.
   pub record LeavesWholeFile (conn : Held (FileStore D g)) : Type 0 where
     pub last : FileStore D g
     pub files : Files D

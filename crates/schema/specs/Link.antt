@@ -16,7 +16,8 @@ use Rattle.sql_tables.specs.Tables.{our_schema}
 abbrev pub ours_at : Trees → Database
 ours_at trees = record { schema = our_schema; trees = trees }
 
--- what an open finds at these trees of our tables: sound contents whose image they are, or none, where there are none
+-- what an open finds at these trees of our tables: sound contents whose image they are, or none,
+-- where there are none
 abbrev pub Stands : Option Contents → Trees → Type 0
 Stands None trees = (c : Contents) → AreSound c → ¬ IsImage (image c) (ours_at trees)
 Stands (Some c) trees = AreSound c × IsImage (image c) (ours_at trees)

@@ -20,7 +20,8 @@ IsReplyOf WriteFailed reply written = IsBeginning (take 512 written) reply
 abbrev pub KeepsRead : Option (List ℕ) → Option (List ℕ) → List ℕ → Type 0
 KeepsRead before after first = (bytes : List ℕ) × Consumes before after bytes × (first ≡ take 256 bytes)
 
--- the first of the bytes that were taken, and the first of these and of those that were offered last
+-- the first of the bytes that were taken, and the first of these and of those that were offered
+-- last
 abbrev pub KeepsWritten : Option (List ℕ) → Option (List ℕ) → List ℕ → List ℕ → Type 0
 KeepsWritten before after taken offered =
     (bytes : List ℕ) × (rest : List ℕ) × Appends before after bytes × (taken ≡ take 512 bytes) × (offered ≡ take 512 (bytes ++ rest))

@@ -11,7 +11,8 @@ use Rattle.server.specs.declared.observation.Observation.{Observation}
 abbrev pub fault_between : FaultCounts → FaultCounts → StoreFault
 fault_between before after = if nat_lt before.full after.full then fault.Full else (if nat_lt before.failed after.failed then fault.Device else fault.Memory)
 
--- what is observed of an exchange: of its bytes, where it is known what was brought and what was written
+-- what is observed of an exchange: of its bytes, where it is known what was brought and what was
+-- written
 pub record IsObservationOf (brought written : Bool) (e : Exchange) (o : Observation) : Type 0 where
   pub served : o.served ≡ e.served
   pub request : IsTrue brought → IsBeginning o.request e.input

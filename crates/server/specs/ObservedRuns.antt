@@ -45,7 +45,8 @@ event_texts level opened count h os closing = opening_lines level opened h ++ co
 abbrev pub IsStopOf : Result (Unit {0}) ServeStop → Result (Unit {0}) StoreFault → Type 0
 IsStopOf result closing = (fault : StoreFault) → result ≡ Err (Store fault) → closing ≡ Err fault
 
--- these are written of a run that served these exchanges, and then closed its store, which is closed where that ended well
+-- these are written of a run that served these exchanges, and then closed its store, which is
+-- closed where that ended well
 pub record NotesRun (closed : Type 0) (old new : State) (known : Bool) (opened : Opened) (es : List Exchange) (result : Result (Unit {0}) ServeStop)
     (level : Level) (before after : Option (List ℕ)) : Type 0 where
   pub holdings : Holdings

@@ -37,8 +37,8 @@ abbrev pub WritesLastInPart : ℕ → ℕ → Option (List ℕ) → Option (List
 WritesLastInPart port turns before after = (front : List ℕ) × (back : List ℕ)
     × (front ++ back ≡ served_text turns) × Appends before after (listening_text port ++ front)
 
--- what is written, where so many connections were served: the first line before all of them, and the last, or a beginning of it,
--- only once none is left and the store was closed
+-- what is written, where so many connections were served: the first line before all of them, and
+-- the last, or a beginning of it, only once none is left and the store was closed
 abbrev pub WritesLines : Type 0 → ℕ → ℕ → ℕ → Option (List ℕ) → Option (List ℕ) → Result (Unit {0}) ServeStop → Type 0
 WritesLines closed port turns count before after (Ok u) = closed × (count ≡ turns) × Appends before after (listening_text port ++ served_text turns)
 WritesLines closed port turns count before after (Err Next) = (count < turns) × Appends before after (listening_text port)
@@ -57,7 +57,8 @@ WritesFirst port turns count before after (Err Write) = (count ≡ 0) × Appends
 WritesFirst port turns count before after (Err Memory) = ((count ≡ 0) × Keeps before after) ⊎ ((count ≤ turns) × Appends before after (listening_text port))
 WritesFirst port turns count before after (Err (Store fault)) = ⊥
 
--- then the store is closed, and the last line is written, or a beginning of it, only where all was served and it was closed
+-- then the store is closed, and the last line is written, or a beginning of it, only where all was
+-- served and it was closed
 abbrev pub WritesLast : Type 0 → ℕ → Result (Unit {0}) ServeStop → Option (List ℕ) → Option (List ℕ) → Result (Unit {0}) ServeStop → Type 0
 WritesLast closed turns (Err stop) before after result = (result ≡ Err stop) × (after ≡ before)
 WritesLast closed turns (Ok u) before after (Ok v) = closed × Appends before after (served_text turns)

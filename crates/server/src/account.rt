@@ -14,7 +14,7 @@ use http_requests::Wanted;
 use job_facts::{JobStore, Refusal, Reply, StoreFault};
 use reports::{AccountFault, batch_counts, blank_counts, report_of};
 use std::alloc::{AllocError, Global};
-use store_data::{Bytes, Name};
+use store_data::Bytes;
 
 /// A reply, but for its bytes before the body.
 #[derive(Drop)]

@@ -1,5 +1,5 @@
 //! A reader and a writer that keep the first bytes that pass.
-ghost use Rattle.std.specs.Prelude.{◌≡◌, [], None};
+ghost use Rattle.std.specs.Prelude.{◌≡◌, None};
 ghost use Rattle.server.specs.Bytes.{KeepsRead, KeepsReply, KeepsWritten};
 
 use crate::beginning::Beginning;

@@ -1,5 +1,5 @@
-//! Connections, served one after the other, one message and one reply each; what is observed of each,
-//! and the event lines of a server from its first line to its last.
+//! Connections, served one after the other, one message and one reply each; what is observed of
+//! each, and the event lines of a server from its first line to its last.
 #![tactic(auto)]
 
 mod account;

@@ -8,8 +8,8 @@ use http_requests::Routes;
 use job_facts::JobStore;
 use std::alloc::Global;
 
-/// Serves so many connections, one after the other. Errors: the fault that hands out no next one, which ends it; what was served
-/// stands.
+/// Serves so many connections, one after the other. Errors: the fault that hands out no next one,
+/// which ends it; what was served stands.
 pub fn serve_all<S: JobStore, C: Connections>(
     alloc: Global,
     store: &mut S,

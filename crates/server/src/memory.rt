@@ -63,7 +63,8 @@ pub struct MemoryConnections {
 }
 
 impl MemoryConnections {
-    /// One connection for each of these, whose bytes come in pieces of at most so many, and of one at least.
+    /// One connection for each of these, whose bytes come in pieces of at most so many, and of one
+    /// at least.
     pub fn new(alloc: Global, inputs: Vec<Vec<u8>>, most: usize) -> MemoryConnections
         ensures done { (queue result).done ≡ [] }
         ensures coming { (queue result).coming ≡ texts inputs.items }

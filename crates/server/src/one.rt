@@ -26,8 +26,9 @@ use reply_store::{Kept, handle};
 use std::alloc::Global;
 use std::io::Write;
 
-/// Serves one connection: reads a message, does what it asks, and writes the reply. Once an arrival is handled it takes no
-/// memory. Where the writer fails a beginning of the reply was written, and what was decided stays.
+/// Serves one connection: reads a message, does what it asks, and writes the reply. Once an arrival
+/// is handled it takes no memory. Where the writer fails a beginning of the reply was written, and
+/// what was decided stays.
 pub fn serve_one<S: JobStore, I: ByteSource, W: Write>(
     alloc: Global,
     store: &mut S,

@@ -2,7 +2,7 @@
 ghost use Rattle.std.specs.Prelude.{◌≡◌, ◌≤◌, length, not, option_map};
 ghost use Rattle.std.specs.Char.{is_ascii_digit};
 ghost use Rattle.std.specs.List.{prefix_len};
-ghost use Rattle.server.specs.Words.{behind, digits_in, is_line_end, is_word_byte};
+ghost use Rattle.server.specs.Words.{digits_in, is_line_end, is_word_byte};
 ghost use Rattle.server.specs.Words.{past_mark, refusal_in, request_line, status_digits};
 ghost use Rattle.server.specs.Words.{word_in};
 

@@ -1,5 +1,5 @@
-//! Tests of what is done with sockets: addresses, waits, pauses, what is read and written, and what a signal interrupts. The
-//! sockets are in memory, and the tests move the clock.
+//! Tests of what is done with sockets: addresses, waits, pauses, what is read and written, and what
+//! a signal interrupts. The sockets are in memory, and the tests move the clock.
 #![tactic(auto)]
 
 #[cfg(test)]

@@ -25,8 +25,8 @@ fn a_message_goes_whole_to_a_port_of_this_machine(rt: HostRuntime) -> Result<(),
     Ok(())
 }
 
-// How the writes and the reads of an exchange go, whether the reply comes whole, or nothing, and the
-// waits of the last write and the last read, in milliseconds.
+// How the writes and the reads of an exchange go, whether the reply comes whole, or nothing, and
+// the waits of the last write and the last read, in milliseconds.
 #[test]
 fn an_exchange_has_a_minute(rt: HostRuntime) -> Result<(), Fail> {
     const SIGNAL: Step = Step::Fails(1000, ErrorKind::Interrupted);

@@ -1,4 +1,5 @@
--- Rows of any number that pass are changed under their rowids, or taken out: from rowids that are apart, up to order.
+-- Rows of any number that pass are changed under their rowids, or taken out: from rowids that are
+-- apart, up to order.
 use Rattle.std.proofs.Common.{IsTrue, arith, inl, inr, ◌≡◌, ◌≤◌, ◌||◌, ℤ, List, [], ◌∷◌, ◌++◌, filter, length, map, not, cond, Bool, true, false, refl, sym, ap, ap₂, subst, ◌∙◌}
 use Rattle.std.proofs.lemmas.Bool.{cases_Bool}
 use Rattle.std.proofs.lemmas.Cmp.{tied_itself}
@@ -169,7 +170,8 @@ mapped_apart f rows same table = record { apart = apart rows same table.apart; i
     ints [] same all = tt
     ints (x ∷ xs) same all = (subst (λ v. IsTrue (is_int v)) (sym same.0) all.0, ints xs same.1 all.1)
 
--- the rows that pass, taken out by their rowids and put back changed under the same ones, are changed where they stand
+-- the rows that pass, taken out by their rowids and put back changed under the same ones, are
+-- changed where they stand
 pub rows_updated : (p : Row → Bool) (shown put : Row → Row) (rows found : List Row) → AreApart rows → IsPermutation (map shown (filter p rows)) found
     → KeepsRowid shown → KeepsRowid (λ r. put (shown r))
     → IsPermutation (changed_by p (λ r. put (shown r)) rows) (put_all (without_all rows (ids_of found)) (map put found)) × AreApart (put_all (without_all rows (ids_of found)) (map put found))

@@ -28,8 +28,8 @@ pub trait UnitOfWork {
             (state S.Store tx.new.conn.now) (λ _. ⊥) };
 }
 
-/// Does the work in a transaction of its own, or nothing. A crash leaves what it could leave before,
-/// or all of it.
+/// Does the work in a transaction of its own, or nothing. A crash leaves what it could leave
+/// before, or all of it.
 pub fn transact<W: UnitOfWork, S: Alter>(conn: &mut Connection<S>, work: &W) -> Result<(), Error>
     requires { conn.old.in_transaction ≡ false }
     ensures ok { HasCleanDisk (state S.Store conn.new) → OnOk result

@@ -1,4 +1,5 @@
--- Rows of one table are changed or taken out, where the statement tells the ones it means by what stands in them.
+-- Rows of one table are changed or taken out, where the statement tells the ones it means by what
+-- stands in them.
 use Rattle.std.proofs.Common.{◌≡◌, Bool, List, ◌∷◌, cond, drop, filter, map, not, sym, subst, ◌∙◌}
 use Rattle.std.specs.List.Sorted.{IsPermutation}
 use Rattle.std.proofs.lemmas.List.Sorted.{IsPermutation-map, IsPermutation-trans}

@@ -24,14 +24,16 @@ IsApart t others = AllByRecursion (λ u. (t.tree == u.tree) ≡ false) others
 abbrev pub AreApart : List Table → Type 0
 AreApart tables = IsAscending (λ t u. (t.tree == u.tree) ≡ false) tables
 
--- the index is no key, or it is that of a key that its table declares: names that begin so are SQLite's own
+-- the index is no key, or it is that of a key that its table declares: names that begin so are
+-- SQLite's own
 abbrev pub is_no_further_key : Index → Type 0
 is_no_further_key i = IsTrue (not i.is_unique || is_reserved i.name)
 
 unfoldable pub HasNoFurtherKey : List Index → Type 0
 HasNoFurtherKey indexes = All is_no_further_key indexes
 
--- the tables are these, in any order and each under a number of its own, with no key beside theirs, and no view or trigger
+-- the tables are these, in any order and each under a number of its own, with no key beside theirs,
+-- and no view or trigger
 pub record HasJust (s ours : Schema) : Type 0 where
   pub each : AreAmong s.tables ours.tables
   pub all : AreAmong ours.tables s.tables

@@ -1,4 +1,5 @@
--- Statements that run one after the other, in an open transaction. `R` is what the statement of an item makes of the database.
+-- Statements that run one after the other, in an open transaction. `R` is what the statement of an
+-- item makes of the database.
 use Rattle.std.specs.Prelude.{◌≡◌, ◌≢◌, List, [], ◌∷◌, IsTrue, OnOk, Result}
 use Rattle.sqlite.specs.Effect.{Database}
 use Rattle.sqlite.specs.State.{KeepsCommit, State}

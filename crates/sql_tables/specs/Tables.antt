@@ -1,4 +1,5 @@
--- The tables that the store keeps its facts and replies in, and the schema that these make in their order.
+-- The tables that the store keeps its facts and replies in, and the schema that these make in their
+-- order.
 use Rattle.std.specs.Prelude.{false, List, [], ◌∷◌, Some, None, codes, ℕ, pos}
 use Rattle.sqlite.specs.declared.types.Value.TheVariants.{Int}
 use Rattle.sqlite.specs.Schema.{Schema}
@@ -183,8 +184,8 @@ reply_table = reply_at 19
 abbrev pub mark_table : Table
 mark_table = mark_at 21
 
--- which session of a machine runs, which rows a record has and their marks, how the sessions of a batch stand, and what a batch tells without its
--- bytes: no rule, but speed
+-- which session of a machine runs, which rows a record has and their marks, how the sessions of a
+-- batch stand, and what a batch tells without its bytes: no rule, but speed
 abbrev pub session_running_at : ℕ → Index
 session_running_at tree = record { name = codes "session_running"; tree = tree; table = 12; columns = 2 ∷ 6 ∷ []; order = plain; is_unique = false }
 

@@ -1,4 +1,5 @@
--- The texts that make the tables of each version (SQLite's CREATE TABLE with STRICT), those that make our indices, and the INSERT of the version.
+-- The texts that make the tables of each version (SQLite's CREATE TABLE with STRICT), those that
+-- make our indices, and the INSERT of the version.
 use Rattle.std.specs.Prelude.{List, [], ◌∷◌, ◌++◌, ℕ, codes}
 use Rattle.sql_tables.specs.declared.versions.Version.{Version}
 use Rattle.sql_tables.specs.declared.versions.Version.TheVariants.{One, Two, Three}

@@ -1,4 +1,5 @@
--- The tables of each version: those of versions 1 and 2 know two marks of encipherment, and version 1 has no released numbers.
+-- The tables of each version: those of versions 1 and 2 know two marks of encipherment, and version
+-- 1 has no released numbers.
 use Rattle.std.specs.Prelude.{ℕ, List, [], ◌∷◌, ◌++◌, codes, fold, pos}
 use Rattle.sqlite.specs.Change.{created}
 use Rattle.sqlite.specs.Schema.{Schema}
@@ -27,8 +28,8 @@ tables_in One = earlier_tables ++ numbered_version_at 1 0 ∷ []
 tables_in Two = earlier_tables ++ mark_at 0 ∷ numbered_version_at 2 0 ∷ []
 tables_in Three = version_at 0 ∷ product_at 0 ∷ lot_at 0 ∷ batch_at 0 ∷ record_at 0 ∷ grouping_at 0 ∷ session_at 0 ∷ word_at 0 ∷ blank_at 0 ∷ remake_at 0 ∷ reply_at 0 ∷ mark_at 0 ∷ []
 
--- what they make in an empty database, which for our own, with their indices, is written out. The order of the tables, and their
--- numbers, are of no matter
+-- what they make in an empty database, which for our own, with their indices, is written out. The
+-- order of the tables, and their numbers, are of no matter
 abbrev pub schema_of : Version → Schema
 schema_of One = fold created no_schema (tables_in One)
 schema_of Two = fold created no_schema (tables_in Two)

@@ -1,4 +1,5 @@
--- What is known stays: what stands under a name, and so the commands of a record and the state of a session.
+-- What is known stays: what stands under a name, and so the commands of a record and the state of a
+-- session.
 use Rattle.std.proofs.Common.{◌≡◌, ℕ, List, [], ◌∷◌, ◌++◌, Option, Some, refl, sym, ap, ◌∙◌, append-nil}
 use Rattle.std.specs.Prelude.{bytes_eq, option_and_then, option_map}
 use Rattle.store_data.specs.declared.row.Product.{Product}

@@ -26,7 +26,8 @@ use Rattle.job_facts.specs.Steps.{Outcome, by_option, in_batch, in_session, know
 abbrev pub named_batch : List ℕ → List ℕ → List ℕ → Batch
 named_batch b p raw = record { name = b; product = p; raw = raw }
 
--- an opening that is made: the batch takes it, the machine is idle, and the blank is one of its product without a charge
+-- an opening that is made: the batch takes it, the machine is idle, and the blank is one of its
+-- product without a charge
 pub record Opens (f : Facts) (client b : List ℕ) (blank : ℕ) (r : List ℕ) : Type 0 where
   pub batch : Batch
   pub there : batch_named f.batches b ≡ Some batch

@@ -24,8 +24,8 @@ pub record KnowsMore (f g : Facts) : Type 0 where
 
 -- ---- sessions
 
--- session s of f, as it is in g: the same card's, with its words and perhaps more behind them; an end stays. One that is good or
--- spoiled is what it was.
+-- session s of f, as it is in g: the same card's, with its words and perhaps more behind them; an
+-- end stays. One that is good or spoiled is what it was.
 pub record IsLaterSession (f g : Facts) (s : ℕ) (x : Session) : Type 0 where
   pub now : Session
   pub there : session_numbered g.sessions s ≡ Some now
@@ -56,7 +56,8 @@ is_on_session _ = false
 
 -- ---- words
 
--- a session's words are as they were, or with one more behind them: that of this request, which answers the command of its place
+-- a session's words are as they were, or with one more behind them: that of this request, which
+-- answers the command of its place
 abbrev pub TakesInTurn : Request → Facts → Facts → Type 0
 TakesInTurn r f g = (s : ℕ) (x now : Session) → session_numbered f.sessions s ≡ Some x → session_numbered g.sessions s ≡ Some now
     → (now.words ≡ x.words) ⊎ ((sw : ℕ) × (r ≡ request.Answer s (length x.words) sw) × (now.words ≡ x.words ++ sw ∷ []))

@@ -1,4 +1,5 @@
--- Requests and replies in their ranges, for laws on all values: what a type says in code is a premise here (this project's profile).
+-- Requests and replies in their ranges, for laws on all values: what a type says in code is a
+-- premise here (this project's profile).
 use Rattle.std.specs.Prelude.{◌≤◌, ◌<◌, ◌^◌, ℕ, List, slice_index, ⊤}
 use Rattle.store_data.specs.Sequence.{IsProduct}
 use Rattle.job_facts.specs.declared.reply.Reply.{Reply}
@@ -25,7 +26,8 @@ IsRanged (request.Close b) = IsName b
 abbrev pub AreBytes : List ℕ → Type 0
 AreBytes xs = (i : ℕ) → slice_index xs i < 256
 
--- its names are names, its command is bytes, and its numbers are no larger than contents can make them
+-- its names are names, its command is bytes, and its numbers are no larger than contents can make
+-- them
 abbrev pub IsRangedReply : Reply → Type 0
 IsRangedReply (reply.Product p made) = IsName p
 IsRangedReply (reply.Lot l made) = IsName l

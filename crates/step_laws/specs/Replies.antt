@@ -54,7 +54,8 @@ abbrev pub IsGivenUp : Facts → Facts → List ℕ → ℕ → Type 0
 IsGivenUp f g client zero = g ≡ f
 IsGivenUp f g client (suc s) = (x : Session) × IsSessionOf g client (suc s) x session.Spoiled
 
--- what a client's reply says of the facts before it and after it. What is not named is a refusal, which leaves them.
+-- what a client's reply says of the facts before it and after it. What is not named is a refusal,
+-- which leaves them.
 abbrev pub Says : Facts → Facts → List ℕ → Reply → Type 0
 Says f g client (reply.Product p made) = IsSome (product_named g.products p) × LeavesKnown made f g
 Says f g client (reply.Lot l made) = IsSome (lot_named g.lots l) × LeavesKnown made f g

@@ -4,7 +4,8 @@ ghost use Rattle.job_facts.specs.declared.request.Request.{Request as RequestVal
 ghost use Rattle.job_facts.specs.Facts.{Facts};
 ghost use Rattle.job_facts.specs.Sound.{IsSound};
 ghost use Rattle.job_facts.specs.Steps.{step};
-ghost use Rattle.step_laws.specs.Later.{AnswersWithin, KnowsMore, Later, OtherSessionsStay, TakesInTurn};
+ghost use Rattle.step_laws.specs.Later.{AnswersWithin, KnowsMore, Later, OtherSessionsStay};
+ghost use Rattle.step_laws.specs.Later.{TakesInTurn};
 ghost use Rattle.step_laws.specs.Later.{WordsWithin, is_on_session};
 
 /// A session only grows: it stays the same card's, words come behind its words, an end stays, and

@@ -1,4 +1,5 @@
--- Why SQLite doesn't open a file, by its error and by what the file system says of the path (this project's profile).
+-- Why SQLite doesn't open a file, by its error and by what the file system says of the path (this
+-- project's profile).
 use Rattle.std.specs.Prelude.{false}
 use Rattle.sqlite.specs.declared.error.Error.{Error}
 use Rattle.sqlite.specs.declared.error.Error.TheVariants.{SqliteFailure}
@@ -15,7 +16,8 @@ abbrev pub absent : Place → FileFault
 absent place.NoFolder = NotOurs cause.NoFolder
 absent _ = NotOurs cause.NoFile
 
--- SQLite can't open it: what isn't there can't be made, and of a file that can be opened it is the log that can't
+-- SQLite can't open it: what isn't there can't be made, and of a file that can be opened it is the
+-- log that can't
 abbrev pub cannot_open : Place → Cause
 cannot_open place.NoFile = cause.NoRight
 cannot_open place.NoFolder = cause.NoFolder

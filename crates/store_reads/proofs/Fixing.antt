@@ -1,4 +1,5 @@
--- What is written leaves alone what of the rows no change touches, unless it adds a product or a batch.
+-- What is written leaves alone what of the rows no change touches, unless it adds a product or a
+-- batch.
 use Rattle.std.proofs.Common.{◌≡◌, ◌==◌, ◌&&◌, ℕ, true, List, map, inl, inr, refl, ap, ◌∙◌, ◌+◌}
 use Rattle.std.specs.Prelude.{bytes_eq}
 use Rattle.std.proofs.lemmas.Bool.{cases_Bool}

@@ -1,4 +1,5 @@
--- What is known stays so behind a read, and behind what is written; and what is read of a record is known from then on.
+-- What is known stays so behind a read, and behind what is written; and what is read of a record is
+-- known from then on.
 use Rattle.std.proofs.Common.{◌≡◌, ◌⊎◌, inl, inr, true, List, All, Contains, sym, subst, arith}
 use Rattle.std.proofs.Math.Logic.{∥∥₁_map}
 use Rattle.std.proofs.lemmas.List.Elements.{All-contains, All-contains_itself, All-weaker}

@@ -1,4 +1,5 @@
--- Rows by rising numbers: what is told of them in the order of their numbers, and of the first of them.
+-- Rows by rising numbers: what is told of them in the order of their numbers, and of the first of
+-- them.
 use Rattle.std.proofs.Common.{◌≡◌, ℕ, zero, suc, ◌<◌, ◌≤◌, Bool, cond, true, false, List, [], ◌∷◌, map, length, get_or, Option, Some, None, refl, sym, ap, arith}
 use Rattle.std.specs.Prelude.{AllPairs, filter, find, option_map}
 use Rattle.std.proofs.lemmas.List.Elements.{at_from_Contains}

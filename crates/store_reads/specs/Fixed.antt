@@ -1,4 +1,5 @@
--- What of the rows no change touches: the products, the names of batches and their records with their places, and the groupings. An import adds to it.
+-- What of the rows no change touches: the products, the names of batches and their records with
+-- their places, and the groupings. An import adds to it.
 use Rattle.std.specs.Prelude.{◌==◌, ◌&&◌, ℕ, Bool, true, false, List, map, bytes_eq}
 use Rattle.store_data.specs.declared.row.Product.{Product}
 use Rattle.job_facts.specs.Sound.{AreNamedOnce}

@@ -17,7 +17,8 @@ use Rattle.store_reads.specs.Fixed.{AreNamedApart, Fixed, fixed}
 abbrev pub known_records : Known → List KnownRecord
 known_records known = known.records.items
 
--- its batch and its product are there, the record is there under its name at its place, and its groupings are these, by rising lines
+-- its batch and its product are there, the record is there under its name at its place, and its
+-- groupings are these, by rising lines
 pub record IsKnownIn (x : Fixed) (k : KnownRecord) : Type 0 where
   pub batch : Contains x.batches (record { id = k.id; name = k.batch; product = k.product.code })
   pub product : Contains x.products k.product
@@ -38,12 +39,14 @@ Knows s known = HasCleanDisk s → IsTrue s.is_open → HasKnown s.now known
 
 -- ---- what is told by what is known
 
--- this is so of whatever sound contents it has the rows, if the record is known in these; nothing may have been read, so that the connection may be shut
+-- this is so of whatever sound contents it has the rows, if the record is known in these; nothing
+-- may have been read, so that the connection may be shut
 abbrev pub TellsKnown : {T : Type 0} → KnownRecord → State → State → Result T Error → (Contents → T → Type 0) → Type 0
 TellsKnown k old new result P =
     HasCleanDisk new → IfOk result (λ answer. (c : Contents) → AreSound c → (IsTrue old.is_open → IsImage (image c) old.now) → IsKnownIn (fixed (image c)) k → P c answer)
 
--- where there is an answer, an open connection gave it, and this is so of whatever sound contents it has the rows
+-- where there is an answer, an open connection gave it, and this is so of whatever sound contents
+-- it has the rows
 abbrev pub TellsSome : {T : Type 0} → State → State → Result (Option T) Error → (Contents → T → Type 0) → Type 0
 TellsSome old new result P =
     HasCleanDisk new → IfOk result (λ found. IfSome found (λ answer. IsTrue old.is_open × ((c : Contents) → AreSound c → IsImage (image c) old.now → P c answer)))

@@ -1,4 +1,5 @@
--- A segment of a record's plan by rows: the product of its batch, the marks of its record's groupings, and the bytes of its own.
+-- A segment of a record's plan by rows: the product of its batch, the marks of its record's
+-- groupings, and the bytes of its own.
 use Rattle.std.specs.Prelude.{◌==◌, ◌+◌, ◌<◌, ◌^◌, ℕ, List, length, map, filter, find, slice_get, Option, option_and_then, option_map}
 use Rattle.std.specs.List.{list_any}
 use Rattle.store_data.specs.declared.row.Product.{Product}

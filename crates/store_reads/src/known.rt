@@ -34,7 +34,7 @@ pub struct Known {
     records: Vec<KnownRecord>,
 }
 
-/// As many as there are, and no more machines than this are likely to work at a time.
+/// How many records are kept at once. Each running machine works on one record.
 const MOST: usize = 64;
 
 impl Known {

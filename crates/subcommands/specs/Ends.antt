@@ -26,9 +26,9 @@ use Rattle.arguments.specs.declared.words.WordsFault.TheVariants as words
 use Rattle.plan_print.specs.declared.plan.PlanStop.{PlanStop}
 use Rattle.plan_print.specs.declared.plan.PlanStop.TheVariants as stop
 
--- done and help end with 0, a refusal or a bad line with 1, wrong arguments with 2, and a fault of a
--- file, a device or of memory with 3; a fault of a batch is told by its number and row, every other
--- refusal by its number alone, and there are no words where clap has a text of its own
+-- done and help end with 0, a refusal or a bad line with 1, wrong arguments with 2, and a fault of
+-- a file, a device or of memory with 3; a fault of a batch is told by its number and row, every
+-- other refusal by its number alone, and there are no words where clap has a text of its own
 abbrev pub exit_of : End → Exit
 exit_of end.Done = record { status = 0; words = None }
 exit_of end.Helped = record { status = 0; words = None }

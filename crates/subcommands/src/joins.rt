@@ -58,8 +58,8 @@ pub fn explain<O: Write, E: Write>(
     }
 }
 
-/// The end of what was done over a store, by how the store was closed: where it can't be closed, the
-/// fault of that.
+/// The end of what was done over a store, by how the store was closed: where it can't be closed,
+/// the fault of that.
 pub fn end_of_close(end: End, closed: Result<(), StoreFault>) -> End
     ensures { result ≡ end_of_close end closed }
 {
@@ -69,8 +69,8 @@ pub fn end_of_close(end: End, closed: Result<(), StoreFault>) -> End
     }
 }
 
-/// Writes the event line of a file that is refused: the refusal's code, the cause, the table that it
-/// names, and the file's path. Of a fault of the device or of memory nothing is written.
+/// Writes the event line of a file that is refused: the refusal's code, the cause, the table that
+/// it names, and the file's path. Of a fault of the device or of memory nothing is written.
 pub fn note_refusal<E: Write + Drop>(
     alloc: Global,
     fault: &FileFault,

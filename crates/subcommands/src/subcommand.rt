@@ -55,8 +55,8 @@ pub fn product_of(max: u8, low: u8, check: bool) -> Product
 }
 
 /// Feeds the machine of a start with the reader's cards for its batch, over the exchange, prints
-/// what each card comes to, and writes event lines. What is printed is written as it comes, and left
-/// to the caller to flush.
+/// what each card comes to, and writes event lines. What is printed is written as it comes, and
+/// left to the caller to flush.
 pub fn run_feed<R: Read, W: Write, X: Exchange, E: Write + Drop>(
     alloc: Global,
     start: FeedStart,

@@ -1,4 +1,5 @@
--- A text that asks for a whole table is known by one computation, at any schema in which the table is found.
+-- A text that asks for a whole table is known by one computation, at any schema in which the table
+-- is found.
 use Rattle.std.proofs.Common.{◌≡◌, ◌+◌, ◌∙◌, ℕ, zero, suc, Bool, true, false, nat_lt, List, [], ◌∷◌, drop, length, Option, None, Some, Result, Ok, Err, refl, sym, ap, subst}
 use Rattle.sqlite.specs.Order.{Row, column}
 use Rattle.sqlite.specs.Schema.{Schema}

@@ -1,5 +1,5 @@
--- When a database holds rows in the tables of a version (docs/TABLES.md): its tables are those of the version, in any order and under
--- any numbers, and their rows are these, in any order.
+-- When a database holds rows in the tables of a version (docs/TABLES.md): its tables are those of
+-- the version, in any order and under any numbers, and their rows are these, in any order.
 use Rattle.std.specs.Prelude.{◌≡◌, ℕ, Bool, true, false, List, [], ◌∷◌, map, IsPermutation}
 use Rattle.sqlite.specs.Effect.{Database}
 use Rattle.sqlite.specs.Order.{Row}
@@ -17,7 +17,8 @@ use Rattle.sql_tables.specs.declared.versions.Version.{Version}
 use Rattle.sql_tables.specs.declared.versions.Version.TheVariants.{One, Two, Three}
 use Rattle.table_reads.specs.Version.{numbered_row}
 
--- the table stands there under some number, and these are its rows, in any order, told with their rowids or without
+-- the table stands there under some number, and these are its rows, in any order, told with their
+-- rowids or without
 pub record Holds (table : ℕ → Table) (by_rowid : Bool) (rows : List Row) (db : Database) : Type 0 where
   pub number : ℕ
   pub finds : Finds db.schema (table number)

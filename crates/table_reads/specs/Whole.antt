@@ -1,4 +1,5 @@
--- When a text asks for a table whole, and what the rows that it shows tell of those that are stored.
+-- When a text asks for a table whole, and what the rows that it shows tell of those that are
+-- stored.
 use Rattle.std.specs.Prelude.{◌≡◌, false, true, ℕ, Bool, List, [], ◌∷◌, map, drop, All, IsPermutation}
 use Rattle.sqlite.specs.Command.TheVariants.{Select}
 use Rattle.sqlite.specs.Given.{IsPlain}
@@ -22,7 +23,8 @@ pub record Asks (s : Schema) (sql : List ℕ) (tree : ℕ) (columns : List Term)
   pub plain : IsPlain (understood s sql)
   pub unlisted : reads_listing s sql ≡ false
 
--- a shown row as it is stored: where the rowid is a column, it stands first, and that column is NULL
+-- a shown row as it is stored: where the rowid is a column, it stands first, and that column is
+-- NULL
 abbrev pub as_stored : Bool → Row → Row
 as_stored true (id ∷ row) = id ∷ Null ∷ row
 as_stored _ row = row

@@ -48,8 +48,8 @@ fn one_in<T: Stored>(alloc: Global, row: &Row) -> Result<Option<T>, Error>
     }
 }
 
-// What the rows of a whole table tell, where each row tells one. A row is let go once it is told, so
-// that memory holds a table once.
+// What the rows of a whole table tell, where each row tells one. A row is let go once it is told,
+// so that memory holds a table once.
 pub(crate) fn all_in<T: Stored>(alloc: Global, rows: Vec<Row>) -> Result<Option<Vec<T>>, Error>
     ensures { IfOk result (λ found. MatchOption found (All T.is_row rows.items → ⊥)
         (λ all. map T.encode all.items ≡ map (as_stored T.by_rowid) rows.items)) }

@@ -1,4 +1,5 @@
--- The rows of the store's tables as plain lists, one for each table. Rows of a table stand in any order.
+-- The rows of the store's tables as plain lists, one for each table. Rows of a table stand in any
+-- order.
 use Rattle.std.specs.Prelude.{◌≡◌, ◌+◌, ◌==◌, ◌&&◌, ℕ, Bool, true, false, not, nat_le, if◌then◌else◌, List, [], ◌∷◌, map, filter, bytes_eq, AllPairs, IsPermutation}
 use Rattle.store_data.specs.declared.cursor.Cursor.{Cursor}
 use Rattle.store_data.specs.declared.row.Enc.{Enc}
@@ -43,7 +44,8 @@ totals_of b = record {
   spoiled = b.spoiled;
 }
 
--- a row of `record`: with how it stands, how many of its sessions are spoiled, and how often it was remade
+-- a row of `record`: with how it stands, how many of its sessions are spoiled, and how often it was
+-- remade
 pub record StoredRecord : Type 0 where
   pub batch : ℕ
   pub place : ℕ
@@ -207,7 +209,8 @@ closed_set name b = if bytes_eq b.name name then record b { closed = true } else
 abbrev pub with_closed_set : List ℕ → Tables → Tables
 with_closed_set name t = record t { batches = map (closed_set name) t.batches }
 
--- the record at this place of this batch stands so, with so many spoiled sessions, and was remade so often
+-- the record at this place of this batch stands so, with so many spoiled sessions, and was remade
+-- so often
 abbrev pub record_set : ℕ → ℕ → RecordState → ℕ → ℕ → StoredRecord → StoredRecord
 record_set batch place state spoiled remakes r =
     if (r.batch == batch) && (r.place == place) then record r { state = state; spoiled = spoiled; remakes = remakes } else r

@@ -2,7 +2,7 @@
 
 use job_facts::{RecordState, SessionState};
 use std::marker::Model;
-use store_data::{Cursor, Enc};
+use store_data::Enc;
 
 /// A row of `product`.
 #[derive(Drop)]

@@ -12,8 +12,8 @@ use std::alloc::{AllocError, Global};
 use std::process::Abort;
 use std::test::Fail;
 
-// What is changed, the statements that change it, and why the database is refused then: the refusal,
-// its cause, and the name of what differs.
+// What is changed, the statements that change it, and why the database is refused then: the
+// refusal, its cause, and the name of what differs.
 #[derive(Clone, Copy)]
 struct Damage(&'static str, &'static [&'static str], &'static str);
 

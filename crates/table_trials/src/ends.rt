@@ -1,4 +1,5 @@
-//! How each end of the program is seen from outside: by its status, and its words on standard error.
+//! How each end of the program is seen from outside: by its status, and its words on standard
+//! error.
 use crate::exchanges::at_last;
 use batch_import::{Kind, RowFault};
 use job_facts::Refusal;

@@ -1,7 +1,8 @@
-//! Stories over a device that fails, is full or lies: each fault in each turn of a run, and then the repeat of all.
+//! Stories over a device that fails, is full or lies: each fault in each turn of a run, and then
+//! the repeat of all.
 //!
-//! A run is a list of lines, each of which a client sends and is told: the set-up, a release of its numbers, a late repeat of one of
-//! these, a story, and the accounts.
+//! A run is a list of lines, each of which a client sends and is told: the set-up, a release of its
+//! numbers, a late repeat of one of these, a story, and the accounts.
 use crate::exchanges::at_last;
 use crate::stories::{CLOSING, LATE, MADE_AGAIN, RELEASE, SET_UP, Story, WITHDRAWAL};
 use faulty_store::{Device, Fault, FaultyStore, Plan};
@@ -83,7 +84,8 @@ fn run_of(alloc: Global, story: &Story, accounts: &[&str; 2]) -> Result<Run, All
     })
 }
 
-// What the line at this place is told, where so many lines had reached the device before it was sent.
+// What the line at this place is told, where so many lines had reached the device before it was
+// sent.
 fn wanted(run: &Run, place: usize, reached: usize) -> &[u8] {
     if place < SET_UP.len() && reached > SET_UP.len() {
         return run.released.as_slice();
@@ -107,7 +109,8 @@ fn faults(device: Device) -> u64 {
     device.failed.saturating_add(device.full)
 }
 
-// Sends these lines, one connection for each. 503 is told as often as a fault of the device is counted, or else memory was refused.
+// Sends these lines, one connection for each. 503 is told as often as a fault of the device is
+// counted, or else memory was refused.
 fn sent(
     alloc: Global,
     store: &mut FaultyStore,
@@ -133,7 +136,8 @@ fn is_unavailable(replied: &Replied) -> bool {
     replied.written.as_slice() == UNAVAILABLE
 }
 
-// Sends the line at this place for the first time. Answers whether it is told 503; else it is told as the run says.
+// Sends the line at this place for the first time. Answers whether it is told 503; else it is told
+// as the run says.
 fn is_refused(
     rt: &impl Abort,
     alloc: Global,
@@ -174,7 +178,8 @@ fn check_repeat(
     Ok(())
 }
 
-// The product, the lot and the batch of the set-up are there exactly where their lines have reached the device.
+// The product, the lot and the batch of the set-up are there exactly where their lines have reached
+// the device.
 fn check_set_up(rt: &impl Abort, store: &mut FaultyStore, reached: usize) {
     let counts = [
         store.product_count(),
@@ -189,10 +194,12 @@ fn check_set_up(rt: &impl Abort, store: &mut FaultyStore, reached: usize) {
     assert_eq!(rt; counts, wanted);
 }
 
-// Sends a run, each line of which meets this fault. A line that does is told 503. A device that failed has shut the store, which then
-// tells 503 even to what is kept, until it is opened again; one that is full leaves it open. Then all lines so far are sent again: each
-// that was told is told in the same bytes, but for released numbers, and that one is decided, or told where its write had reached the
-// device. At the end the whole run is told again, so nothing counts twice in its accounts. Answers whether a line met the fault.
+// Sends a run, each line of which meets this fault. A line that does is told 503. A device that
+// failed has shut the store, which then tells 503 even to what is kept, until it is opened again;
+// one that is full leaves it open. Then all lines so far are sent again: each that was told is told
+// in the same bytes, but for released numbers, and that one is decided, or told where its write had
+// reached the device. At the end the whole run is told again, so nothing counts twice in its
+// accounts. Answers whether a line met the fault.
 fn check_told(rt: &impl Abort, alloc: Global, run: &Run, plan: Plan) -> Result<bool, NextFault> {
     let is_full = matches!(plan.fault, Fault::Full);
     let is_written = matches!(plan.fault, Fault::FailedAfterWrite);
@@ -224,8 +231,9 @@ fn check_told(rt: &impl Abort, alloc: Global, run: &Run, plan: Plan) -> Result<b
     Ok(strikes)
 }
 
-// Sends a run in which the device loses all. The lines before are told as the run says, and no line is told 503: the count of lies alone
-// tells that the product, which was created, is gone. Answers whether the device has lied.
+// Sends a run in which the device loses all. The lines before are told as the run says, and no line
+// is told 503: the count of lies alone tells that the product, which was created, is gone. Answers
+// whether the device has lied.
 fn check_lying(rt: &impl Abort, alloc: Global, run: &Run, plan: Plan) -> Result<bool, NextFault> {
     let mut store = FaultyStore::new(alloc, Some(plan));
     let mut honest = 0;
@@ -280,7 +288,8 @@ fn a_device_that_fails_loses_nothing(rt: HostRuntime) -> Result<(), Fail> {
     check_turns(&rt, rt.alloc(), Fault::Failed)
 }
 
-// The write of a line that was told 503 is there after all: the line's repeat is told its reply, and makes no second change.
+// The write of a line that was told 503 is there after all: the line's repeat is told its reply,
+// and makes no second change.
 #[test]
 fn a_write_that_reached_a_failed_device_counts_once(rt: HostRuntime) -> Result<(), Fail> {
     check_turns(&rt, rt.alloc(), Fault::FailedAfterWrite)

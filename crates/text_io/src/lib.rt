@@ -1,5 +1,5 @@
-//! An input read whole, its lines and words and the numbers that they spell; and a text written whole,
-//! or a beginning of it where the writer fails.
+//! An input read whole, its lines and words and the numbers that they spell; and a text written
+//! whole, or a beginning of it where the writer fails.
 #![tactic(auto)]
 
 mod lines;

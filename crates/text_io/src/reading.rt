@@ -1,5 +1,5 @@
 //! An input, read to its end.
-ghost use Rattle.std.specs.Prelude.{◌≡◌, ℕ, List, IfOk, IfSome};
+ghost use Rattle.std.specs.Prelude.{◌≡◌, ℕ, List, IfOk};
 ghost use Rattle.std.specs.IoError.{error_kind};
 ghost use Rattle.text_io.specs.Inputs.{IsWithin, Tells, fault_of, fault_text};
 

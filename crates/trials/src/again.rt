@@ -1,4 +1,5 @@
-//! Asking again where memory was refused. So each test says the same whichever one allocation is refused, in its set-up too.
+//! Asking again where memory was refused. So each test says the same whichever one allocation is
+//! refused, in its set-up too.
 use arguments::WordsFault;
 use batch_import::ImportFault;
 use dgi::DgiFault;

@@ -1,4 +1,5 @@
-//! Names, a store of lists that is stocked, and connections to it. What is refused memory is asked again.
+//! Names, a store of lists that is stocked, and connections to it. What is refused memory is asked
+//! again.
 ghost use Rattle.std.specs.Prelude.{IfOk};
 ghost use Rattle.wire.specs.Asks.{IsInRange};
 
@@ -36,7 +37,8 @@ pub(crate) fn name(text: &str) -> Result<Name, Fail> {
     Ok(Name::new(text.as_bytes()).ok_or("no name")?)
 }
 
-/// A store with product P1, lot L1 of three blanks from 1000, and batch B1 of one record with one grouping.
+/// A store with product P1, lot L1 of three blanks from 1000, and batch B1 of one record with one
+/// grouping.
 pub(crate) fn stocked(alloc: Global) -> Result<ListStore, Fail> {
     let (office, code, lot, batch) = (name("office")?, name("P1")?, name("L1")?, name("B1")?);
     let product = Product {
@@ -88,8 +90,8 @@ pub(crate) fn asked(alloc: Global, bytes: &[u8]) -> Result<Asked, AskFault>
     }
 }
 
-/// What becomes of a connection that brings these bytes, and what was written; it comes again where it is told refused memory, or would
-/// be with more room.
+/// What becomes of a connection that brings these bytes, and what was written; it comes again where
+/// it is told refused memory, or would be with more room.
 pub(crate) fn served(
     alloc: Global,
     store: &mut ListStore,

@@ -1,4 +1,5 @@
-//! Feeds over replies in memory: a reader or a writer that fails, and messages that are no replies to a machine.
+//! Feeds over replies in memory: a reader or a writer that fails, and messages that are no replies
+//! to a machine.
 use crate::again::{MayWantMemory, at_last};
 use crate::exchanges::name;
 use crate::failing_readers::Broken;
@@ -89,8 +90,8 @@ impl Exchange for Replies<'_> {
     }
 }
 
-// How a feed of one card ends to which these replies come, and whose writer has so much room and takes one byte a call; the beginning is
-// written where memory was not refused.
+// How a feed of one card ends to which these replies come, and whose writer has so much room and
+// takes one byte a call; the beginning is written where memory was not refused.
 fn feed_of_limited(
     rt: &impl Abort,
     alloc: Global,

@@ -1,4 +1,5 @@
-//! Tests of what no file of worked examples can say: readers and writers that fail, refused memory, and the program's words.
+//! Tests of what no file of worked examples can say: readers and writers that fail, refused memory,
+//! and the program's words.
 #![tactic(auto)]
 
 #[cfg(test)]

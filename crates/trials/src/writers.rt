@@ -46,7 +46,8 @@ fn a_text_has_its_beginning_where_a_writer_fails(rt: HostRuntime) {
     }
 }
 
-// How a plan ends whose writer has so much room, and takes one byte a call; the beginning is written where memory was not refused.
+// How a plan ends whose writer has so much room, and takes one byte a call; the beginning is
+// written where memory was not refused.
 fn plan_of_limited(
     rt: &impl Abort,
     alloc: Global,
@@ -128,7 +129,8 @@ const PRODUCT: &[u8] =
 const CREATED: &[u8] =
     b"HTTP/1.1 200 OK\r\nContent-Type: application/json\r\nContent-Length: 35\r\nConnection: close\r\n\r\n{\"product\":\"P1\",\"result\":\"created\"}";
 
-// The product's reply is told up to the room of its writer, and whole where the product comes again.
+// The product's reply is told up to the room of its writer, and whole where the product comes
+// again.
 fn check_told_again(rt: &impl Abort, alloc: Global, room: usize, at_a_call: usize) {
     let mut store = ListStore::new(alloc);
     let (first, writer) = served(alloc, &mut store, PRODUCT, Limited::new(room, at_a_call));
@@ -172,7 +174,8 @@ fn is_unavailable(taken: &[u8]) -> bool {
     is_refused && !TOLD.as_bytes().starts_with(taken)
 }
 
-// How a drill ends whose writer has so much room, and takes one byte a call; the beginning is written where memory was not refused.
+// How a drill ends whose writer has so much room, and takes one byte a call; the beginning is
+// written where memory was not refused.
 fn drill_of_limited(rt: &impl Abort, alloc: Global, room: usize) -> Result<(), DrillStop> {
     let mut writer = Limited::new(room, 1);
     let end = drill_over_lists(alloc, &mut Cursor::new(SCRIPT), &mut writer);

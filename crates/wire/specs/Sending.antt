@@ -1,4 +1,5 @@
--- The texts of requests: HTTP/1.1 (RFC 9112), with the lines of this project's profile, and compact JSON (RFC 8259) with the members in order of their names.
+-- The texts of requests: HTTP/1.1 (RFC 9112), with the lines of this project's profile, and compact
+-- JSON (RFC 8259) with the members in order of their names.
 use Rattle.std.specs.Prelude.{◌≡◌, ◌≤◌, ◌<◌, ◌^◌, ◌/◌, ◌%◌, ℕ, List, [], ◌∷◌, length, codes, ⊤}
 use Rattle.hex.specs.Hex.{encode_upper}
 use Rattle.serde_json.specs.Data.{Data, boolean, null, string, object, member, no_members}

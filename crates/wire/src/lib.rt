@@ -1,4 +1,5 @@
-//! Messages over HTTP/1.1 (RFC 9112), both ways: what the bytes of a connection ask, the text of a request, and a reply read back.
+//! Messages over HTTP/1.1 (RFC 9112), both ways: what the bytes of a connection ask, the text of a
+//! request, and a reply read back.
 #![tactic(auto)]
 
 ghost use Rattle.wire.specs.ReplyText.{AreToldApart};

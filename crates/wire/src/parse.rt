@@ -21,8 +21,8 @@ use serde_json::Value;
 use std::alloc::{AllocError, Global};
 use store_data::{Bytes, Name};
 
-/// The reply to a call that these bytes are, status line to body, or `None` where they are no such reply. It fails only where
-/// memory is refused.
+/// The reply to a call that these bytes are, status line to body, or `None` where they are no such
+/// reply. It fails only where memory is refused.
 pub fn parse_reply(alloc: Global, bytes: &[u8]) -> Result<Option<Reply>, AllocError>
     ensures is { IfOk result
         (λ found. IfSome found (λ r. IsReply r × (bytes.now ≡ reply_bytes r))) }

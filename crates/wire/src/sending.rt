@@ -1,4 +1,5 @@
-//! The texts of calls, as a machine's feeder sends them: a head, and compact JSON (RFC 8259) or a batch file.
+//! The texts of calls, as a machine's feeder sends them: a head, and compact JSON (RFC 8259) or a
+//! batch file.
 ghost use Rattle.std.specs.Prelude.{◌≡◌, ◌≤◌, ◌<◌, ◌^◌, IfOk, OnOk, string_bytes};
 ghost use Rattle.serde_json.specs.View.{view};
 ghost use Rattle.job_facts.specs.Sound.{IsName};
@@ -14,8 +15,8 @@ use serde_json::{Value, json};
 use std::alloc::{AllocError, Global};
 use store_data::{Bytes, Name, Product, laws};
 
-/// The message that asks for a call under a client's number, head and body. The number is 1 to 999,999,999,999,999,999. It
-/// fails only where memory is refused.
+/// The message that asks for a call under a client's number, head and body. The number is 1 to
+/// 999,999,999,999,999,999. It fails only where memory is refused.
 pub fn request_text(
     alloc: Global,
     client: &Name,

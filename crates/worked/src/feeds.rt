@@ -191,7 +191,8 @@ fn number_in(line: &Line, text: &str) -> Result<u64, CaseFault> {
     }
 }
 
-// A message: what stands behind `/c/` in its target, a space, and its body, in which `\n` ends a line.
+// A message: what stands behind `/c/` in its target, a space, and its body, in which `\n` ends a
+// line.
 fn message_of(alloc: Global, line: &Line, told: &str) -> Result<Vec<u8>, CaseFault> {
     let Some((tail, body)) = told.split_once(' ') else {
         return Err(CaseFault::Form { line: line.number });

@@ -1,4 +1,5 @@
-//! The program `worked`: runs files of worked examples through every public way, as docs/WORKED.md has them.
+//! The program `worked`: runs files of worked examples through every public way, as docs/WORKED.md
+//! has them.
 #![tactic(auto)]
 
 mod drills;
@@ -36,7 +37,8 @@ fn main(rt: HostRuntime) -> ExitCode {
     }
 }
 
-// Runs the files that the words of the process name. Answers whether each case is what its file says.
+// Runs the files that the words of the process name. Answers whether each case is what its file
+// says.
 fn run(rt: &HostRuntime) -> io::Result<bool> {
     let words = env::args(rt)?.collect::<Vec<String>>(rt.alloc())?;
     let mut is_right = true;

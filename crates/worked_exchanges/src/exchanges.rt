@@ -29,8 +29,9 @@ pub struct Scripted {
     pub printed: Vec<u8>,
 }
 
-/// Runs a case on every way over a store of each of two kinds, and where it has few asks, of a third kind; each way has a store of its
-/// own. The same comes on all. Gives what a drill is to print, if all asks are the office's.
+/// Runs a case on every way over a store of each of two kinds, and where it has few asks, of a
+/// third kind; each way has a store of its own. The same comes on all. Gives what a drill is to
+/// print, if all asks are the office's.
 pub fn check_exchanges<K: StoreKind, L: StoreKind, M: StoreKind>(
     alloc: Global,
     case: Case,

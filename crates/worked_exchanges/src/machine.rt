@@ -13,7 +13,8 @@ pub fn check_machine<K: StoreKind>(alloc: Global, printed: &Printed) -> Result<(
     over::<K>(check_bytes(alloc, printed.line, "a machine", wanted, came))
 }
 
-// The commands that a machine is handed for each record of a batch, each answered 9000, as they are printed.
+// The commands that a machine is handed for each record of a batch, each answered 9000, as they are
+// printed.
 fn handed_out<K: StoreKind>(alloc: Global, printed: &Printed) -> Result<String, CaseFault> {
     let records = printed.records;
     let mut store = K::fresh(alloc)?;
@@ -61,7 +62,8 @@ fn ask<S: JobStore>(
     reply_to(alloc, store, input.as_slice())
 }
 
-// Opens the next record, with this blank, under this number, and answers all its commands. Gives the next number.
+// Opens the next record, with this blank, under this number, and answers all its commands. Gives
+// the next number.
 fn make_card<S: JobStore>(
     alloc: Global,
     store: &mut S,

@@ -21,8 +21,8 @@ const BEHIND: Way = Way {
     behind: b"GET / HTTP/1.1\r\n\r\n",
 };
 
-/// Runs a case on every way over a store of each of two kinds, and where it has few messages, of a third kind; each way has a store of its
-/// own. The same comes on all.
+/// Runs a case on every way over a store of each of two kinds, and where it has few messages, of a
+/// third kind; each way has a store of its own. The same comes on all.
 pub fn check_messages<K: StoreKind, L: StoreKind, M: StoreKind>(
     alloc: Global,
     case: &Case,

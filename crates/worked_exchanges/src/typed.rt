@@ -36,7 +36,8 @@ fn asked(alloc: Global, input: &[u8]) -> Result<Option<Asked>, CaseFault>
     }
 }
 
-/// Each arrival by `handle` and each account by its call gives the reply that came on the first way.
+/// Each arrival by `handle` and each account by its call gives the reply that came on the first
+/// way.
 pub fn check_handled<K: StoreKind>(
     alloc: Global,
     exchanges: &[Exchange],
@@ -185,7 +186,8 @@ pub fn check_parsed(
     Ok(())
 }
 
-// A reply read back and written again; no bytes where an arrival's can't be read, and none where no arrival was asked.
+// A reply read back and written again; no bytes where an arrival's can't be read, and none where no
+// arrival was asked.
 fn written_again(
     alloc: Global,
     exchange: &Exchange,

@@ -46,7 +46,8 @@ pub struct Exchange {
     pub wanted: Wanted,
 }
 
-/// A way to serve a case's connections: its name, the most bytes that come at once, and what stands behind each input.
+/// A way to serve a case's connections: its name, the most bytes that come at once, and what stands
+/// behind each input.
 #[derive(Clone, Copy)]
 pub struct Way {
     pub name: &'static str,

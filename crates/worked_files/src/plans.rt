@@ -32,7 +32,8 @@ pub struct Printed {
     pub text: String,
 }
 
-/// Runs a case on every way that needs no store. Gives what a machine is to be handed, if it has commands.
+/// Runs a case on every way that needs no store. Gives what a machine is to be handed, if it has
+/// commands.
 pub fn check_plan(alloc: Global, case: &Case) -> Result<Option<Printed>, CaseFault> {
     let form = CaseFault::Form { line: case.number };
     let Some((head, lines)) = case.lines.split_first() else {
@@ -71,7 +72,8 @@ struct Batch<'a> {
     raw: &'a [u8],
 }
 
-// Every way gives what was printed, which is what must come out. Gives the number of records that a machine is to make.
+// Every way gives what was printed, which is what must come out. Gives the number of records that a
+// machine is to make.
 fn check_printed(
     alloc: Global,
     batch: &Batch<'_>,
@@ -241,7 +243,8 @@ fn answers(alloc: Global, lines: &[Line]) -> Result<String, AllocError> {
     Ok(wanted)
 }
 
-// The rows one by one are as many as the check counts, or end in the same fault; and `read_batch` gives the same.
+// The rows one by one are as many as the check counts, or end in the same fault; and `read_batch`
+// gives the same.
 fn check_rows(alloc: Global, batch: &Batch<'_>, totals: &str) -> Result<(), CaseFault>
     requires { IsProduct batch.now.product }
 {
@@ -306,7 +309,8 @@ fn records(alloc: Global, product: &Product, raw: &[u8]) -> Result<Vec<Vec<Row>>
     }
 }
 
-// The list and the cursor give the commands that were printed. Gives the number of records where these are few.
+// The list and the cursor give the commands that were printed. Gives the number of records where
+// these are few.
 fn check_commands(
     alloc: Global,
     batch: &Batch<'_>,

@@ -58,7 +58,8 @@ fn phrase_of(status: u16) -> &'static str {
     }
 }
 
-/// What the answers behind an ask say must come out. Errors: no answer or one of another form, and refused memory.
+/// What the answers behind an ask say must come out. Errors: no answer or one of another form, and
+/// refused memory.
 pub fn wanted_of(alloc: Global, line: u64, answers: &[Line]) -> Result<Wanted, CaseFault> {
     let Some((first, others)) = answers.split_first() else {
         return Err(CaseFault::Form { line });

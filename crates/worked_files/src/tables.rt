@@ -1,5 +1,5 @@
 //! Tables of groupings, records and status words.
-ghost use Rattle.std.specs.Prelude.{◌≤◌, length};
+ghost use Rattle.std.specs.Prelude.{◌≤◌};
 ghost use Rattle.store_data.specs.Sequence.{IsProduct};
 
 use crate::fault::{CaseFault, check_bytes};

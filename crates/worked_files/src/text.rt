@@ -219,7 +219,8 @@ enum Spelling {
     Low(u8),
 }
 
-/// Adds the bytes that a text spells, in which `\r`, `\n`, `\t`, `\\` and `\xHH` stand for one. Answers whether it spells any.
+/// Adds the bytes that a text spells, in which `\r`, `\n`, `\t`, `\\` and `\xHH` stand for one.
+/// Answers whether it spells any.
 pub fn put_bytes(bytes: &mut Vec<u8>, text: &str) -> Result<bool, AllocError> {
     let mut spelling = Spelling::Plain;
     for byte in text.bytes() {

@@ -6,7 +6,8 @@ use crate::fault::CaseFault;
 use std::alloc::{AllocError, Global};
 use store_data::{Cursor, PlanFault, Product, RecordPlan, Row, count, list, plan};
 
-/// The lines of each record: its name, and its commands where the list and the cursor have the same.
+/// The lines of each record: its name, and its commands where the list and the cursor have the
+/// same.
 pub fn text_of(alloc: Global, product: &Product, records: &[Vec<Row>]) -> Result<String, CaseFault>
     requires product { IsProduct product.now }
     requires records { All (λ rows. AreRows rows.items) records.now }

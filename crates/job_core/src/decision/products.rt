@@ -7,7 +7,7 @@ ghost use Rattle.job_facts.specs.Sound.{Decides, IsSound, Makes};
 ghost use Rattle.job_facts.specs.Requests.{IsLotRange};
 ghost use Rattle.job_facts.specs.Rows.{batch_has, batch_row_of, batch_size_of};
 ghost use Rattle.job_facts.specs.States.{any_overlaps, batch_named, lot_named, product_named};
-ghost use Rattle.job_facts.specs.Steps.{new_batch, new_lot, same_lot, same_product, taken_in};
+ghost use Rattle.job_facts.specs.Steps.{new_batch, new_lot, same_product, taken_in};
 ghost use Rattle.job_facts.specs.Store.{CountsFaults, Reads, Stays};
 ghost use Rattle.job_facts.specs.declared.request.Request.TheVariants as request;
 ghost use Rattle.job_facts.specs.declared.store.StoreFault.TheVariants.{Memory};

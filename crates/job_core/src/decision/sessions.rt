@@ -1,6 +1,7 @@
 //! The decisions on sessions.
-ghost use Rattle.std.specs.Prelude.{◌≡◌, ◌≤◌, ◌<◌, ◌+◌, ℕ, Some, IfSome, length, option_map, unwrap_or};
-ghost use Rattle.std.specs.Prelude.{[], IfOk, OnOk};
+ghost use Rattle.std.specs.Prelude.{◌≡◌, ◌≤◌, ◌<◌, ◌+◌, ℕ, Some, IfSome, length, option_map};
+ghost use Rattle.std.specs.Prelude.{unwrap_or};
+ghost use Rattle.std.specs.Prelude.{[], IfOk};
 ghost use Rattle.store_data.specs.Cursor.{IsCursor, cursor_at, segment_at};
 ghost use Rattle.store_data.specs.Sequence.{IsPlan, Plan, commands_of, sequence};
 ghost use Rattle.job_facts.specs.Facts.{Facts, Session};

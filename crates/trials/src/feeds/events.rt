@@ -122,8 +122,8 @@ fn run(alloc: Global, machine: Name, case: &Case, level: Level, room: usize) -> 
     }
 }
 
-// A feed ends and prints as it should, and these are its event lines. Where memory is refused it stops, or a line is left out, and the
-// next feed has all.
+// A feed ends and prints as it should, and these are its event lines. Where memory is refused it
+// stops, or a line is left out, and the next feed has all.
 fn check_at(
     rt: &impl Abort,
     machine: Name,
@@ -292,7 +292,8 @@ fn a_first_line_is_escaped_and_short(rt: HostRuntime) -> Result<(), Fail> {
     check_each(&rt, rt.alloc(), &cases)
 }
 
-// Event lines of what is wrong with a list's second line, and such lists, whose first card gets good.
+// Event lines of what is wrong with a list's second line, and such lists, whose first card gets
+// good.
 static BAD_LINES: [(&[u8], &[&[u8]]); 5] = [
     (
         b"bad-line line=2 cause=empty\n",

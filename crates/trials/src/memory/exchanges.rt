@@ -55,7 +55,8 @@ fn discard(alloc: Global, client: Name, blank: u64) -> Arrival
     }
 }
 
-// In one of two runs each arrival meets no refusal. Where the memory of the outcomes is refused, none is handled.
+// In one of two runs each arrival meets no refusal. Where the memory of the outcomes is refused,
+// none is handled.
 #[test]
 fn a_list_is_handled_after_refused_memory(rt: HostRuntime) -> Result<(), Fail> {
     let alloc = rt.alloc();

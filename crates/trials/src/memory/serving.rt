@@ -41,7 +41,8 @@ fn refused_memory_is_told_as_unavailable(rt: HostRuntime) {
     assert!(rt; decided >= 2);
 }
 
-// What a connection in memory got is its reply, or a beginning of it where memory for that was refused.
+// What a connection in memory got is its reply, or a beginning of it where memory for that was
+// refused.
 fn check_replied(rt: &impl Abort, replied: &Replied) {
     let written = replied.written.as_slice();
     match replied.served.end {
@@ -84,7 +85,8 @@ fn lines_in(printed: &[u8]) -> usize {
     printed.iter().filter(|byte| **byte == b'\n').count()
 }
 
-// How many of the lines that a drill printed tell refused memory; each other line tells what it must.
+// How many of the lines that a drill printed tell refused memory; each other line tells what it
+// must.
 fn unavailable(rt: &impl Abort, printed: &[u8]) -> usize {
     let mut count = 0usize;
     let mut rest = printed;
@@ -104,7 +106,8 @@ fn unavailable(rt: &impl Abort, printed: &[u8]) -> usize {
     count
 }
 
-// Where memory is refused the lines before it are printed, or one message is told 503; a second drill prints it all.
+// Where memory is refused the lines before it are printed, or one message is told 503; a second
+// drill prints it all.
 #[test]
 fn refused_memory_is_no_half_drill(rt: HostRuntime) {
     for is_again in [false, true] {
