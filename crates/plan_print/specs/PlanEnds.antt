@@ -1,5 +1,5 @@
 -- How `persod plan` ends.
-use Rattle.std.specs.Prelude.{◌≡◌, ◌<◌, ◌≤◌, ⊤, ℕ, List, length, map, Option, Result, Ok, Err}
+use Rattle.std.specs.Prelude.{◌≡◌, ◌<◌, ◌≤◌, ⊤, ℕ, List, length, map, Option, Some, None, Result, Ok, Err}
 use Rattle.std.specs.Prelude.{Vec}
 use Rattle.std.specs.Global.{Global}
 use Rattle.std.specs.Io.KnownBytes.{Appends, Keeps}
@@ -38,6 +38,11 @@ unread read.Memory = stop.Memory
 abbrev pub stop_of : ImportFault → PlanStop
 stop_of (fault.At f) = stop.Refused f
 stop_of fault.Memory = stop.Memory
+
+-- an input that was not read whole is too large
+abbrev pub within : Option (Vec ℕ Global) → Result (Vec ℕ Global) PlanStop
+within (Some v) = Ok v
+within None = Err stop.TooLarge
 
 -- the input was read, or it is too large
 abbrev pub ReadsInput : List ℕ → Result (Vec ℕ Global) PlanStop → Type 0

@@ -5,7 +5,7 @@ ghost use Rattle.store_data.specs.RecordFaults.{record_fault};
 ghost use Rattle.store_data.specs.Sequence.{AreRows, IsProduct};
 ghost use Rattle.text_io.specs.Inputs.{Tells};
 ghost use Rattle.text_io.specs.Written.{Writes};
-ghost use Rattle.plan_print.specs.PlanEnds.{GroupsBatch, PlanEnds, ReadsInput};
+ghost use Rattle.plan_print.specs.PlanEnds.{GroupsBatch, PlanEnds, ReadsInput, within};
 ghost use Rattle.plan_print.specs.Printed.{planned_of, text_of};
 
 use crate::print::{Planned, write_record};
@@ -98,14 +98,19 @@ pub fn plan_engine<R: Read, W: Write>(
     Ok(())
 }
 
+// The bytes of an input, where it is not too large.
+fn within(read: Option<Vec<u8>>) -> Result<Vec<u8>, PlanStop>
+    ensures { result ≡ within read }
+{
+    read.ok_or(PlanStop::TooLarge)
+}
+
 // The bytes of a batch.
 fn input<R: Read>(alloc: Global, reader: &mut R) -> Result<Vec<u8>, PlanStop>
     ensures { (raw : List ℕ) × Tells (R.remaining reader.old) raw × ReadsInput raw result }
 {
-    match read_within(alloc, reader, MOST_INPUT)? {
-        Some(raw) => Ok(raw),
-        None => Err(PlanStop::TooLarge),
-    }
+    let read = read_within(alloc, reader, MOST_INPUT)?;
+    within(read)
 }
 
 // The rows of each record of a batch, or its fault.

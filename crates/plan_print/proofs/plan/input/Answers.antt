@@ -12,8 +12,8 @@ no_input : (raw : List ℕ) (r : Result (Vec ℕ Global) PlanStop) (stop : PlanS
 no_input raw r stop Failed is of = rw (is, of) tt
 no_input raw r stop Memory is of = rw (is, of) tt
 
-pub returns-in_err-raw : goal.returns-in_err-raw
-returns-in_err-raw g c =
+pub returns-in_err-read : goal.returns-in_err-read
+returns-in_err-read g c =
     let known = g.R.Read.remaining c.args.reader.now in
     let p = err_from_is_err_and c.from_residual.result c.from_residual.ensures.1 in
     (unwrap_or known [], tells_some known, no_input (unwrap_or known []) c.from_residual.result p.0 _ p.1 p.2)
