@@ -1,5 +1,5 @@
 //! A server over the tables of a file: the headline over SQLite.
-ghost use Rattle.std.specs.Prelude.{◌≡◌, IfErr, List, is_some, length};
+ghost use Rattle.std.specs.Prelude.{List, is_some, length};
 ghost use Rattle.sqlite.specs.Files.{over_files};
 ghost use Rattle.sqlite.specs.declared.FileStore.{FileStore as File};
 ghost use Rattle.schema.specs.declared.store.SqlStore.{SqlStore as Store};
@@ -11,7 +11,7 @@ ghost use Rattle.server.specs.ServerLines.{WritesLines};
 
 use event_lines::EventLog;
 use schema::SqlStore;
-use server::{Connections, NextFault, Opened, ServeStop, serve_and_tell};
+use server::{Connections, Opened, ServeStop, serve_and_tell};
 use sqlite::FileStore;
 use sqlite_disk::Disk;
 use std::alloc::Global;
@@ -32,16 +32,14 @@ pub fn serve_over_tables<D: Disk + Drop, C: Connections, W: Write, E: Write + Dr
     port: u16,
     turns: u32,
 ) -> Result<(), ServeStop>
-    ensures served { (s : Store (File D D.Disk) over_files) × (es : List Exchange)
+    ensures { (s : Store (File D D.Disk) over_files) × (es : List Exchange)
         × Moves (C.queue connections.old) (C.queue connections.new) es
         × ServesAll (stands_for over_files store) (stands_for over_files s) es
-        × WritesLines (LeavesWholeFile (connection s)) port turns (length es)
-        (W.contents writer.old) (W.contents writer.new) result
+        × WritesLines (LeavesWholeFile (connection s)) (C.refuses connections.new) port turns
+        (length es) (W.contents writer.old) (W.contents writer.new) result
         × NotesRun (LeavesWholeFile (connection s)) (stands_for over_files store)
         (stands_for over_files s) (is_some (C.queue connections.old)) opened.now es result
         events.old.level (E.contents events.old.writer) (E.contents events.new.writer) }
-    ensures cause { IfErr result (λ stop. stop ≡ ServeStop.Next
-        → C.refuses connections.new NextFault.Device) }
 {
     serve_and_tell(
         alloc,

@@ -1,5 +1,5 @@
 -- The lines that a server writes on standard output (this project's profile).
-use Rattle.std.specs.Prelude.{◌≡◌, ◌<◌, ◌≤◌, ◌⊎◌, ℕ, List, ◌++◌, codes, decimal, Option, Result, Ok, Err}
+use Rattle.std.specs.Prelude.{◌≡◌, ◌<◌, ◌⊎◌, ℕ, List, ◌++◌, codes, decimal, Option, Result, Ok, Err}
 use Rattle.std.specs.Io.KnownBytes.{Appends, Keeps}
 use Rattle.text_io.specs.Written.{AppendsBeginning, line}
 use Rattle.server.specs.declared.connections.NextFault.{NextFault}
@@ -37,25 +37,32 @@ abbrev pub WritesLastInPart : ℕ → ℕ → Option (List ℕ) → Option (List
 WritesLastInPart port turns before after = (front : List ℕ) × (back : List ℕ)
     × (front ++ back ≡ served_text turns) × Appends before after (listening_text port ++ front)
 
+-- it stopped for want of memory: nothing was written yet, or there was none for the next connection,
+-- or all connections were served
+abbrev pub StopsForMemory : (NextFault → Type 0) → ℕ → ℕ → ℕ → Option (List ℕ) → Option (List ℕ) → Type 0
+StopsForMemory refuses port turns count before after =
+    ((count ≡ 0) × Keeps before after) ⊎ (Appends before after (listening_text port) × (((count < turns) × refuses next.Memory) ⊎ (count ≡ turns)))
+
 -- what is written, where so many connections were served: the first line before all of them, and
--- the last, or a beginning of it, only once none is left and the store was closed
-abbrev pub WritesLines : Type 0 → ℕ → ℕ → ℕ → Option (List ℕ) → Option (List ℕ) → Result (Unit {0}) ServeStop → Type 0
-WritesLines closed port turns count before after (Ok u) = closed × (count ≡ turns) × Appends before after (listening_text port ++ served_text turns)
-WritesLines closed port turns count before after (Err Next) = (count < turns) × Appends before after (listening_text port)
-WritesLines closed port turns count before after (Err Write) =
+-- the last, or a beginning of it, only once none is left and the store was closed. `refuses` says
+-- why there may be no next connection
+abbrev pub WritesLines : Type 0 → (NextFault → Type 0) → ℕ → ℕ → ℕ → Option (List ℕ) → Option (List ℕ) → Result (Unit {0}) ServeStop → Type 0
+WritesLines closed refuses port turns count before after (Ok u) = closed × (count ≡ turns) × Appends before after (listening_text port ++ served_text turns)
+WritesLines closed refuses port turns count before after (Err Next) = (count < turns) × refuses next.Device × Appends before after (listening_text port)
+WritesLines closed refuses port turns count before after (Err Write) =
     ((count ≡ 0) × AppendsBeginning before after (listening_text port)) ⊎ (closed × (count ≡ turns) × WritesLastInPart port turns before after)
-WritesLines closed port turns count before after (Err Memory) = ((count ≡ 0) × Keeps before after) ⊎ ((count ≤ turns) × Appends before after (listening_text port))
-WritesLines closed port turns count before after (Err (Store fault)) = (count ≡ turns) × Appends before after (listening_text port)
+WritesLines closed refuses port turns count before after (Err Memory) = StopsForMemory refuses port turns count before after
+WritesLines closed refuses port turns count before after (Err (Store fault)) = (count ≡ turns) × Appends before after (listening_text port)
 
 -- ---- on the way
 
 -- the first line is written, and so many connections were served, before the store is closed
-abbrev pub WritesFirst : ℕ → ℕ → ℕ → Option (List ℕ) → Option (List ℕ) → Result (Unit {0}) ServeStop → Type 0
-WritesFirst port turns count before after (Ok u) = (count ≡ turns) × Appends before after (listening_text port)
-WritesFirst port turns count before after (Err Next) = (count < turns) × Appends before after (listening_text port)
-WritesFirst port turns count before after (Err Write) = (count ≡ 0) × AppendsBeginning before after (listening_text port)
-WritesFirst port turns count before after (Err Memory) = ((count ≡ 0) × Keeps before after) ⊎ ((count ≤ turns) × Appends before after (listening_text port))
-WritesFirst port turns count before after (Err (Store fault)) = ⊥
+abbrev pub WritesFirst : (NextFault → Type 0) → ℕ → ℕ → ℕ → Option (List ℕ) → Option (List ℕ) → Result (Unit {0}) ServeStop → Type 0
+WritesFirst refuses port turns count before after (Ok u) = (count ≡ turns) × Appends before after (listening_text port)
+WritesFirst refuses port turns count before after (Err Next) = (count < turns) × refuses next.Device × Appends before after (listening_text port)
+WritesFirst refuses port turns count before after (Err Write) = (count ≡ 0) × AppendsBeginning before after (listening_text port)
+WritesFirst refuses port turns count before after (Err Memory) = StopsForMemory refuses port turns count before after
+WritesFirst refuses port turns count before after (Err (Store fault)) = ⊥
 
 -- then the store is closed, and the last line is written, or a beginning of it, only where all was
 -- served and it was closed

@@ -1,5 +1,5 @@
 //! A server from its first line to its last.
-ghost use Rattle.std.specs.Prelude.{◌≡◌, IfErr, List, OnOk, Result, is_some, length};
+ghost use Rattle.std.specs.Prelude.{◌≡◌, List, OnOk, Result, is_some, length};
 ghost use Rattle.job_facts.specs.declared.store.StoreFault.{StoreFault as StoreFaultValue};
 ghost use Rattle.server.specs.Exchanges.{Exchange, Moves, ServesAll};
 ghost use Rattle.server.specs.declared.observation.Observation.{Observation as Observed};
@@ -8,7 +8,7 @@ ghost use Rattle.server.specs.ObservedRuns.{IsStopOf, NotesRun, ObservesAll};
 ghost use Rattle.server.specs.ServerLines.{WritesFirst, WritesLast, WritesLines};
 
 use crate::closing::close;
-use crate::connections::{Connections, NextFault};
+use crate::connections::Connections;
 use crate::opening::{Opened, note_opening};
 use crate::sequence::{Run, serve_connections};
 use crate::stopping::{ServeStop, write_listening, write_served};
@@ -32,16 +32,14 @@ pub fn serve_and_tell<S: ServerStore, C: Connections, W: Write, E: Write + Drop>
     port: u16,
     turns: u32,
 ) -> Result<(), ServeStop>
-    ensures served { (s : S) × (es : List Exchange)
+    ensures { (s : S) × (es : List Exchange)
         × Moves (C.queue connections.old) (C.queue connections.new) es
         × ServesAll (S.state store) (S.state s) es
-        × WritesLines (S.closed s) port turns (length es) (W.contents writer.old)
-        (W.contents writer.new) result
+        × WritesLines (S.closed s) (C.refuses connections.new) port turns (length es)
+        (W.contents writer.old) (W.contents writer.new) result
         × NotesRun (S.closed s) (S.state store) (S.state s) (is_some (C.queue connections.old))
         opened.now es result events.old.level (E.contents events.old.writer)
         (E.contents events.new.writer) }
-    ensures cause { IfErr result (λ stop. stop ≡ ServeStop.Next
-        → C.refuses connections.new NextFault.Device) }
 {
     reply_store::laws::left_in_turn::<S>();
     let mut store = store;
@@ -64,10 +62,8 @@ fn serve_listening<S: ServerStore, C: Connections, W: Write, E: Write + Drop>(
         × ObservesAll S.state store.old store.new (C.queue connections.old)
         (C.queue connections.new) events.old.level (E.contents events.old.writer)
         (E.contents events.new.writer) es os × (length es ≡ result.count) }
-    ensures writes { WritesFirst port turns result.count (W.contents writer.old)
-        (W.contents writer.new) result.outcome }
-    ensures cause { IfErr result.outcome (λ stop. stop ≡ ServeStop.Next
-        → C.refuses connections.new NextFault.Device) }
+    ensures writes { WritesFirst (C.refuses connections.new) port turns result.count
+        (W.contents writer.old) (W.contents writer.new) result.outcome }
     ensures level { events.new.level ≡ events.old.level }
 {
     match write_listening(alloc, u32::from(port), writer) {
