@@ -36,7 +36,7 @@ use Rattle.feeder.specs.World.{Answered, Packet, World, arrival_of, decides, is_
 use Rattle.step_laws.proofs.Blanks.{uncharged}
 use Rattle.feeder.proofs.Replies.{OpensFree, answer_later, answer_says, good_later, open_later, open_says, opens_free, reply_ranged}
 use Rattle.feeder.specs.ShopFloor.{IsRangedCall, IsCountedGood, sequence_of}
-use Rattle.feeder.proofs.Fine.{Cards, Machines, Fine, Fits, Fresh, HasCard, HasDone, Holds, IsDecidedFine, IsFineCard, IsFinePacket, IsKeptFine, IsTold, OpensFresh, got}
+use Rattle.feeder.proofs.Fine.{Cards, Machines, Fine, Fits, Fresh, HasCard, HasDone, Holds, IsDecidedFine, IsFineCard, IsFineEntry, IsFinePacket, IsKeptFine, IsTold, OpensFresh, got}
 use Rattle.feeder.proofs.Going.{all_at, name_same}
 
 -- ---- later facts
@@ -236,6 +236,21 @@ first_reply f marks client number (Job r) sound ranged low = reply_ranged r (ste
 first_reply f marks client number (Release upto) sound ranged low =
     cond_both {A = Reply} (nat_le number upto) (reply.Refused ReleaseTooFar) (reply.Released (mark_by marks client upto)) IsReply (λ far. tt) (λ near. omega (arith, low client, ranged.1))
 
+-- what is kept under the number of a machine's packet is of that packet's call
+pub entry_for : (names : List (List ℕ)) (w : World) → Fine names w → (p : Packet) (i : ℕ) (e : Entry) → is_name_of names p.machine ≡ true → slice_get w.packets i ≡ Some p
+    → entry_of w.contents.kept p.machine (number_at p.boot p.place) ≡ Some e
+    → (one : IsFineEntry w.contents.facts w.contents.marks w.cards w.machines w.packets e) × (one.told.packet.call ≡ p.call)
+entry_for names w fine p i e listed there some =
+    let c = w.contents in
+    let number = number_at p.boot p.place in
+    let is = entry_is c.kept p.machine number e some in
+    let kept = find-All (λ (x : Entry). bytes_eq x.client p.machine && (x.number == number)) (IsKeptFine names c.facts c.marks w.cards w.machines w.packets) c.kept e fine.kept some in
+    let one = kept (ap (is_name_of names) is.0 ∙ listed) in
+    let q = one.told.packet in
+    let most : (r : Packet) (at : ℕ) → slice_get w.packets at ≡ Some r → r.place ≤ 9999999 = λ r at is. (all_at (IsFinePacket c.facts w.cards w.machines w.boots) w.packets at r fine.packets is).sent.most in
+    let places = number_apart q.boot q.place p.boot p.place (most q one.told.at one.told.there) (most p i there) (one.told.number_is ∙ is.1) in
+    (one, fine.agree one.told.at i q p one.told.there there (one.told.client_is ∙ is.0) places.0 places.1)
+
 -- ---- an arrival
 
 module _ (names : List (List ℕ)) (w : World) (a : Arrived) (comes : Comes names w a) (fine : Fine names w) where
@@ -273,22 +288,15 @@ module _ (names : List (List ℕ)) (w : World) (a : Arrived) (comes : Comes name
         call = ap (λ (b : Arrived). b.request) p.3;
       })
 
-  -- a packet of the list is fine
-  fine_packet : (i : ℕ) (p : Packet) → slice_get w.packets i ≡ Some p → IsFinePacket c.facts w.cards w.machines w.boots p
-  fine_packet i p there = all_at (IsFinePacket c.facts w.cards w.machines w.boots) w.packets i p fine.packets there
-
   -- the entry of a machine's number is that of its packet
   again_leads : (e : Entry) → entry_of c.kept a.client a.number ≡ Some e → Leads names w c (record { arrival = a; told = told_by a.ask e })
   again_leads e some = same_leads (told_by a.ask e) (λ listed.
-      let is = entry_is c.kept a.client a.number e some in
-      let kept = find-All (λ (x : Entry). bytes_eq x.client a.client && (x.number == a.number)) (IsKeptFine names c.facts c.marks w.cards w.machines w.packets) c.kept e fine.kept some in
-      let one = kept (ap (is_name_of names) is.0 ∙ listed) in
       let p = comes.packet listed in
+      let is = entry_is c.kept a.client a.number e some in
+      let found = entry_for names w fine p.0 p.1 e (ap (λ (b : Arrived). is_name_of names b.client) p.3 ∙ listed) p.2 (subst (λ (b : Arrived). entry_of c.kept b.client b.number ≡ Some e) (sym p.3) some) in
+      let one = found.0 in
       let q = one.told.packet in
-      let machine : q.machine ≡ p.0.machine = one.told.client_is ∙ is.0 ∙ sym (ap (λ (b : Arrived). b.client) p.3) in
-      let number : number_at q.boot q.place ≡ number_at p.0.boot p.0.place = one.told.number_is ∙ is.1 ∙ sym (ap (λ (b : Arrived). b.number) p.3) in
-      let places = number_apart q.boot q.place p.0.boot p.0.place (fine_packet one.told.at q one.told.there).sent.most (fine_packet p.1 p.0 p.2).sent.most number in
-      let call : q.call ≡ p.0.call = fine.agree one.told.at p.1 q p.0 one.told.there p.2 machine places.0 places.1 in
+      let call : q.call ≡ p.0.call = found.1 in
       let ask : e.ask ≡ a.ask = one.ask ∙ ap ask_of call ∙ ap (λ (b : Arrived). b.ask) p.3 in
       let same : told_by a.ask e ≡ record { status = e.status; body = e.body } =
       cond-true (bytes_eq e.ask a.ask) (record { status = e.status; body = e.body }) reused (ap (λ x. bytes_eq x a.ask) ask ∙ name_same a.ask) in

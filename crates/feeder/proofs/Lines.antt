@@ -1,29 +1,32 @@
 -- What follows of a shop floor where all that stays true is true.
-use Rattle.std.proofs.Common.{◌≡◌, ◌≤◌, ◌<◌, ◌*◌, ◌==◌, ℕ, true, List, [], ◌∷◌, ◌++◌, length, length-append, refl, sym, ap, ◌∙◌, subst, inl, inr, append-nil, arith}
-use Rattle.std.specs.Prelude.{filter}
-use Rattle.std.proofs.lemmas.Bool.{le-leb}
+use Rattle.std.proofs.Common.{◌≡◌, ◌≤◌, ◌<◌, ◌⊎◌, ◌*◌, ◌==◌, ℕ, true, false, Option, Some, None, List, [], ◌∷◌, ◌++◌, length, length-append, refl, sym, ap, ◌∙◌, subst, inl, inr, append-nil, arith}
+use Rattle.std.specs.Prelude.{bytes_eq, filter, get_or, slice_get}
+use Rattle.std.proofs.lemmas.Bool.{cases_Bool, cond-true, le-leb}
 use Rattle.std.proofs.lemmas.List.{length-map}
 use Rattle.std.proofs.lemmas.List.Elements.{All-weaker}
-use Rattle.std.proofs.lemmas.Option.{same_Some}
+use Rattle.std.proofs.lemmas.Option.{same_Some, slice_get-get_or}
 use Rattle.store_data.specs.Sequence.{Command}
 use Rattle.job_facts.specs.declared.reply.Reply.{Reply}
 use Rattle.job_facts.specs.declared.request.Call.{Call}
 use Rattle.job_facts.specs.declared.request.Call.TheVariants.{Release}
 use Rattle.job_facts.specs.Facts.{Facts, Session}
 use Rattle.job_facts.specs.States.{commands_for, session_numbered}
-use Rattle.job_facts.specs.Contents.{Mark, mark_of}
+use Rattle.job_facts.specs.Contents.{Entry, Mark, entry_of, mark_of}
 use Rattle.step_laws.proofs.GoodCards.{good_whole, one_good, one_of_blank}
-use Rattle.arrivals.specs.Told.{Told, status_of}
-use Rattle.arrivals.specs.Meaning.{contents_after, is_released}
+use Rattle.arrivals.specs.Told.{Told, reused, status_of}
+use Rattle.arrivals.specs.Meaning.{contents_after, is_released, told_by}
 use Rattle.arrivals.proofs.MeaningLemmas.{contents_released}
+use Rattle.arrivals.proofs.Repeats.{repeat_is_told}
+use Rattle.wire.specs.Sending.{ask_of}
 use Rattle.feeder.specs.declared.world.Stop.{Stop}
 use Rattle.feeder.specs.declared.world.Stop.TheVariants.{No, Before, After}
 use Rattle.feeder.specs.Table.{number_at}
-use Rattle.feeder.specs.World.{Packet, World, arrival_of, arrives, is_name_of}
-use Rattle.feeder.specs.ShopFloor.{CardsAreCharged, GoodCardsAreWhole, IsSessionOf, OldBootsAreOver, PutOutIsCounted, RecordsHaveOneCard, sequence_of}
+use Rattle.feeder.specs.World.{Answered, Machine, Packet, World, arrival_of, arrives, is_name_of}
+use Rattle.feeder.specs.ShopFloor.{CardsAreCharged, GetsKept, GoodCardsAreWhole, InFlight, IsFirst, IsSessionOf, OldBootsAreOver, PutOutIsCounted, RecordsHaveOneCard, ReleasesAreKept, sequence_of}
 use Rattle.step_laws.proofs.Blanks.{only_of_blank}
 use Rattle.feeder.proofs.Fine.{Fine, Fits, IsDecidedFine, IsFinePacket, got}
-use Rattle.feeder.proofs.Going.{all_at}
+use Rattle.feeder.proofs.Arriving.{entry_for}
+use Rattle.feeder.proofs.Going.{all_at, name_same}
 
 module _ (names : List (List ℕ)) (w : World) (fine : Fine names w) where
   abbrev f : Facts
@@ -72,15 +75,22 @@ module _ (names : List (List ℕ)) (w : World) (fine : Fine names w) where
   fits_release : (marks : List Mark) (m : List ℕ) (call : Call) (upto : ℕ) (r : Reply) → call ≡ Release upto → Fits f marks m call r → status_of r ≡ 200 → upto ≤ mark_of marks m
   fits_release marks m call upto r is fits = let P : Call → Type 0 = λ c. Fits f marks m c r in subst P is fits
 
+  -- the mark of a machine whose release was accepted has reached it
+  released : (g : Answered) (i upto : ℕ) → slice_get w.decided i ≡ Some g → is_name_of names g.arrival.client ≡ true → g.arrival.request ≡ Release upto → g.told.status ≡ 200
+      → upto ≤ mark_of w.contents.marks g.arrival.client
+  released g i upto there listed request accepted =
+      let marks = w.contents.marks in
+      let answer = all_at (IsDecidedFine names f marks w.cards w.machines w.packets) w.decided i g fine.decided there listed in
+      let told = answer.told in
+      let ok : status_of told.reply ≡ 200 = ap (λ (t : Told). t.status) told.text ∙ accepted in
+      subst (λ m. upto ≤ mark_of marks m) told.client_is (fits_release marks told.packet.machine told.packet.call upto told.reply (answer.call ∙ request) told.fits ok)
+
   pub old_boots : OldBootsAreOver w
   old_boots machine boot is = All-weaker (IsFinePacket f w.cards w.machines w.boots) (λ (p : Packet). p.machine ≡ machine → p.boot < boot → (stop : Stop) → (arrives w (arrival_of p) stop).contents ≡ w.contents)
       (λ p one own below.
       let listed : is_name_of names is.release.arrival.client ≡ true = ap (is_name_of names) (is.client ∙ sym own) ∙ (fine.machines p.machine one.sender one.there).listed in
-      let answer = all_at (IsDecidedFine names f w.contents.marks w.cards w.machines w.packets) w.decided is.at is.release fine.decided is.there listed in
-      let told = answer.told in
-      let ok : status_of told.reply ≡ 200 = ap (λ (t : Told). t.status) told.text ∙ is.accepted in
-      let upto : boot * 10000000 ≤ mark_of w.contents.marks told.packet.machine = fits_release w.contents.marks told.packet.machine told.packet.call (boot * 10000000) told.reply (answer.call ∙ is.request) told.fits ok in
-      let here : mark_of w.contents.marks told.packet.machine ≡ mark_of w.contents.marks p.machine = ap (mark_of w.contents.marks) (told.client_is ∙ is.client ∙ sym own) in
+      let upto : boot * 10000000 ≤ mark_of w.contents.marks is.release.arrival.client = released is.release is.at (boot * 10000000) is.there listed is.request is.accepted in
+      let here : mark_of w.contents.marks is.release.arrival.client ≡ mark_of w.contents.marks p.machine = ap (mark_of w.contents.marks) (is.client ∙ sym own) in
       let most = one.sent.most in
       let under : number_at p.boot p.place ≤ mark_of w.contents.marks p.machine = omega (arith, upto, here, below, most) in
       let gone : is_released w.contents.marks (arrival_of p) ≡ true = le-leb (number_at p.boot p.place) (mark_of w.contents.marks p.machine) under in
@@ -92,3 +102,32 @@ module _ (names : List (List ℕ)) (w : World) (fine : Fine names w) where
       by_stop p same Before = refl
       by_stop p same After = same
       by_stop p same No = same
+
+  pub in_flight : InFlight w
+  in_flight i d within =
+      let p = get_or w.packets i d in
+      let a = arrival_of p in
+      let there : slice_get w.packets i ≡ Some p = slice_get-get_or w.packets i d within in
+      let one = all_at (IsFinePacket f w.cards w.machines w.boots) w.packets i p fine.packets there in
+      let listed : is_name_of names p.machine ≡ true = (fine.machines p.machine one.sender one.there).listed in
+      elim (cases_Bool (is_released w.contents.marks a)) [
+        | inl gone ↦ inl gone
+        | inr live ↦ inr (by_entry p i listed there live (entry_of w.contents.kept p.machine a.number) refl)
+      ]
+    where
+      by_entry : (p : Packet) (i : ℕ) → is_name_of names p.machine ≡ true → slice_get w.packets i ≡ Some p → is_released w.contents.marks (arrival_of p) ≡ false
+          → (o : Option Entry) → entry_of w.contents.kept p.machine (number_at p.boot p.place) ≡ o → IsFirst w.contents (arrival_of p) ⊎ GetsKept w.contents (arrival_of p)
+      by_entry p i listed there live None none = inl (record { live = live; none = none })
+      by_entry p i listed there live (Some e) some =
+          let found = entry_for names w fine p i e listed there some in
+          let a = arrival_of p in
+          let ask : e.ask ≡ a.ask = found.0.ask ∙ ap ask_of found.1 in
+          let kept : Told = record { status = e.status; body = e.body } in
+          let told : told_by a.ask e ≡ kept = cond-true (bytes_eq e.ask a.ask) kept reused (ap (λ x. bytes_eq x a.ask) ask ∙ name_same a.ask) in
+          inr (record { entry = e; kept = some; ask = ask; told = repeat_is_told w.contents a kept (λ live. (e, some, told)) live })
+
+  pub releases_kept : ReleasesAreKept w
+  releases_kept = All-weaker (λ (g : Answered). (i : ℕ) × (slice_get w.decided i ≡ Some g))
+      (λ (g : Answered). (x : Machine) (upto : ℕ) → w.machines g.arrival.client ≡ Some x → g.arrival.request ≡ Release upto → g.told.status ≡ 200 → upto ≤ mark_of w.contents.marks g.arrival.client)
+      (λ g is x upto there request accepted. released g is.0 upto is.1 (fine.machines g.arrival.client x there).listed request accepted)
+      w.replies fine.given

@@ -1,5 +1,5 @@
 -- What holds on a shop floor, whatever happens.
-use Rattle.std.specs.Prelude.{◌≡◌, ◌≢◌, ◌≤◌, ◌<◌, ◌^◌, ◌==◌, ℕ, true, false, List, [], ◌∷◌, ◌++◌, map, filter, take, All, slice_get, Some, ⊤}
+use Rattle.std.specs.Prelude.{◌≡◌, ◌≢◌, ◌≤◌, ◌<◌, ◌^◌, ◌⊎◌, ◌==◌, ℕ, true, false, List, [], ◌∷◌, ◌++◌, map, filter, take, All, slice_get, Some, None, ⊤}
 use Rattle.store_data.specs.Sequence.{Command}
 use Rattle.job_facts.specs.declared.facts.SessionState.TheVariants as session
 use Rattle.job_facts.specs.declared.request.Call.{Call}
@@ -8,14 +8,14 @@ use Rattle.job_facts.specs.Facts.{Facts, Session}
 use Rattle.job_facts.specs.Requests.{IsCall}
 use Rattle.job_facts.specs.Sound.{IsName}
 use Rattle.job_facts.specs.States.{commands_for, session_numbered, session_state}
-use Rattle.job_facts.specs.Contents.{no_contents}
+use Rattle.job_facts.specs.Contents.{Contents, Entry, entry_of, mark_of, no_contents}
 use Rattle.step_laws.specs.Ranges.{IsRanged}
 use Rattle.arrivals.specs.Meaning.{Arrived, contents_after, is_released, told_on}
 use Rattle.feeder.specs.declared.world.Event.{Event}
 use Rattle.feeder.specs.declared.world.Event.TheVariants as event
 use Rattle.feeder.specs.declared.world.Stop.{Stop}
 use Rattle.feeder.specs.Table.{number_at, release_of}
-use Rattle.feeder.specs.World.{Answered, Packet, World, arrival_of, arrives}
+use Rattle.feeder.specs.World.{Answered, Machine, Packet, World, arrival_of, arrives}
 
 -- ---- the facts of cards
 
@@ -106,6 +106,29 @@ AcknowledgedIsDecided w = All (λ (g : Answered). (i : ℕ) × (slice_get w.deci
 -- is released
 abbrev pub RepeatsAreTold : World → Type 0
 RepeatsAreTold w = All (λ (g : Answered). is_released w.contents.marks g.arrival ≡ false → told_on w.contents g.arrival ≡ g.told) w.decided
+
+-- nothing is kept under the arrival's number, and the number isn't released
+pub record IsFirst (c : Contents) (a : Arrived) : Type 0 where
+  pub live : is_released c.marks a ≡ false
+  pub none : entry_of c.kept a.client a.number ≡ None
+
+-- the arrival is told the reply that is kept under its number, which is one to the same ask
+pub record GetsKept (c : Contents) (a : Arrived) : Type 0 where
+  pub entry : Entry
+  pub kept : entry_of c.kept a.client a.number ≡ Some entry
+  pub ask : entry.ask ≡ a.ask
+  pub told : told_on c a ≡ record { status = entry.status; body = entry.body }
+
+-- a packet that arrives, for the first time or again, has a released number, or is a first arrival,
+-- or gets the kept reply
+abbrev pub InFlight : World → Type 0
+InFlight w = All (λ (p : Packet).
+    let a = arrival_of p in (is_released w.contents.marks a ≡ true) ⊎ IsFirst w.contents a ⊎ GetsKept w.contents a) w.packets
+
+-- an acknowledged release of a machine is kept: the machine's mark has reached it
+abbrev pub ReleasesAreKept : World → Type 0
+ReleasesAreKept w = All (λ (g : Answered). (x : Machine) (upto : ℕ) → w.machines g.arrival.client ≡ Some x
+    → g.arrival.request ≡ Release upto → g.told.status ≡ 200 → upto ≤ mark_of w.contents.marks g.arrival.client) w.replies
 
 -- ---- what callers owe
 

@@ -4,9 +4,9 @@ ghost use Rattle.job_facts.specs.declared.reply.Reply.{Reply};
 ghost use Rattle.arrivals.specs.Told.{Told};
 ghost use Rattle.feeder.specs.Reading.{IsReadable, ReadsBack};
 ghost use Rattle.feeder.specs.ShopFloor.{AcknowledgedIsDecided, CardsAreCharged, DecidedIsMeant};
-ghost use Rattle.feeder.specs.ShopFloor.{DecidedIsTold, GoodCardsAreWhole, IsEvent};
+ghost use Rattle.feeder.specs.ShopFloor.{DecidedIsTold, GoodCardsAreWhole, InFlight, IsEvent};
 ghost use Rattle.feeder.specs.ShopFloor.{OldBootsAreOver, PutOutIsCounted, RecordsHaveOneCard};
-ghost use Rattle.feeder.specs.ShopFloor.{RepeatsAreTold};
+ghost use Rattle.feeder.specs.ShopFloor.{ReleasesAreKept, RepeatsAreTold};
 ghost use Rattle.feeder.specs.World.{world_after};
 
 use job_facts::Arrival;
@@ -97,6 +97,13 @@ pub fn every_world(events: &[Event])
         → AcknowledgedIsDecided (world_after reads events.now) }
     ensures repeats { (reads : Told → Option Reply)
         → RepeatsAreTold (world_after reads events.now) }
+    // A packet that arrives, for the first time or again, has a released number, or is a first
+    // arrival, or gets the kept reply.
+    ensures in_flight { (reads : Told → Option Reply) → ReadsBack reads
+        → InFlight (world_after reads events.now) }
+    // An acknowledged release of a machine is kept.
+    ensures releases { (reads : Told → Option Reply) → ReadsBack reads
+        → ReleasesAreKept (world_after reads events.now) }
     // A reading of replies as the clauses want it there is.
     ensures reading { IsReadable }
 {}

@@ -1,5 +1,5 @@
 use Rattle.feeder.specs.World.{at_first, machines_of, world_after}
-use Rattle.feeder.proofs.Lines.{charged, old_boots, one_card, put_out, whole}
+use Rattle.feeder.proofs.Lines.{charged, in_flight, old_boots, one_card, put_out, releases_kept, whole}
 use Rattle.feeder.proofs.Readings.{readable}
 use Rattle.feeder.proofs.Recorded.{repeats_are_told, run_recorded, start_recorded}
 use Rattle.feeder.proofs.Whole.{world_fine}
@@ -31,6 +31,12 @@ returns-clause-acknowledged c = let es = c.args.events.now in λ reads. (run_rec
 
 pub returns-clause-repeats : goal.returns-clause-repeats
 returns-clause-repeats c = let es = c.args.events.now in λ reads. repeats_are_told (world_after reads es) (run_recorded reads (machines_of es) es at_first start_recorded)
+
+pub returns-clause-in_flight : goal.returns-clause-in_flight
+returns-clause-in_flight c = let es = c.args.events.now in λ reads back. in_flight (machines_of es) (world_after reads es) (world_fine reads es back c.requires)
+
+pub returns-clause-releases : goal.returns-clause-releases
+returns-clause-releases c = let es = c.args.events.now in λ reads back. releases_kept (machines_of es) (world_after reads es) (world_fine reads es back c.requires)
 
 pub returns-clause-reading : goal.returns-clause-reading
 returns-clause-reading c = readable
