@@ -8,7 +8,7 @@ ghost use Rattle.sql_tables.specs.Versions.{schema_of};
 ghost use Rattle.table_reads.specs.Holding.{IsOfVersion};
 ghost use Rattle.adoption.specs.Telling.{Judges, Tells};
 
-use audit_rows::is_sound;
+use audit_rows::sort_and_audit;
 use sql_tables::{Version, version_in};
 use sqlite::{Alter, Connection, Error};
 use std::alloc::Global;
@@ -51,7 +51,7 @@ fn own_version<S: Alter>(alloc: Global, conn: &mut Connection<S>) -> Result<Opti
 fn judged(alloc: Global, version: Version, mut tables: Tables) -> Result<Found, Error>
     ensures { IfOk result (Judges version tables) }
 {
-    if is_sound(alloc, &mut tables)? {
+    if sort_and_audit(alloc, &mut tables)? {
         Ok(Found::Sound { version, tables })
     } else {
         Ok(Found::Unsound)

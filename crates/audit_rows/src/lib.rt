@@ -4,6 +4,7 @@
 
 mod audit;
 mod blanks;
+mod copying;
 mod ids;
 mod machines;
 mod named;
@@ -14,4 +15,4 @@ mod rule;
 mod sound;
 
 pub use rule::Rule;
-pub use sound::{first_failing, is_sound};
+pub use sound::{first_failing, is_sound, sort_and_audit};

@@ -7,6 +7,7 @@ ghost use Rattle.audit_order.specs.Order.{AreSorted};
 ghost use Rattle.audit_rows.specs.Rules.{FailsFirst, rules};
 
 use crate::audit::failing_rule;
+use crate::copying::copy_of;
 use crate::rule::Rule;
 use audit_order::sort_tables;
 use std::alloc::{AllocError, Global};
@@ -30,11 +31,20 @@ pub fn first_failing(alloc: Global, tables: &mut Tables) -> Result<Option<Rule>,
 
 /// Whether the rows, in any order, are those of sound contents. They all stay, and are sorted. Time
 /// is the rows' bytes, and their number times its logarithm.
-pub fn is_sound(alloc: Global, tables: &mut Tables) -> Result<bool, AllocError>
+pub fn sort_and_audit(alloc: Global, tables: &mut Tables) -> Result<bool, AllocError>
     ensures exact { IfOk result (λ sound. IsTrue sound ↔
         ((c : Contents) × AreSound c × HaveSameRows tables.old (image c))) }
     ensures same { HaveSameRows tables.new tables.old }
 {
     let failing = first_failing(alloc, tables)?;
     Ok(failing.is_none())
+}
+
+/// The same of rows that stay as they are: a copy is sorted.
+pub fn is_sound(alloc: Global, tables: &Tables) -> Result<bool, AllocError>
+    ensures { IfOk result (λ sound. IsTrue sound ↔
+        ((c : Contents) × AreSound c × HaveSameRows tables.now (image c))) }
+{
+    let mut copy = copy_of(alloc, tables)?;
+    sort_and_audit(alloc, &mut copy)
 }

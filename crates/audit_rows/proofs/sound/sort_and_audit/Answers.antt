@@ -1,6 +1,6 @@
 use Rattle.std.proofs.Common.{◌≡◌, Bool, true, false, not, refl, sym, ◌∙◌}
 use Rattle.std.proofs.lemmas.Bool.{false≢true}
-use Rattle.audit_rows.proofs.sound.is_sound.Goals as goal
+use Rattle.audit_rows.proofs.sound.sort_and_audit.Goals as goal
 
 -- a test that is the other's opposite
 opposite : {B : Type 0} (some none : Bool) → some ≡ not none → (some ≡ false → B) × (B → some ≡ false) → (none ≡ true → B) × (B → none ≡ true)
