@@ -89,6 +89,7 @@ module _ (sql : List ℕ) (params : Row) (old new : State) (schema : Schema) (ha
         let left = without_all (db table.tree) (ids_of it.found) in
         record {
           kept = it.kept;
+          sound = w.sound;
           found = it.found;
           all = it.all;
           rows = it.rows ∙ ap (put_all left) (given left (map (λ s. cast_row table (drop 1 s)) it.found));
@@ -102,4 +103,4 @@ module _ (sql : List ℕ) (params : Row) (old new : State) (schema : Schema) (ha
         let w = runs_as sql params old new schema has (Delete at program) is plain count h in
         let does = subst (λ s. DoesAt s (Delete at program) (Ok (w.tally, new.now))) has w.changed in
         let it = edits_found 0 (λ _. []) (λ found. taken_by db (edit_by 0 (λ _. []) found)) none w.tally (rw listed at does) in
-        record { kept = it.kept; found = it.found; all = it.all; rows = it.rows; others = it.others }
+        record { kept = it.kept; sound = w.sound; found = it.found; all = it.all; rows = it.rows; others = it.others }

@@ -7,6 +7,7 @@ use Rattle.std.specs.List.Sorted.{IsPermutation}
 use Rattle.std.proofs.lemmas.List.Sorted.{IsPermutation-cons, IsPermutation-trans}
 use Rattle.sqlite.specs.declared.types.Value.TheVariants.{Int, Null}
 use Rattle.sqlite.specs.Edit.{with_rowid}
+use Rattle.sqlite.specs.Effect.{IsDatabase}
 use Rattle.sqlite.specs.Order.{Row}
 use Rattle.sqlite.specs.Rowids.TheVariants.{Chosen}
 use Rattle.sqlite.specs.State.{State}
@@ -61,11 +62,12 @@ module _ (before after : List Filled) (table : Table) (left : list_all (λ (x : 
     (right : list_all (λ (x : Filled). not (x.table.tree == table.tree)) after ≡ true) (t u : Tables) (old new : State) where
   -- another filling of the table is an image where the statement spared the others
   pub refilled : (x y : Filled) → x.table ≡ table → filled t ≡ before ++ x ∷ after → filled u ≡ before ++ y ∷ after
-      → map (λ (z : Filled). z.table) (before ++ x ∷ after) ≡ our_schema.tables → new.now.schema ≡ our_schema
+      → map (λ (z : Filled). z.table) (before ++ x ∷ after) ≡ our_schema.tables → new.now.schema ≡ our_schema → IsDatabase new.now
       → SparesOthers our_schema table old.now.trees new.now.trees → (IsFilled x old.now.trees → IsFilled y new.now.trees) → IsImage t old.now → IsImage u new.now
-  refilled x y is_table is_t is_u are_ours ours spared moves image =
+  refilled x y is_table is_t is_u are_ours ours sound spared moves image =
       record {
         ours = ours;
+        sound = sound;
         each = subst (AllByRecursion (λ z. IsFilled z new.now.trees)) (sym is_u)
             (filled_at table.tree old.now.trees new.now.trees before after x y (apart_by table.tree before left) (apart_by table.tree after right)
             (subst (AllByRecursion (Stays table.tree old.now.trees new.now.trees)) (sym are_ours) spared)

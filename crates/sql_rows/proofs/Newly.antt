@@ -33,6 +33,7 @@ newly_filled db new =
     let t = db.trees in
     record {
       ours = new.schema_is;
+      sound = new.sound;
       each = (
         one_version t new.version,
         (

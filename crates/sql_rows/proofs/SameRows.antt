@@ -23,6 +23,7 @@ same_rows t u db same image =
     let e = image.each in
     record {
       ours = image.ours;
+      sound = image.sound;
       each = (
         e.0,
         (

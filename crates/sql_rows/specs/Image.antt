@@ -1,7 +1,7 @@
 -- When a database holds the rows of our tables, and nothing beside them.
 use Rattle.std.specs.Prelude.{◌≡◌, Bool, true, false, List, [], ◌∷◌, map, drop, IsPermutation}
 use Rattle.std.specs.List.{AllByRecursion}
-use Rattle.sqlite.specs.Effect.{Database}
+use Rattle.sqlite.specs.Effect.{Database, IsDatabase}
 use Rattle.sqlite.specs.Order.{Row}
 use Rattle.sqlite.specs.Table.{Table}
 use Rattle.sqlite.specs.Tree.{Trees}
@@ -50,9 +50,10 @@ pub record IsFilled (x : Filled) (trees : Trees) : Type 0 where
   pub rows : IsPermutation x.rows (told x.by_rowid (trees x.table.tree))
   pub apart : AreApart (trees x.table.tree)
 
--- the database has just our tables, with just these rows
+-- the database has just our tables, as its own catalog lists them, with just these rows
 pub record IsImage (t : Tables) (db : Database) : Type 0 where
   pub ours : db.schema ≡ our_schema
+  pub sound : IsDatabase db
   pub each : AllByRecursion (λ x. IsFilled x db.trees) (filled t)
 
 -- whatever rows the one has, the other has these of them

@@ -1,7 +1,7 @@
 -- How the tables come to be: one after the other, in the order of their texts.
 use Rattle.std.specs.Prelude.{◌≡◌, ℕ, List, [], ◌∷◌, drop, pos}
 use Rattle.std.specs.List.{AllByRecursion}
-use Rattle.sqlite.specs.Effect.{Database}
+use Rattle.sqlite.specs.Effect.{Database, IsDatabase}
 use Rattle.sqlite.specs.Order.{Row}
 use Rattle.sqlite.specs.Schema.{Schema}
 use Rattle.sqlite.specs.declared.types.Value.TheVariants.{Int, Null}
@@ -31,6 +31,7 @@ version_row = Int (pos 1) ∷ Null ∷ Int (pos 3) ∷ []
 -- our tables, with the version alone in them
 pub record IsNewlyMade (db : Database) : Type 0 where
   pub schema_is : db.schema ≡ our_schema
+  pub sound : IsDatabase db
   pub version : db.trees 0 ≡ version_row ∷ []
   pub empty : AllByRecursion (λ t. db.trees t.tree ≡ []) (drop 1 our_schema.tables)
 
