@@ -2,6 +2,7 @@ pub mod Texts
 pub mod NameTexts
 pub mod CardTexts
 pub mod Decoding
+pub mod Readable
 pub mod CardDecoding
 pub mod Telling
 pub mod Reads

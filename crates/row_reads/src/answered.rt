@@ -3,6 +3,7 @@ ghost use Rattle.std.specs.Prelude.{◌≡◌, false, map, All, IfOk, IfSome};
 ghost use Rattle.sqlite.specs.Held.{state};
 ghost use Rattle.sqlite.specs.Values.{bound};
 ghost use Rattle.row_reads.specs.Decoding.{IsFirst};
+ghost use Rattle.row_reads.specs.Readable.{FailsForMemory};
 ghost use Rattle.row_reads.specs.Reads.{Answers, Looks};
 
 use sql_base::rows_of;
@@ -14,6 +15,7 @@ use std::alloc::Global;
 pub(crate) trait Answered: Sized + Drop {
     ghost use Rattle.std.specs.Prelude.{◌≡◌, IfOk};
     ghost use Rattle.sqlite.specs.Order.{Row as RowValue};
+    ghost use Rattle.row_reads.specs.Readable.{FailsForMemory};
 
     /// What a row stands for.
     ghost value: { RowValue → Self };
@@ -21,16 +23,21 @@ pub(crate) trait Answered: Sized + Drop {
     /// What holds of each value that is read.
     ghost fits: { Self → Type 0 };
 
+    /// Which rows stand for one.
+    ghost readable: { RowValue → Type 0 };
+
     /// The value that a row stands for, where it is one.
     fn read(row: &Row) -> Result<Self, Error>
         ensures value { IfOk result (λ it. it ≡ value row.now) }
-        ensures ranged { IfOk result fits };
+        ensures ranged { IfOk result fits }
+        ensures total { readable row.now → FailsForMemory result };
 }
 
 /// What the first of these rows is read as, if there is one.
 pub(crate) fn first<T: Answered>(rows: &[Row]) -> Result<Option<T>, Error>
     ensures value { IfOk result (λ found. IsFirst (map T.value rows.now) found) }
     ensures ranged { IfOk result (λ found. IfSome found T.fits) }
+    ensures total { All T.readable rows.now → FailsForMemory result }
 {
     match rows.first() {
         None => Ok(None),
@@ -42,6 +49,7 @@ pub(crate) fn first<T: Answered>(rows: &[Row]) -> Result<Option<T>, Error>
 fn all<T: Answered>(alloc: Global, rows: &[Row]) -> Result<Vec<T>, Error>
     ensures value { IfOk result (λ all. all.items ≡ map T.value rows.now) }
     ensures ranged { IfOk result (λ all. All T.fits all.items) }
+    ensures total { All T.readable rows.now → FailsForMemory result }
 {
     let mut all = Vec::new(alloc);
     for answered in rows {

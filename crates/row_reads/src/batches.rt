@@ -1,17 +1,19 @@
-//! Batches are read.
+//! The statements that read the batch table: by name, by id, and by product.
 ghost use Rattle.std.specs.Prelude.{◌≡◌, ◌<◌, ◌^◌, false, filter, find, map, option_map};
 ghost use Rattle.std.specs.Prelude.{IfOk, IfSome, IsPermutation};
 ghost use Rattle.std.specs.List.{list_any};
 ghost use Rattle.sqlite.specs.Held.{state};
 ghost use Rattle.row_reads.specs.Decoding.{head_in, told_in, totals_in};
 ghost use Rattle.row_reads.specs.Extremes.{IsGreatest};
+ghost use Rattle.row_reads.specs.Readable.{AreTotalsAnswer, FailsForMemory, IsHeadAnswer};
+ghost use Rattle.row_reads.specs.Readable.{IsToldAnswer};
 ghost use Rattle.row_reads.specs.Reads.{Looks, TellsRows};
 ghost use Rattle.row_reads.specs.Telling.{AreCounts, IsHead, IsTold, head_of, told_of};
 ghost use Rattle.table_rows.specs.Keys.{is_batch, is_batch_for, is_batch_named, is_batch_with};
 ghost use Rattle.table_rows.specs.Tables.{PassesOnce, StoredBatch};
 
 use crate::answered::{Answered, all_of, one_of};
-use crate::values::{first_number, has_rows, name_at, number_at};
+use crate::values::{first_number, flag_at, has_rows, long_at, name_at, number_at};
 use job_facts::BatchTotals;
 use sql_base::{int, rows_of};
 use sqlite::types::ValueRef;
@@ -42,12 +44,13 @@ pub struct BatchHead {
 fn totals_in(row: &Row) -> Result<BatchTotals, Error>
     ensures value { IfOk result (λ totals. totals ≡ totals_in row.now) }
     ensures ranged { IfOk result AreCounts }
+    ensures total { AreTotalsAnswer row.now → FailsForMemory result }
 {
-    let waiting: u32 = row.get(3)?;
-    let running: u32 = row.get(4)?;
-    let failed: u32 = row.get(5)?;
-    let withdrawn: u32 = row.get(6)?;
-    let good: u32 = row.get(7)?;
+    let waiting = long_at(row, 3)?;
+    let running = long_at(row, 4)?;
+    let failed = long_at(row, 5)?;
+    let withdrawn = long_at(row, 6)?;
+    let good = long_at(row, 7)?;
     let sessions = number_at(row, 8)?;
     let spoiled = number_at(row, 9)?;
     Ok(BatchTotals {
@@ -71,11 +74,13 @@ impl Answered for BatchHead {
 
     ghost fits = { IsHead };
 
+    ghost readable = { IsHeadAnswer };
+
     fn read(row: &Row) -> Result<BatchHead, Error> {
         Ok(BatchHead {
             id: number_at(row, 0)?,
             product: name_at(row, 1)?,
-            is_closed: row.get(2)?,
+            is_closed: flag_at(row, 2)?,
             totals: totals_in(row)?,
         })
     }
@@ -86,11 +91,13 @@ impl Answered for BatchTold {
 
     ghost fits = { IsTold };
 
+    ghost readable = { IsToldAnswer };
+
     fn read(row: &Row) -> Result<BatchTold, Error> {
         Ok(BatchTold {
             id: number_at(row, 0)?,
             product: name_at(row, 1)?,
-            is_closed: row.get(2)?,
+            is_closed: flag_at(row, 2)?,
         })
     }
 }

@@ -1,4 +1,4 @@
-//! Charged blanks are read.
+//! The statement that looks a charged blank up.
 ghost use Rattle.std.specs.Prelude.{◌≡◌, ◌<◌, ◌^◌, false};
 ghost use Rattle.std.specs.List.{list_any};
 ghost use Rattle.sqlite.specs.Held.{state};

@@ -1,5 +1,5 @@
-//! Rows of batches are read.
-ghost use Rattle.std.specs.Prelude.{◌≡◌, ◌≤◌, ◌<◌, ◌^◌, false, filter, length, All, IfOk};
+//! The statements that read the groupings of a record, with their bytes and without.
+ghost use Rattle.std.specs.Prelude.{◌≡◌, ◌≤◌, ◌<◌, ◌^◌, false, filter, length, All, IfOk, IsOk};
 ghost use Rattle.std.specs.Prelude.{map};
 ghost use Rattle.sqlite.specs.Held.{state};
 ghost use Rattle.sqlite.specs.Order.{column};
@@ -8,12 +8,12 @@ ghost use Rattle.row_reads.specs.CardDecoding.{coded_line, grouping_at, grouping
 ghost use Rattle.row_reads.specs.CardDecoding.{is_of_segment, line_of};
 ghost use Rattle.row_reads.specs.Decoding.{blob_in};
 ghost use Rattle.row_reads.specs.Extremes.{AreSorted};
+ghost use Rattle.row_reads.specs.Readable.{IsAidBlob, IsCodedAnswer, IsGroupingAnswer};
 ghost use Rattle.row_reads.specs.Reads.{Looks, TellsRows};
-ghost use Rattle.sql_rows.specs.Decoding.{number_in};
 ghost use Rattle.table_rows.specs.Keys.{is_grouping_at, is_grouping_of};
 
 use crate::answered::{Answered, all_of};
-use crate::values::{bytes_at, count, enc_of, number_at};
+use crate::values::{bytes_at, count, enc_of, flag_at, number_at, within_at};
 use sql_base::{int, rows_of};
 use sqlite::types::ValueRef;
 use sqlite::{Alter, Connection, Error, Row};
@@ -43,7 +43,8 @@ pub struct CodedAt {
 
 // The identifier of these bytes, where they are 5 to 16.
 fn aid_of(bytes: &[u8]) -> Result<Aid, Error>
-    ensures { IfOk result (λ aid. aid ≡ bytes.now) }
+    ensures value { IfOk result (λ aid. aid ≡ bytes.now) }
+    ensures total { 5 ≤ length bytes.now → length bytes.now ≤ 16 → IsOk result }
 {
     if bytes.len() < 5 || bytes.len() > 16 {
         return Err(Error::InvalidQuery);
@@ -53,7 +54,8 @@ fn aid_of(bytes: &[u8]) -> Result<Aid, Error>
 
 // The identifier in this column.
 fn aid_at(row: &Row, at: usize) -> Result<Aid, Error>
-    ensures { IfOk result (λ aid. aid ≡ blob_in (column row.now at)) }
+    ensures value { IfOk result (λ aid. aid ≡ blob_in (column row.now at)) }
+    ensures total { IsAidBlob (column row.now at) → IsOk result }
 {
     match row.get_ref(at)? {
         ValueRef::Blob(bytes) => aid_of(bytes),
@@ -61,31 +63,20 @@ fn aid_at(row: &Row, at: usize) -> Result<Aid, Error>
     }
 }
 
-// The rank in this column.
-fn rank_at(row: &Row, at: usize) -> Result<u16, Error>
-    ensures value { IfOk result (λ rank. rank ≡ number_in (column row.now at)) }
-    ensures least { IfOk result (λ rank. 1 ≤ rank) }
-    ensures most { IfOk result (λ rank. rank ≤ 999) }
-{
-    let rank: u32 = row.get(at)?;
-    if rank < 1 || rank > 999 {
-        return Err(Error::InvalidQuery);
-    }
-    Ok(rank as u16)
-}
-
 impl Answered for GroupingAt {
     ghost value = { grouping_in };
 
     ghost fits = { IsGroupingAt };
 
+    ghost readable = { IsGroupingAnswer };
+
     fn read(row: &Row) -> Result<GroupingAt, Error> {
         Ok(GroupingAt {
             line: number_at(row, 0)?,
             aid: aid_at(row, 1)?,
-            rank: rank_at(row, 2)?,
+            rank: within_at(row, 2, 1, 999)? as u16,
             enc: enc_of(number_at(row, 3)?)?,
-            tol: row.get(4)?,
+            tol: flag_at(row, 4)?,
         })
     }
 }
@@ -94,6 +85,8 @@ impl Answered for CodedAt {
     ghost value = { coded_in };
 
     ghost fits = { IsCodedAt };
+
+    ghost readable = { IsCodedAnswer };
 
     fn read(row: &Row) -> Result<CodedAt, Error> {
         let line = number_at(row, 0)?;

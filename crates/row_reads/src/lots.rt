@@ -1,16 +1,17 @@
-//! Lots are read.
+//! The statements that read the lot table: by name, by product, and by a blank's serial.
 ghost use Rattle.std.specs.Prelude.{◌≡◌, ◌<◌, ◌^◌, false, filter, find, length, map};
 ghost use Rattle.std.specs.Prelude.{option_map, IfOk, IfSome, IsPermutation};
 ghost use Rattle.sqlite.specs.Held.{state};
 ghost use Rattle.job_facts.specs.States.{any_overlaps, is_in, lot_of};
 ghost use Rattle.row_reads.specs.Decoding.{IsAny, lot_in, lot_row_in};
+ghost use Rattle.row_reads.specs.Readable.{IsLotAnswer, IsLotRowAnswer};
 ghost use Rattle.row_reads.specs.Reads.{Looks, TellsRows};
 ghost use Rattle.row_reads.specs.Telling.{IsLotRow, lot_row_of};
 ghost use Rattle.table_rows.specs.Keys.{is_lot_for, is_lot_named};
 ghost use Rattle.table_rows.specs.Tables.{PassesOnce, StoredLot};
 
 use crate::answered::{Answered, all_of, one_of};
-use crate::values::{count, name_at, number_at};
+use crate::values::{count, long_at, name_at, number_at};
 use job_facts::{Lot, any_overlaps, lot_among};
 use sql_base::rows_of;
 use sqlite::types::ValueRef;
@@ -31,12 +32,14 @@ impl Answered for Lot {
 
     ghost fits = { IsAny };
 
+    ghost readable = { IsLotAnswer };
+
     fn read(row: &Row) -> Result<Lot, Error> {
         Ok(Lot {
             name: name_at(row, 0)?,
             product: name_at(row, 1)?,
-            first: row.get(2)?,
-            count: row.get(3)?,
+            first: number_at(row, 2)?,
+            count: long_at(row, 3)?,
         })
     }
 }
@@ -45,6 +48,8 @@ impl Answered for LotRow {
     ghost value = { lot_row_in };
 
     ghost fits = { IsLotRow };
+
+    ghost readable = { IsLotRowAnswer };
 
     fn read(row: &Row) -> Result<LotRow, Error> {
         Ok(LotRow {

@@ -1,4 +1,4 @@
-//! Marks are read.
+//! The statement that reads a client's release mark.
 ghost use Rattle.std.specs.Prelude.{◌≡◌, ◌<◌, ◌^◌, false, map, IfOk};
 ghost use Rattle.sqlite.specs.Held.{state};
 ghost use Rattle.job_facts.specs.Contents.{Mark, mark_of};

@@ -1,4 +1,4 @@
-//! Products are read.
+//! The statements that read the product table.
 ghost use Rattle.std.specs.Prelude.{◌≡◌, false, length, map, IfOk, IfSome};
 ghost use Rattle.sqlite.specs.Held.{state};
 ghost use Rattle.store_data.specs.Sequence.{IsProduct};
@@ -6,10 +6,11 @@ ghost use Rattle.store_data.specs.declared.row.Product.{Product as ProductValue}
 ghost use Rattle.job_facts.specs.Sound.{AreNamedOnce};
 ghost use Rattle.job_facts.specs.States.{product_named};
 ghost use Rattle.row_reads.specs.Decoding.{product_in};
+ghost use Rattle.row_reads.specs.Readable.{IsProductAnswer};
 ghost use Rattle.row_reads.specs.Reads.{Looks, TellsRows};
 
 use crate::answered::{Answered, one_of};
-use crate::values::{count, name_at};
+use crate::values::{count, flag_at, name_at, within_at};
 use sql_base::rows_of;
 use sqlite::types::ValueRef;
 use sqlite::{Alter, Connection, Error, Row};
@@ -20,17 +21,14 @@ impl Answered for Product {
 
     ghost fits = { IsProduct };
 
+    ghost readable = { IsProductAnswer };
+
     fn read(row: &Row) -> Result<Product, Error> {
-        let max: u32 = row.get(1)?;
-        let low: u32 = row.get(2)?;
-        if max < 16 || max > 255 || low > 31 {
-            return Err(Error::InvalidQuery);
-        }
         Ok(Product {
             code: name_at(row, 0)?,
-            max: max as u8,
-            low: low as u8,
-            check: row.get(3)?,
+            max: within_at(row, 1, 16, 255)? as u8,
+            low: within_at(row, 2, 0, 31)? as u8,
+            check: flag_at(row, 3)?,
         })
     }
 }

@@ -1,9 +1,10 @@
-//! Records are read.
+//! The statements that read the record table: by name, by place, and the first that waits.
 ghost use Rattle.std.specs.Prelude.{◌≡◌, ◌<◌, ◌^◌, false, filter, find, option_map, All, IfOk};
 ghost use Rattle.std.specs.Prelude.{IfSome, map};
 ghost use Rattle.sqlite.specs.Held.{state};
 ghost use Rattle.row_reads.specs.CardDecoding.{IsRecordAt, place_of, record_at, record_in};
 ghost use Rattle.row_reads.specs.Extremes.{AreSorted, IsLeastBy};
+ghost use Rattle.row_reads.specs.Readable.{IsRecordAnswer};
 ghost use Rattle.row_reads.specs.Reads.{Looks, TellsRows};
 ghost use Rattle.table_rows.specs.Keys.{is_record_at, is_record_named, is_record_of, is_waiting_of};
 ghost use Rattle.table_rows.specs.Tables.{PassesOnce};
@@ -33,6 +34,8 @@ impl Answered for RecordAt {
     ghost value = { record_in };
 
     ghost fits = { IsRecordAt };
+
+    ghost readable = { IsRecordAnswer };
 
     fn read(row: &Row) -> Result<RecordAt, Error> {
         Ok(RecordAt {

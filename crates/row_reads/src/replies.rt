@@ -1,15 +1,16 @@
-//! Kept replies are read.
+//! The statements that read kept replies, by client and number.
 ghost use Rattle.std.specs.Prelude.{◌≡◌, ◌<◌, ◌^◌, ℕ, false, length, option_map, IfOk};
 ghost use Rattle.sqlite.specs.Held.{state};
 ghost use Rattle.job_facts.specs.Contents.{entry_of, reply_of_entry};
 ghost use Rattle.row_reads.specs.Counts.{shown_count};
 ghost use Rattle.row_reads.specs.Decoding.{IsAny, first_number, reply_in};
+ghost use Rattle.row_reads.specs.Readable.{IsReplyAnswer};
 ghost use Rattle.row_reads.specs.Reads.{Looks, TellsRows};
 ghost use Rattle.table_rows.specs.Keys.{is_reply_to};
 ghost use Rattle.table_rows.specs.Tables.{PassesOnce};
 
 use crate::answered::{Answered, one_of};
-use crate::values::{bytes_at, first_number, short_at};
+use crate::values::{bytes_at, first_number, within_at};
 use job_facts::KeptReply;
 use sql_base::{int, rows_of};
 use sqlite::types::ValueRef;
@@ -21,9 +22,11 @@ impl Answered for KeptReply {
 
     ghost fits = { IsAny };
 
+    ghost readable = { IsReplyAnswer };
+
     fn read(row: &Row) -> Result<KeptReply, Error> {
         let ask = bytes_at(row, 0)?;
-        let status = short_at(row, 1)?;
+        let status = within_at(row, 1, 0, 65535)? as u16;
         let body = bytes_at(row, 2)?;
         Ok(KeptReply { ask, status, body })
     }

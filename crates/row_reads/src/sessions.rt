@@ -1,4 +1,4 @@
-//! Sessions are read.
+//! The statements that read the session table: by number, by machine, and the good of a batch.
 ghost use Rattle.std.specs.Prelude.{◌≡◌, ◌<◌, ◌^◌, false, filter, find, option_map, All, IfOk};
 ghost use Rattle.std.specs.Prelude.{IfSome, IsPermutation, map};
 ghost use Rattle.sqlite.specs.Held.{state};
@@ -6,12 +6,14 @@ ghost use Rattle.store_data.specs.Cursor.{IsCursor};
 ghost use Rattle.row_reads.specs.CardDecoding.{IsGoodCard, IsSessionAt, cursor_in, good_at};
 ghost use Rattle.row_reads.specs.CardDecoding.{good_in, session_at, session_in};
 ghost use Rattle.row_reads.specs.Extremes.{IsGreatest};
+ghost use Rattle.row_reads.specs.Readable.{FailsForMemory, IsCursorAnswer, IsGoodAnswer};
+ghost use Rattle.row_reads.specs.Readable.{IsSessionAnswer};
 ghost use Rattle.row_reads.specs.Reads.{Looks, TellsRows};
 ghost use Rattle.table_rows.specs.Keys.{is_good_of, is_running_on, is_session};
 ghost use Rattle.table_rows.specs.Tables.{PassesOnce, StoredSession};
 
 use crate::answered::{Answered, all_of, one_of};
-use crate::values::{first_number, name_at, number_at, session_state};
+use crate::values::{first_number, name_at, number_at, session_state, within_at};
 use job_facts::SessionState;
 use sql_base::{int, rows_of};
 use sqlite::types::ValueRef;
@@ -41,43 +43,26 @@ pub struct GoodCard {
     pub serial: u64,
 }
 
-// The cursor of these numbers, where they are one.
-fn cursor_of(app: u32, segment: u32, offset: u32, block: u32) -> Result<Cursor, Error>
-    ensures value { IfOk result (λ c. c ≡ record {
-      app = app;
-      segment = segment;
-      offset = offset;
-      block = block;
-    }) }
-    ensures ranged { IfOk result IsCursor }
-{
-    if app > 4096 || segment > 998 || offset > 65535 || block > 256 {
-        return Err(Error::InvalidQuery);
-    }
-    Ok(Cursor {
-        app: app as u16,
-        segment: segment as u16,
-        offset,
-        block: block as u16,
-    })
-}
-
 // The cursor in an answered row.
 fn cursor_in(row: &Row) -> Result<Cursor, Error>
     ensures value { IfOk result (λ c. c ≡ cursor_in row.now) }
     ensures ranged { IfOk result IsCursor }
+    ensures total { IsCursorAnswer row.now → FailsForMemory result }
 {
-    let app: u32 = row.get(5)?;
-    let segment: u32 = row.get(6)?;
-    let offset: u32 = row.get(7)?;
-    let block: u32 = row.get(8)?;
-    cursor_of(app, segment, offset, block)
+    Ok(Cursor {
+        app: within_at(row, 5, 0, 4096)? as u16,
+        segment: within_at(row, 6, 0, 998)? as u16,
+        offset: within_at(row, 7, 0, 65535)?,
+        block: within_at(row, 8, 0, 256)? as u16,
+    })
 }
 
 impl Answered for SessionAt {
     ghost value = { session_in };
 
     ghost fits = { IsSessionAt };
+
+    ghost readable = { IsSessionAnswer };
 
     fn read(row: &Row) -> Result<SessionAt, Error> {
         Ok(SessionAt {
@@ -140,6 +125,8 @@ impl Answered for GoodCard {
     ghost value = { good_in };
 
     ghost fits = { IsGoodCard };
+
+    ghost readable = { IsGoodAnswer };
 
     fn read(row: &Row) -> Result<GoodCard, Error> {
         let place = number_at(row, 0)?;

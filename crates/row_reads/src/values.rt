@@ -1,10 +1,13 @@
 //! The values of an answered row.
-ghost use Rattle.std.specs.Prelude.{◌≡◌, ◌<◌, ◌^◌, length, IfOk};
+ghost use Rattle.std.specs.Prelude.{◌≡◌, ◌<◌, ◌≤◌, ◌^◌, length, All, IfOk, IsOk, IsTrue};
 ghost use Rattle.sqlite.specs.Order.{column};
-ghost use Rattle.sql_rows.specs.Decoding.{enc_of_code, number_in, record_state_of_code};
+ghost use Rattle.sql_rows.specs.Decoding.{enc_of_code, flag_in, number_in, record_state_of_code};
 ghost use Rattle.sql_rows.specs.Decoding.{session_state_of_code};
 ghost use Rattle.row_reads.specs.Decoding.{IsAny, IsNumber, blob_in, first_number, has_rows};
 ghost use Rattle.row_reads.specs.Decoding.{id_in, name_in, text_in};
+ghost use Rattle.row_reads.specs.Readable.{FailsForMemory, IsBelow, IsBlob, IsIdAnswer, IsIn};
+ghost use Rattle.row_reads.specs.Readable.{IsNameAnswer, IsNameText, IsWhole};
+ghost use Rattle.store_data.specs.Name.{is_name};
 
 use crate::answered::{Answered, first};
 use job_facts::{RecordState, SessionState};
@@ -14,14 +17,16 @@ use store_data::{Bytes, Enc, Name};
 
 // The name that a text is.
 fn name_of(text: &[u8]) -> Result<Name, Error>
-    ensures { IfOk result (λ name. name ≡ text.now) }
+    ensures value { IfOk result (λ name. name ≡ text.now) }
+    ensures total { IsTrue (is_name text.now) → IsOk result }
 {
     Name::new(text).ok_or(Error::InvalidQuery)
 }
 
 // The name in this column.
 pub(crate) fn name_at(row: &Row, at: usize) -> Result<Name, Error>
-    ensures { IfOk result (λ name. name ≡ text_in (column row.now at)) }
+    ensures value { IfOk result (λ name. name ≡ text_in (column row.now at)) }
+    ensures total { IsNameText (column row.now at) → IsOk result }
 {
     match row.get_ref(at)? {
         ValueRef::Text(text) => name_of(text),
@@ -31,7 +36,8 @@ pub(crate) fn name_at(row: &Row, at: usize) -> Result<Name, Error>
 
 // The bytes in this column.
 pub(crate) fn bytes_at(row: &Row, at: usize) -> Result<Bytes, Error>
-    ensures { IfOk result (λ bytes. bytes ≡ blob_in (column row.now at)) }
+    ensures value { IfOk result (λ bytes. bytes ≡ blob_in (column row.now at)) }
+    ensures total { IsBlob (column row.now at) → FailsForMemory result }
 {
     let items: Vec<u8> = row.get(at)?;
     Ok(Bytes::from_vec(items))
@@ -44,6 +50,7 @@ const END: u64 = 1 << 63;
 pub(crate) fn number_at(row: &Row, at: usize) -> Result<u64, Error>
     ensures value { IfOk result (λ n. n ≡ number_in (column row.now at)) }
     ensures ranged { IfOk result (λ n. n < 2 ^ 63) }
+    ensures total { IsWhole (column row.now at) → FailsForMemory result }
 {
     let n: u64 = row.get(at)?;
     if n >= END {
@@ -52,22 +59,42 @@ pub(crate) fn number_at(row: &Row, at: usize) -> Result<u64, Error>
     Ok(n)
 }
 
-// The number below 2^16 in this column.
-pub(crate) fn short_at(row: &Row, at: usize) -> Result<u16, Error>
-    ensures { IfOk result (λ n. n ≡ number_in (column row.now at)) }
+// The number below 2^32 in this column.
+pub(crate) fn long_at(row: &Row, at: usize) -> Result<u32, Error>
+    ensures value { IfOk result (λ n. n ≡ number_in (column row.now at)) }
+    ensures total { IsBelow (2 ^ 32) (column row.now at) → FailsForMemory result }
 {
-    let n: u32 = row.get(at)?;
-    if n > 65535 {
+    row.get(at)
+}
+
+// The flag in this column.
+pub(crate) fn flag_at(row: &Row, at: usize) -> Result<bool, Error>
+    ensures value { IfOk result (λ b. b ≡ flag_in (column row.now at)) }
+    ensures total { IsBelow 2 (column row.now at) → FailsForMemory result }
+{
+    row.get(at)
+}
+
+// The number in this column, where it lies between these.
+pub(crate) fn within_at(row: &Row, at: usize, least: u32, most: u32) -> Result<u32, Error>
+    ensures value { IfOk result (λ n. n ≡ number_in (column row.now at)) }
+    ensures least { IfOk result (λ n. least ≤ n) }
+    ensures most { IfOk result (λ n. n ≤ most) }
+    ensures total { IsIn least most (column row.now at) → FailsForMemory result }
+{
+    let n = long_at(row, at)?;
+    if n < least || n > most {
         return Err(Error::InvalidQuery);
     }
-    Ok(n as u16)
+    Ok(n)
 }
 
 // ---- what numbers stand for
 
 // The mark of encipherment that a number stands for.
 pub(crate) fn enc_of(code: u64) -> Result<Enc, Error>
-    ensures { IfOk result (λ enc. enc ≡ enc_of_code code) }
+    ensures value { IfOk result (λ enc. enc ≡ enc_of_code code) }
+    ensures total { code < 3 → IsOk result }
 {
     match code {
         0 => Ok(Enc::Plain),
@@ -79,7 +106,8 @@ pub(crate) fn enc_of(code: u64) -> Result<Enc, Error>
 
 // The state of a record that a number stands for.
 pub(crate) fn record_state(code: u64) -> Result<RecordState, Error>
-    ensures { IfOk result (λ stands. stands ≡ record_state_of_code code) }
+    ensures value { IfOk result (λ stands. stands ≡ record_state_of_code code) }
+    ensures total { code < 5 → IsOk result }
 {
     match code {
         0 => Ok(RecordState::Waiting),
@@ -93,7 +121,8 @@ pub(crate) fn record_state(code: u64) -> Result<RecordState, Error>
 
 // The state of a session that a number stands for.
 pub(crate) fn session_state(code: u64) -> Result<SessionState, Error>
-    ensures { IfOk result (λ stands. stands ≡ session_state_of_code code) }
+    ensures value { IfOk result (λ stands. stands ≡ session_state_of_code code) }
+    ensures total { code < 3 → IsOk result }
 {
     match code {
         0 => Ok(SessionState::Running),
@@ -111,6 +140,8 @@ impl Answered for u64 {
 
     ghost fits = { IsNumber };
 
+    ghost readable = { IsIdAnswer };
+
     fn read(row: &Row) -> Result<u64, Error> {
         number_at(row, 0)
     }
@@ -122,6 +153,8 @@ impl Answered for Name {
 
     ghost fits = { IsAny };
 
+    ghost readable = { IsNameAnswer };
+
     fn read(row: &Row) -> Result<Name, Error> {
         name_at(row, 1)
     }
@@ -131,6 +164,7 @@ impl Answered for Name {
 pub(crate) fn first_number(rows: &[Row]) -> Result<u64, Error>
     ensures value { IfOk result (λ n. n ≡ first_number rows.now) }
     ensures ranged { IfOk result (λ n. n < 2 ^ 63) }
+    ensures total { All IsIdAnswer rows.now → FailsForMemory result }
 {
     Ok(first::<u64>(rows)?.unwrap_or(0))
 }
