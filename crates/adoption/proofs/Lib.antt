@@ -1,3 +1,4 @@
 pub mod Judging
 mod Settled
 mod Taken
+mod Unwritten

@@ -1,18 +1,18 @@
 -- Tables that stay as they are, or are made anew.
-use Rattle.std.proofs.Common.{◌≡◌, ◌∙◌, IsTrue, Result, Ok, Err, OnOk, inl, inr, refl, sym, ap, subst, arith}
-use Rattle.sqlite.specs.Effect.{Database}
+use Rattle.std.proofs.Common.{◌≡◌, ◌∙◌, ℕ, List, [], IsTrue, Result, Ok, Err, OnOk, inl, inr, refl, sym, ap, subst, arith}
+use Rattle.sqlite.specs.Effect.{Database, IsDatabase}
 use Rattle.sqlite.specs.Held.{Held, state}
-use Rattle.sqlite.specs.State.{HasCleanDisk, IsLive, State, Survives}
+use Rattle.sqlite.specs.State.{HasCleanDisk, IsLive, IsNotRun, IsRolledBack, IsUnchanged, State, Survives}
 use Rattle.sqlite.specs.Store.{Ghosts}
 use Rattle.sqlite.specs.Tree.{Trees}
+use Rattle.sqlite.specs.declared.error.Error.{Error}
 use Rattle.sqlite.proofs.StateLemmas.{survives_then}
 use Rattle.table_rows.specs.Tables.{Tables}
 use Rattle.sql_base.specs.Ends.{Ends, IsKept, IsLeft}
 use Rattle.sql_tables.specs.declared.versions.Version.{Version}
-use Rattle.sql_tables.specs.declared.versions.Version.TheVariants.{Three}
-use Rattle.sql_tables.specs.Tables.{our_schema}
-use Rattle.table_reads.specs.Rowids.{HasApart}
+use Rattle.table_reads.specs.Rowids.{StandAsMade}
 use Rattle.table_reads.specs.Holding.{HoldsRows}
+use Rattle.table_reads.proofs.After.{kept_then}
 use Rattle.sql_rows.specs.Image.{IsImage}
 use Rattle.remaking.specs.Remakes.{Remakes}
 use Rattle.adoption.specs.Adopts.{Settles}
@@ -30,30 +30,48 @@ only_now g law old new live settled clean survives trees may =
 
 -- the law that our tables, standing as they are made, hold the image of the rows that they hold
 abbrev pub ImageLaw : Type 0
-ImageLaw = (t : Tables) (db : Database) → HoldsRows Three t db → db.schema ≡ our_schema → HasApart db → IsImage t db
+ImageLaw = (v : Version) (t : Tables) (db : Database) → HoldsRows v t db → IsDatabase db → StandAsMade db → IsImage t db
 
-settled_so : ImageLaw → (v : Version) (t : Tables) (db : Database) → v ≡ Three → db.schema ≡ our_schema → HasApart db → Settles v t db db
-settled_so law v t db three ours apart held = law t db (subst (λ w. HoldsRows w t db) three held) ours apart
+-- they stay, and so does the connection
+module _ {S : Type 0} (g : Ghosts S) (law : (s : S) (db : Trees) → IsTrue (g.view s).is_open → g.recovers s db → db ≡ (g.view s).committed) (old mid new : Held S) (v : Version) (t : Tables)
+    (image : ImageLaw) (settled : IsTrue (state g old).is_open → (state g old).now ≡ (state g old).committed) (live : IsLive (state g old)) (clean : HasCleanDisk (state g new))
+    (was_open : IsTrue (state g old).is_open) (stand : StandAsMade (state g old).now) (kept : IsKept (state g old) (state g mid)) (still : IsKept (state g mid) (state g new))
+    (before : Survives (state g old) (state g mid) (λ _. ⊥)) (last : Survives (state g mid) (state g new) (λ _. ⊥)) where
+  pub stays : {E : Type 0} (r : Result (Unit {0}) E) → OnOk r (IsTrue (state g new).is_open) → OnOk r (Comes (Settles v t) (state g old) (state g new))
+  stays (Err e) shown = tt
+  stays (Ok u) shown = record {
+    db = (state g old).now;
+    made = λ held. image v t (state g old).now held (live was_open).0 stand;
+    shown = (kept_then (state g old) (state g mid) (state g new) kept still).now_is;
+    only = only_now g law old new was_open (settled was_open) clean
+        (survives_then (state g old) (state g mid) (state g new) (λ _. ⊥) (λ _. ⊥) (λ _. ⊥) (λ _ db none. none) (λ _ db none. none) before last);
+    was_open = was_open;
+    is_open = shown;
+  }
 
--- what an audit can see of tables that stand as they are made
-abbrev pub StandAsMade : Version → State → Type 0
-StandAsMade v s = IsTrue s.is_open × (v ≡ Three) × (s.now.schema ≡ our_schema) × HasApart s.now
+-- a connection that was asked for nothing shows what it showed
+module _ (old new : State) (settled : IsTrue old.is_open → old.now ≡ old.committed) where
+  pub unchanged_kept : IsUnchanged old new → IsKept old new
+  unchanged_kept same = record { was_open = λ _. same.0.was_open; now_is = λ _. same.0.now_is; committed_is = λ _. same.0.committed_is }
 
--- they stay
-pub stays : {S : Type 0} (g : Ghosts S) (law : (s : S) (db : Trees) → IsTrue (g.view s).is_open → g.recovers s db → db ≡ (g.view s).committed) (old new : Held S) (v : Version) (t : Tables)
-    → ImageLaw → (IsTrue (state g old).is_open → (state g old).now ≡ (state g old).committed) → StandAsMade v (state g old) → IsKept (state g old) (state g new) → HasCleanDisk (state g new)
-    → Survives (state g old) (state g new) (λ _. ⊥) → Comes (Settles v t) (state g old) (state g new)
-stays g law old new v t image settled stand kept clean survives = record {
-  db = (state g old).now;
-  made = settled_so image v t (state g old).now stand.1 stand.2 stand.3;
-  shown = kept.now_is;
-  only = only_now g law old new stand.0 (settled stand.0) clean survives;
-  was_open = stand.0;
-}
+  rolled_kept : IsRolledBack old new → IsKept old new
+  rolled_kept undone = record {
+    was_open = undone.was_open;
+    now_is = λ live. (undone.undone live).0 ∙ sym (settled (undone.was_open live));
+    committed_is = λ live. (undone.undone live).1;
+  }
 
-module _ (v : Version) (t : Tables) (old mid new : State) (kept : HasCleanDisk mid → IsKept old mid) (live : IsLive mid) where
+  pub not_run_kept : (sql : List ℕ) (e : Error) → IsNotRun old new sql [] e → IsKept old new
+  unfolding IsNotRun
+  not_run_kept sql e (inl none) = unchanged_kept none.1
+  not_run_kept sql e (inr failed) = rolled_kept failed.3
+
+module _ (v : Version) (t : Tables) (old mid new : State) (kept : HasCleanDisk mid → IsKept old mid) (live : IsLive old) where
   turned : HasCleanDisk mid → IsTrue mid.is_open → (db : Database) → Remakes v t mid.now db → Settles v t old.now db
-  turned clean shown db made held = made (live shown).0 (subst (λ (d : Database). HoldsRows v t d) (sym ((kept clean).now_is shown)) held).just
+  turned clean shown db made held =
+      let k = kept clean in
+      let same = sym (k.now_is shown) in
+      made (subst (λ (d : Database). IsDatabase d) same (live (k.was_open shown)).0) (subst (λ (d : Database). HoldsRows v t d) same held).just
 
   pub remade : {E : Type 0} (r : Result (Unit {0}) E) → HasCleanDisk mid → OnOk r (Ends (Remakes v t) mid new) → OnOk r (Comes (Settles v t) old new)
   remade (Err e) clean ends = tt
@@ -63,6 +81,7 @@ module _ (v : Version) (t : Tables) (old mid new : State) (kept : HasCleanDisk m
     shown = λ _. refl;
     only = ends.only;
     was_open = (kept clean).was_open ends.was_open;
+    is_open = ends.is_open;
   }
 
   pub left_remade : Survives old mid (λ _. ⊥) → Survives mid new (IsLeft (Remakes v t) mid) → Survives old new (IsLeft (Settles v t) old)

@@ -57,6 +57,7 @@ module _ (law : OrderLaw) (v : Version) (t : Tables) (old mid new : State) (kept
     shown = comes.shown;
     only = comes.only;
     was_open = (kept clean).was_open comes.was_open;
+    is_open = comes.is_open;
   }
 
   pub left_taken : Survives old mid (λ _. ⊥) → Survives mid new (IsLeft (Settles v t) mid) → Survives old new (IsLeft Adopts old)

@@ -2,3 +2,4 @@ pub mod Telling
 pub mod Comes
 pub mod Adopts
 pub mod Faults
+pub mod Unwritten

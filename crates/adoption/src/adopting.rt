@@ -7,6 +7,7 @@ ghost use Rattle.sql_tables.specs.declared.versions.Version.{Version};
 ghost use Rattle.table_reads.specs.Holding.{HoldsSoundRows, IsOfVersion};
 ghost use Rattle.adoption.specs.Adopts.{Adopts};
 ghost use Rattle.adoption.specs.Comes.{Comes};
+ghost use Rattle.adoption.specs.Unwritten.{LeavesOurs};
 
 use crate::auditing::{Found, audit};
 use crate::faults::OpenFault;
@@ -15,8 +16,9 @@ use sqlite::{Alter, Connection};
 use std::alloc::Global;
 
 /// Takes a database whose tables, of any version, hold the rows of sound contents: they then stand
-/// in our own tables. Any other is refused, and stays as it is. A crash leaves what it could leave
-/// before, or the same contents in our own tables.
+/// in our own tables. Any other is refused, and stays as it is. Where our own tables stand as they
+/// are made, every tree stays. A crash leaves what it could leave before, or the same contents in
+/// our own tables.
 pub fn adopt<S: Alter>(alloc: Global, conn: &mut Connection<S>) -> Result<(), OpenFault>
     requires { conn.old.in_transaction ≡ false }
     ensures ok { HasCleanDisk (state S.Store conn.new) → OnOk result
@@ -30,6 +32,7 @@ pub fn adopt<S: Alter>(alloc: Global, conn: &mut Connection<S>) -> Result<(), Op
         × ((v : Version) → ¬ HoldsSoundRows v (state S.Store conn.old).now)) }
     ensures kept { HasCleanDisk (state S.Store conn.new)
         → OnErr result (IsKept (state S.Store conn.old) (state S.Store conn.new)) }
+    ensures unchanged { LeavesOurs (state S.Store conn.old) (state S.Store conn.new) }
     ensures idle { conn.new.in_transaction ≡ false }
     ensures crash { Survives (state S.Store conn.old) (state S.Store conn.new)
         (IsLeft Adopts (state S.Store conn.old)) }

@@ -1,24 +1,21 @@
 //! Whether a database has our tables as they are made.
-ghost use Rattle.std.specs.Prelude.{◌≡◌, false, IfOk, IsTrue};
+ghost use Rattle.std.specs.Prelude.{◌≡◌, ◌↔◌, false, IfOk, IsTrue};
 ghost use Rattle.sqlite.specs.Held.{state};
 ghost use Rattle.sqlite.specs.State.{HasCleanDisk, Survives};
 ghost use Rattle.sql_base.specs.Ends.{IsKept};
-ghost use Rattle.sql_tables.specs.declared.versions.Version.TheVariants.{Three};
-ghost use Rattle.sql_tables.specs.Tables.{our_schema};
-ghost use Rattle.table_reads.specs.Rowids.{HasApart};
+ghost use Rattle.table_reads.specs.Rowids.{StandAsMade};
 
 use sql_tables::{Version, has_our_tables, tables_of};
 use sqlite::{Alter, Connection, Error};
 use std::alloc::Global;
 use table_reads::has_apart_rowids;
 
-// Whether our tables stand as they are made, with rowids that rise.
-fn stands_as_made<S: Alter>(alloc: Global, conn: &mut Connection<S>) -> Result<bool, Error>
+/// Whether our own tables stand as they are made, so that they can stay.
+pub(crate) fn can_stay<S: Alter>(alloc: Global, conn: &mut Connection<S>) -> Result<bool, Error>
     requires { conn.old.in_transaction ≡ false }
-    ensures told { HasCleanDisk (state S.Store conn.new) → IfOk result (λ stands. IsTrue stands
-        → IsTrue (state S.Store conn.old).is_open
-        × ((state S.Store conn.old).now.schema ≡ our_schema)
-        × HasApart (state S.Store conn.old).now) }
+    ensures told { HasCleanDisk (state S.Store conn.new) → IfOk result (λ stay.
+        (IsTrue stay → IsTrue (state S.Store conn.old).is_open)
+        × (IsTrue stay ↔ StandAsMade (state S.Store conn.old).now)) }
     ensures kept { HasCleanDisk (state S.Store conn.new)
         → IsKept (state S.Store conn.old) (state S.Store conn.new) }
     ensures idle { conn.new.in_transaction ≡ false }
@@ -29,26 +26,4 @@ fn stands_as_made<S: Alter>(alloc: Global, conn: &mut Connection<S>) -> Result<b
         return Ok(false);
     }
     has_apart_rowids(conn)
-}
-
-/// Whether the tables of a version stand as our own are made, so that they can stay.
-pub(crate) fn can_stay<S: Alter>(
-    alloc: Global,
-    conn: &mut Connection<S>,
-    version: Version,
-) -> Result<bool, Error>
-    requires { conn.old.in_transaction ≡ false }
-    ensures told { HasCleanDisk (state S.Store conn.new) → IfOk result (λ stay. IsTrue stay
-        → IsTrue (state S.Store conn.old).is_open × (version ≡ Three)
-        × ((state S.Store conn.old).now.schema ≡ our_schema)
-        × HasApart (state S.Store conn.old).now) }
-    ensures kept { HasCleanDisk (state S.Store conn.new)
-        → IsKept (state S.Store conn.old) (state S.Store conn.new) }
-    ensures idle { conn.new.in_transaction ≡ false }
-    ensures survives { Survives (state S.Store conn.old) (state S.Store conn.new) (λ _. ⊥) }
-{
-    match version {
-        Version::Three => stands_as_made(alloc, conn),
-        _ => Ok(false),
-    }
 }

@@ -1,10 +1,11 @@
 //! Rows that a database holds come to stand in our own tables.
-ghost use Rattle.std.specs.Prelude.{◌≡◌, false, OnErr, OnOk};
+ghost use Rattle.std.specs.Prelude.{◌≡◌, false, IsTrue, OnErr, OnOk};
 ghost use Rattle.sqlite.specs.Held.{state};
 ghost use Rattle.sqlite.specs.State.{HasCleanDisk, Survives};
 ghost use Rattle.sql_base.specs.Ends.{IsKept, IsLeft};
 ghost use Rattle.adoption.specs.Adopts.{Settles};
 ghost use Rattle.adoption.specs.Comes.{Comes};
+ghost use Rattle.adoption.specs.Unwritten.{LeavesOurs};
 
 use crate::ours::can_stay;
 use remaking::remake;
@@ -14,8 +15,25 @@ use sqlite::{Alter, Connection, Error};
 use std::alloc::Global;
 use table_rows::Tables;
 
-/// Tables that stand as our own are made stay as they are. Others are made anew, and their rows put
-/// in, in one transaction. A crash leaves what it could leave before, or all of it.
+// Whether the connection is still open: a fault at the end of a read may have shut it. Nothing is
+// changed.
+fn stay_open<S: Alter>(conn: &mut Connection<S>) -> Result<(), Error>
+    requires { conn.old.in_transaction ≡ false }
+    ensures open { HasCleanDisk (state S.Store conn.new)
+        → OnOk result (IsTrue (state S.Store conn.new).is_open) }
+    ensures kept { HasCleanDisk (state S.Store conn.new)
+        → IsKept (state S.Store conn.old) (state S.Store conn.new) }
+    ensures idle { conn.new.in_transaction ≡ false }
+    ensures survives { Survives (state S.Store conn.old) (state S.Store conn.new) (λ _. ⊥) }
+{
+    laws::is_committed(conn);
+    conn.prepare("SELECT number FROM version")?;
+    Ok(())
+}
+
+/// Our own tables that stand as they are made stay, to the last byte of each tree. Others are made
+/// anew, and their rows put in, in one transaction. A crash leaves what it could leave before, or
+/// all of it.
 pub(crate) fn settle<S: Alter>(
     alloc: Global,
     conn: &mut Connection<S>,
@@ -27,15 +45,16 @@ pub(crate) fn settle<S: Alter>(
         (Comes (Settles version tables.now) (state S.Store conn.old) (state S.Store conn.new)) }
     ensures kept { HasCleanDisk (state S.Store conn.new)
         → OnErr result (IsKept (state S.Store conn.old) (state S.Store conn.new)) }
+    ensures unchanged { LeavesOurs (state S.Store conn.old) (state S.Store conn.new) }
     ensures idle { conn.new.in_transaction ≡ false }
     ensures crash { Survives (state S.Store conn.old) (state S.Store conn.new)
         (IsLeft (Settles version tables.now) (state S.Store conn.old)) }
 {
     table_reads::laws::our_rows_are_an_image();
     laws::is_committed(conn);
-    if can_stay(alloc, conn, version)? {
-        return Ok(());
-    }
     laws::is_live(conn);
+    if can_stay(alloc, conn)? {
+        return stay_open(conn);
+    }
     remake(conn, version, tables)
 }

@@ -1,18 +1,16 @@
 -- One read after another.
-use Rattle.std.proofs.Common.{IsTrue, List, [], ◌∷◌, ◌++◌, ℕ, ◌≡◌, ◌∙◌, subst, sym}
+use Rattle.std.proofs.Common.{◌≡◌, ◌↔◌, ◌+◌, ◌<◌, ◌∙◌, ℕ, zero, suc, Bool, IsTrue, List, [], ◌∷◌, All, get_or, length, take, subst, sym, arith}
+use Rattle.std.specs.List.{AllZip}
+use Rattle.std.proofs.lemmas.List.Elements.{All-more}
 use Rattle.sqlite.specs.Effect.{Database}
 use Rattle.sqlite.specs.State.{State}
-use Rattle.sqlite.specs.Term.{col}
 use Rattle.sql_base.specs.Ends.{IsKept}
-use Rattle.sql_tables.specs.Tables.{our_schema}
-use Rattle.table_reads.specs.Rowids.{AreApartIn, HasApart}
-use Rattle.table_reads.specs.Texts.{batch_rowids, blank_rowids, grouping_rowids, lot_rowids, mark_rowids, product_rowids, record_rowids, remake_rowids, reply_rowids, rowid_texts, session_rowids, version_rowids, word_rowids}
-use Rattle.table_reads.specs.Whole.{Asks}
-use Rattle.table_reads.proofs.Numbers.{batch_asked, blank_asked, grouping_asked, lot_asked, mark_asked, product_asked, record_asked, remake_asked, reply_asked, session_asked, version_asked, word_asked}
-
-both : (some more : List (List ℕ)) (db : Database) → AreApartIn some db → AreApartIn more db → AreApartIn (some ++ more) db
-both [] more db first second = second
-both (sql ∷ some) more db first second = (first.0, both some more db first.1 second)
+use Rattle.sql_base.specs.Rowids.{AreApart}
+use Rattle.sql_tables.specs.Tables.{our_schema, version_table}
+use Rattle.table_reads.specs.Rowids.{AsksRowids, HasApart}
+use Rattle.table_reads.specs.Texts.{rowid_texts}
+use Rattle.table_reads.proofs.Numbers.{each_asked}
+use Rattle.table_reads.proofs.Telling.{from_all, to_all}
 
 -- two looks, the one after the other
 pub kept_then : (a b c : State) → IsKept a b → IsKept b c → IsKept a c
@@ -22,45 +20,38 @@ kept_then a b c one two = record {
   committed_is = λ live. two.committed_is live ∙ one.committed_is (two.was_open live);
 }
 
--- one more was read
-pub further : (old mid : State) (some : List (List ℕ)) (sql : List ℕ) → IsKept old mid → IsTrue mid.is_open → AreApartIn some old.now → AreApartIn (sql ∷ []) mid.now → AreApartIn (some ++ sql ∷ []) old.now
-further old mid some sql kept live before next = both some (sql ∷ []) old.now before (subst (AreApartIn (sql ∷ [])) (kept.now_is live) next)
+-- ---- the rowids of our tables
 
-pub at_ours : (db : Database) → AreApartIn rowid_texts db → db.schema ≡ our_schema → HasApart db
-at_ours db all ours = (
-  all.0 0 (subst (λ s. Asks s version_rowids 0 (col 1 0 ∷ [])) (sym ours) version_asked),
-  (
-    all.1.0 1 (subst (λ s. Asks s product_rowids 1 (col 1 0 ∷ [])) (sym ours) product_asked),
-    (
-      all.1.1.0 3 (subst (λ s. Asks s lot_rowids 3 (col 1 0 ∷ [])) (sym ours) lot_asked),
-      (
-        all.1.1.1.0 5 (subst (λ s. Asks s batch_rowids 5 (col 1 0 ∷ [])) (sym ours) batch_asked),
-        (
-          all.1.1.1.1.0 7 (subst (λ s. Asks s record_rowids 7 (col 1 0 ∷ [])) (sym ours) record_asked),
-          (
-            all.1.1.1.1.1.0 10 (subst (λ s. Asks s grouping_rowids 10 (col 1 0 ∷ [])) (sym ours) grouping_asked),
-            (
-              all.1.1.1.1.1.1.0 12 (subst (λ s. Asks s session_rowids 12 (col 1 0 ∷ [])) (sym ours) session_asked),
-              (
-                all.1.1.1.1.1.1.1.0 14 (subst (λ s. Asks s word_rowids 14 (col 1 0 ∷ [])) (sym ours) word_asked),
-                (
-                  all.1.1.1.1.1.1.1.1.0 16 (subst (λ s. Asks s blank_rowids 16 (col 1 0 ∷ [])) (sym ours) blank_asked),
-                  (
-                    all.1.1.1.1.1.1.1.1.1.0 17 (subst (λ s. Asks s remake_rowids 17 (col 1 0 ∷ [])) (sym ours) remake_asked),
-                    (
-                      all.1.1.1.1.1.1.1.1.1.1.0 19 (subst (λ s. Asks s reply_rowids 19 (col 1 0 ∷ [])) (sym ours) reply_asked),
-                      (
-                        all.1.1.1.1.1.1.1.1.1.1.1.0 21 (subst (λ s. Asks s mark_rowids 21 (col 1 0 ∷ [])) (sym ours) mark_asked),
-                        tt,
-                      ),
-                    ),
-                  ),
-                ),
-              ),
-            ),
-          ),
-        ),
-      ),
-    ),
-  ),
-)
+-- what a text that asks for the rowids of some trees tells of each of them
+abbrev pub SaysApart : List ℕ → Database → Bool → Type 0
+SaysApart sql db rising = (tree : ℕ) → AsksRowids db.schema sql tree → IsTrue rising ↔ AreApart (db.trees tree)
+
+-- the text was read of a database that shows what it showed
+pub told_before : (old mid : State) (sql : List ℕ) (rising : Bool) → IsKept old mid → IsTrue mid.is_open → SaysApart sql mid.now rising → SaysApart sql old.now rising
+told_before old mid sql rising kept live says = subst (λ (db : Database). SaysApart sql db rising) (kept.now_is live) says
+
+-- the first of our tables, as many as this, have rowids that are apart
+abbrev pub FirstApart : ℕ → Database → Type 0
+FirstApart count db = All (λ t. AreApart (db.trees t.tree)) (take count our_schema.tables)
+
+zip_at : {A B : Type 0} (R : A → B → Type 0) (xs : List A) (ys : List B) (k : ℕ) (a : A) (b : B) → AllZip R xs ys → k < length xs → R (get_or xs k a) (get_or ys k b)
+zip_at R [] ys k a b all low = absurd (omega arith)
+zip_at R (x ∷ xs) [] k a b all low = absurd all
+zip_at R (x ∷ xs) (y ∷ ys) zero a b all low = all.0
+zip_at R (x ∷ xs) (y ∷ ys) (suc k) a b all low = zip_at R xs ys k a b all.1 (omega arith)
+
+module _ (db : Database) (ours : db.schema ≡ our_schema) where
+  -- the text at a place asks for the rowids of the table at that place
+  told_at : (k : ℕ) → k < 12 → (sql : List ℕ) → sql ≡ get_or rowid_texts k [] → (rising : Bool) → SaysApart sql db rising → IsTrue rising ↔ AreApart (db.trees (get_or our_schema.tables k version_table).tree)
+  told_at k low sql is rising says =
+      let tree = (get_or our_schema.tables k version_table).tree in
+      says tree (subst (λ s. AsksRowids s sql tree) (sym ours) (subst (λ text. AsksRowids our_schema text tree) (sym is) (zip_at (λ text t. AsksRowids our_schema text t.tree) rowid_texts our_schema.tables k [] version_table each_asked low)))
+
+  pub one_more : (k : ℕ) → k < 12 → (sql : List ℕ) → sql ≡ get_or rowid_texts k [] → (rising : Bool) → SaysApart sql db rising → IsTrue rising → FirstApart k db → FirstApart (k + 1) db
+  one_more k low sql is rising says rises before = All-more (λ t. AreApart (db.trees t.tree)) our_schema.tables k version_table low before ((told_at k low sql is rising says).0 rises)
+
+  pub at_fault : (k : ℕ) → k < 12 → (sql : List ℕ) → sql ≡ get_or rowid_texts k [] → (rising : Bool) → SaysApart sql db rising → HasApart db → IsTrue rising
+  at_fault k low sql is rising says apart = (told_at k low sql is rising says).1 (to_all (λ t. AreApart (db.trees t.tree)) our_schema.tables apart k version_table low)
+
+pub all_apart : (count : ℕ) (db : Database) → take count our_schema.tables ≡ our_schema.tables → FirstApart count db → HasApart db
+all_apart count db all first = from_all (λ t. AreApart (db.trees t.tree)) our_schema.tables (subst (All (λ t. AreApart (db.trees t.tree))) all first)

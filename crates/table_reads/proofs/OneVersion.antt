@@ -1,5 +1,5 @@
 -- A table stands under one number, and a database has the tables of one version.
-use Rattle.std.proofs.Common.{◌≡◌, ◌<◌, ◌∙◌, ℕ, zero, suc, true, [], ◌∷◌, Option, Some, None, slice_index_or, refl, sym, ap, subst, arith}
+use Rattle.std.proofs.Common.{◌≡◌, ◌<◌, ◌∙◌, ℕ, zero, suc, true, pos, drop, List, [], ◌∷◌, Option, Some, None, slice_index_or, refl, sym, ap, subst, arith}
 use Rattle.std.specs.Prelude.{find}
 use Rattle.std.specs.List.Sorted.{IsPermutation}
 use Rattle.std.proofs.lemmas.List.Sorted.{All-permutation, IsPermutation-sym, IsPermutation-trans}
@@ -7,9 +7,13 @@ use Rattle.sqlite.specs.Effect.{Database}
 use Rattle.sqlite.specs.Order.{Row}
 use Rattle.sqlite.specs.Schema.{Schema}
 use Rattle.sqlite.specs.Table.{Table}
+use Rattle.sqlite.specs.Term.{Term, col, lit}
+use Rattle.sqlite.specs.declared.types.Value.TheVariants.{Int}
 use Rattle.sqlite_schema.specs.Names.{same_name}
+use Rattle.sql_base.specs.Queries.{is_equal}
 use Rattle.sql_rows.specs.Image.{told}
 use Rattle.sql_tables.specs.Finds.{Finds}
+use Rattle.sql_tables.specs.Tables.{our_schema}
 use Rattle.sql_tables.specs.Versions.{numbered_version_at}
 use Rattle.sql_tables.specs.declared.versions.Version.{Version}
 use Rattle.sql_tables.specs.declared.versions.Version.TheVariants.{One, Two, Three}
@@ -17,6 +21,7 @@ use Rattle.sql_rows.specs.Decoding.{number_in}
 use Rattle.sqlite.specs.Order.{column}
 use Rattle.table_reads.specs.Version.{numbered_row}
 use Rattle.table_reads.specs.Holding.{SaysVersion, number_of}
+use Rattle.table_reads.proofs.Found.{all_found}
 
 -- the number of the table that was found
 abbrev tree_in : Option Table → ℕ
@@ -65,3 +70,18 @@ numbered_alike Three Three e = refl
 
 pub one_version : (v w : Version) (db : Database) → SaysVersion v db → SaysVersion w db → v ≡ w
 one_version v w db one two = numbered_alike v w (one_version_number v w db one two)
+
+-- the check that names the number
+abbrev number_named : Option Table → List Term
+number_named None = []
+number_named (Some t) = drop 1 t.checks
+
+-- in our own schema the version is that of our own tables
+pub ours_alone : (v : Version) (db : Database) → SaysVersion v db → db.schema ≡ our_schema → v ≡ Three
+ours_alone v db says ours = numbered_alike v Three (at (number_of v) says.number (subst (λ s. Finds s (numbered_version_at (number_of v) says.number)) ours says.finds))
+  where
+    one_number_named : (n m : ℕ) → is_equal (col 1 2) (lit (Int (pos n))) ∷ [] ≡ is_equal (col 1 2) (lit (Int (pos m))) ∷ [] → n ≡ m
+    one_number_named n m e = cc
+
+    at : (n tree : ℕ) → Finds our_schema (numbered_version_at n tree) → n ≡ 3
+    at n tree finds = one_number_named n 3 (ap number_named (sym finds.named ∙ all_found.0.named))

@@ -4,7 +4,7 @@ use Rattle.std.specs.List.{AllByRecursion}
 use Rattle.std.specs.List.Sorted.{IsPermutation}
 use Rattle.sqlite_trees.specs.Tree.{IsAscending}
 use Rattle.sqlite_schema.specs.Names.{same_name}
-use Rattle.sqlite.specs.Effect.{Database}
+use Rattle.sqlite.specs.Effect.{Database, IsDatabase}
 use Rattle.sqlite.specs.Order.{Row}
 use Rattle.sqlite.specs.Table.{Table}
 use Rattle.sql_base.specs.Rowids.{AreApart}
@@ -14,12 +14,13 @@ use Rattle.table_rows.specs.Tables.{Tables}
 use Rattle.sql_tables.specs.Alike.{AreAmong, HasJust, HasNoFurtherKey, IsOneOf, is_no_further_key}
 use Rattle.sql_tables.specs.Finds.{Finds}
 use Rattle.sql_tables.specs.Versions.{numbered_version_at}
+use Rattle.sql_tables.specs.declared.versions.Version.{Version}
 use Rattle.sql_tables.specs.declared.versions.Version.TheVariants.{Three}
-use Rattle.table_reads.specs.Rowids.{HasApart}
+use Rattle.table_reads.specs.Rowids.{HasApart, StandAsMade}
 use Rattle.table_reads.proofs.Found.{all_found}
 use Rattle.table_reads.proofs.Telling.{to_all}
 use Rattle.table_reads.specs.Holding.{Holds, HoldsRows}
-use Rattle.table_reads.proofs.OneVersion.{IsNumbered, one_number}
+use Rattle.table_reads.proofs.OneVersion.{IsNumbered, one_number, ours_alone}
 
 -- ---- what is held fills our tables
 
@@ -30,11 +31,19 @@ filled_at table by_rowid rows db k is ours found apart held =
     let there = subst (λ n. IsPermutation rows (told by_rowid (db.trees n))) e held.rows_are in
     record { rows = subst (λ n. IsPermutation rows (told by_rowid (db.trees n))) (sym (is.numbered k)) there; apart = apart }
 
-pub our_image : (t : Tables) (db : Database) → HoldsRows Three t db → db.schema ≡ our_schema → HasApart db → IsImage t db
-our_image t db held ours apart = record {
+our_image : (t : Tables) (db : Database) → HoldsRows Three t db → IsDatabase db → db.schema ≡ our_schema → HasApart db → IsImage t db
+our_image t db held sound ours apart = record {
   ours = ours;
+  sound = sound;
   each = (filled_at (numbered_version_at 3) true _ db 0 (record { named = λ n m. refl; numbered = λ n. refl }) ours all_found.0 apart.0 held.version, (filled_at product_at false _ db 1 (record { named = λ n m. refl; numbered = λ n. refl }) ours all_found.1.0 apart.1.0 held.products, (filled_at lot_at false _ db 3 (record { named = λ n m. refl; numbered = λ n. refl }) ours all_found.1.1.0 apart.1.1.0 held.lots, (filled_at batch_at true _ db 5 (record { named = λ n m. refl; numbered = λ n. refl }) ours all_found.1.1.1.0 apart.1.1.1.0 held.batches, (filled_at record_at false _ db 7 (record { named = λ n m. refl; numbered = λ n. refl }) ours all_found.1.1.1.1.0 apart.1.1.1.1.0 held.records, (filled_at grouping_at false _ db 10 (record { named = λ n m. refl; numbered = λ n. refl }) ours all_found.1.1.1.1.1.0 apart.1.1.1.1.1.0 held.groupings, (filled_at session_at true _ db 12 (record { named = λ n m. refl; numbered = λ n. refl }) ours all_found.1.1.1.1.1.1.0 apart.1.1.1.1.1.1.0 held.sessions, (filled_at word_at false _ db 14 (record { named = λ n m. refl; numbered = λ n. refl }) ours all_found.1.1.1.1.1.1.1.0 apart.1.1.1.1.1.1.1.0 held.words, (filled_at blank_at true _ db 16 (record { named = λ n m. refl; numbered = λ n. refl }) ours all_found.1.1.1.1.1.1.1.1.0 apart.1.1.1.1.1.1.1.1.0 held.blanks, (filled_at remake_at false _ db 17 (record { named = λ n m. refl; numbered = λ n. refl }) ours all_found.1.1.1.1.1.1.1.1.1.0 apart.1.1.1.1.1.1.1.1.1.0 held.remakes, (filled_at reply_at false _ db 19 (record { named = λ n m. refl; numbered = λ n. refl }) ours all_found.1.1.1.1.1.1.1.1.1.1.0 apart.1.1.1.1.1.1.1.1.1.1.0 held.replies, (filled_at mark_at false _ db 21 (record { named = λ n m. refl; numbered = λ n. refl }) ours all_found.1.1.1.1.1.1.1.1.1.1.1.0 apart.1.1.1.1.1.1.1.1.1.1.1.0 held.marks, tt))))))))))));
 }
+
+-- of whatever version the rows are held, it is that of our own tables
+pub held_image : (v : Version) (t : Tables) (db : Database) → HoldsRows v t db → IsDatabase db → StandAsMade db → IsImage t db
+held_image v t db held sound stand = our_image t db (subst (λ w. HoldsRows w t db) (ours_alone v db held.version stand.0) held) sound stand.0 stand.1
+
+pub image_stands : (t : Tables) (db : Database) → IsImage t db → StandAsMade db
+image_stands t db image = let each = image.each in (image.ours, (each.0.apart, (each.1.0.apart, (each.1.1.0.apart, (each.1.1.1.0.apart, (each.1.1.1.1.0.apart, (each.1.1.1.1.1.0.apart, (each.1.1.1.1.1.1.0.apart, (each.1.1.1.1.1.1.1.0.apart, (each.1.1.1.1.1.1.1.1.0.apart, (each.1.1.1.1.1.1.1.1.1.0.apart, (each.1.1.1.1.1.1.1.1.1.1.0.apart, (each.1.1.1.1.1.1.1.1.1.1.1.0.apart, tt)))))))))))))
 
 -- ---- what fills them is held
 

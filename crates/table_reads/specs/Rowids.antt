@@ -1,8 +1,9 @@
--- Shown rowids that rise.
+-- Shown rowids that rise, and rowids that are apart.
 use Rattle.std.specs.Prelude.{◌≡◌, ◌<ℤ◌, ℕ, ℤ, pos, List, [], ◌∷◌, ⊤}
 use Rattle.std.specs.List.{AllByRecursion}
 use Rattle.sqlite.specs.Effect.{Database}
 use Rattle.sqlite.specs.Order.{Row}
+use Rattle.sqlite.specs.Schema.{Schema}
 use Rattle.sqlite.specs.Term.{col}
 use Rattle.sqlite.specs.Tree.{rowid}
 use Rattle.sqlite.specs.declared.types.Value.{Value}
@@ -11,27 +12,34 @@ use Rattle.sql_base.specs.Rowids.{AreApart}
 use Rattle.sql_tables.specs.Tables.{our_schema}
 use Rattle.table_reads.specs.Whole.{Asks}
 
+-- ---- as they are shown
+
 abbrev pub int_in : Value → ℤ
 int_in (Int z) = z
 int_in _ = pos 0
 
+abbrev pub rowid_int : Row → ℤ
+rowid_int row = int_in (rowid row)
+
 -- each is an integer, above the one before it
 abbrev pub IsRisingFrom : ℤ → List Row → Type 0
 IsRisingFrom floor [] = ⊤
-IsRisingFrom floor (row ∷ rows) = (Int (int_in (rowid row)) ≡ rowid row) × (floor <ℤ int_in (rowid row)) × IsRisingFrom (int_in (rowid row)) rows
+IsRisingFrom floor (row ∷ rows) = (Int (rowid_int row) ≡ rowid row) × (floor <ℤ rowid_int row) × IsRisingFrom (rowid_int row) rows
 
 abbrev pub AreRising : List Row → Type 0
 AreRising [] = ⊤
-AreRising (row ∷ rows) = (Int (int_in (rowid row)) ≡ rowid row) × IsRisingFrom (int_in (rowid row)) rows
+AreRising (row ∷ rows) = (Int (rowid_int row) ≡ rowid row) × IsRisingFrom (rowid_int row) rows
 
--- whatever tree the text asks for the rowids of, they are apart
-abbrev pub IsApartIn : List ℕ → Database → Type 0
-IsApartIn sql db = (tree : ℕ) → Asks db.schema sql tree (col 1 0 ∷ []) → AreApart (db.trees tree)
+-- ---- as they stand
 
--- of each of these texts
-abbrev pub AreApartIn : List (List ℕ) → Database → Type 0
-AreApartIn texts db = AllByRecursion (λ sql. IsApartIn sql db) texts
+-- the text asks for the rowids of this tree, and for nothing else
+abbrev pub AsksRowids : Schema → List ℕ → ℕ → Type 0
+AsksRowids s sql tree = Asks s sql tree (col 1 0 ∷ [])
 
 -- no two rows of one of our tables have one rowid
 abbrev pub HasApart : Database → Type 0
 HasApart db = AllByRecursion (λ t. AreApart (db.trees t.tree)) our_schema.tables
+
+-- it has just our own tables, as the store makes them, and no two rows of a table have one rowid
+abbrev pub StandAsMade : Database → Type 0
+StandAsMade db = (db.schema ≡ our_schema) × HasApart db

@@ -2,7 +2,7 @@
 //! calls it has its law.
 ghost use Rattle.std.specs.Prelude.{◌≡◌};
 ghost use Rattle.std.specs.List.{AllByRecursion};
-ghost use Rattle.sqlite.specs.Effect.{Database};
+ghost use Rattle.sqlite.specs.Effect.{Database, IsDatabase};
 ghost use Rattle.job_facts.specs.Contents.{AreSound, Contents};
 ghost use Rattle.sql_tables.specs.Finds.{Finds};
 ghost use Rattle.sql_tables.specs.declared.versions.Version.{Version as OfVersion};
@@ -12,7 +12,7 @@ ghost use Rattle.image_laws.specs.Image.{image};
 ghost use Rattle.table_rows.specs.Tables.{HaveSameRows, Tables};
 ghost use Rattle.table_reads.specs.Holding.{HoldsRows};
 ghost use Rattle.table_reads.specs.Reading.{Fit};
-ghost use Rattle.table_reads.specs.Rowids.{HasApart};
+ghost use Rattle.table_reads.specs.Rowids.{StandAsMade};
 
 use sql_tables::Version;
 
@@ -33,11 +33,12 @@ pub fn rows_are_held_in_any_order()
         → HoldsRows v t db }
 {}
 
-/// In our own schema, where no two rows of a table have one rowid, the rows that are held are an
-/// image, and the rows of an image are held.
+/// Where our own tables stand as they are made, the rows that are held are an image. So stand the
+/// tables of an image, and its rows are held.
 pub fn our_rows_are_an_image()
-    ensures image { (t : Tables) (db : Database) → HoldsRows Version.Three t db
-        → db.schema ≡ our_schema → HasApart db → IsImage t db }
+    ensures image { (v : OfVersion) (t : Tables) (db : Database) → HoldsRows v t db
+        → IsDatabase db → StandAsMade db → IsImage t db }
+    ensures stands { (t : Tables) (db : Database) → IsImage t db → StandAsMade db }
     ensures held { (t : Tables) (db : Database) → IsImage t db → HoldsRows Version.Three t db }
 {}
 

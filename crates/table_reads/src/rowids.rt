@@ -1,6 +1,7 @@
 //! Rowids are read.
-ghost use Rattle.std.specs.Prelude.{◌≡◌, [], ◌∷◌, false, map, IfOk, IsPermutation, IsTrue};
-ghost use Rattle.std.specs.Prelude.{MatchOption};
+ghost use Rattle.std.specs.Prelude.{◌≡◌, ◌↔◌, ℕ, false, map, IfOk, IsPermutation, IsSortedByKey};
+ghost use Rattle.std.specs.Prelude.{IsTrue, MatchOption, OnOk};
+ghost use Rattle.std.specs.Ordering.{int_cmp};
 ghost use Rattle.sqlite.specs.Held.{state};
 ghost use Rattle.sqlite.specs.State.{HasCleanDisk, Survives};
 ghost use Rattle.sqlite.specs.Tree.{rowid};
@@ -8,8 +9,9 @@ ghost use Rattle.sqlite.specs.Value.{owned};
 ghost use Rattle.sqlite.specs.declared.types.Value.TheVariants.{Int};
 ghost use Rattle.sql_base.specs.Ends.{IsKept};
 ghost use Rattle.sql_tables.specs.Tables.{our_schema};
-ghost use Rattle.table_reads.specs.Rowids.{AreApartIn, AreRising, HasApart, IsRisingFrom};
-ghost use Rattle.table_reads.specs.Rowids.{int_in};
+ghost use Rattle.sql_base.specs.Rowids.{AreApart};
+ghost use Rattle.table_reads.specs.Rowids.{AreRising, AsksRowids, HasApart, IsRisingFrom};
+ghost use Rattle.table_reads.specs.Rowids.{int_in, rowid_int};
 ghost use Rattle.table_reads.specs.Texts.{rowid_texts};
 
 use crate::values::value_at;
@@ -29,7 +31,7 @@ fn int_or_zero(value: ValueRef<'_>) -> i64
 }
 
 fn rowid_in(row: &Row) -> Option<i64>
-    ensures { MatchOption result (Int (int_in (rowid row.now)) ≡ rowid row.now → ⊥)
+    ensures { MatchOption result (Int (rowid_int row.now) ≡ rowid row.now → ⊥)
         (λ z. Int z ≡ rowid row.now) }
 {
     match value_at(row, 0) {
@@ -40,7 +42,7 @@ fn rowid_in(row: &Row) -> Option<i64>
 
 // Whether each rowid is an integer above the one before it, the first of them above this one.
 fn is_rising_from(rows: &[Row], floor: i64) -> bool
-    ensures { IsTrue result → IsRisingFrom floor rows.now }
+    ensures { IsTrue result ↔ IsRisingFrom floor rows.now }
 {
     let mut rest = rows;
     let mut last = floor;
@@ -58,7 +60,7 @@ fn is_rising_from(rows: &[Row], floor: i64) -> bool
 }
 
 fn are_rising(rows: &[Row]) -> bool
-    ensures { IsTrue result → AreRising rows.now }
+    ensures { IsTrue result ↔ AreRising rows.now }
 {
     match rows {
         [] => true,
@@ -72,20 +74,25 @@ fn are_rising(rows: &[Row]) -> bool
 // Sorts rows by their rowids. They are read in the order of an index where one has all that is
 // asked for.
 fn sort_rowids(rows: &mut Vec<Row>) -> Result<(), AllocError>
-    ensures { IsPermutation rows.old.items rows.new.items }
+    ensures same { IsPermutation rows.old.items rows.new.items }
+    ensures sorted { OnOk result (IsSortedByKey rowid_int int_cmp rows.new.items) }
 {
-    rows.sort_by_key(|row: &Row| -> i64 { int_or_zero(value_at(row, 0)) })?;
+    rows.sort_by_key(
+        |row: &Row| -> i64
+            ensures { result ≡ rowid_int row.now }
+        { int_or_zero(value_at(row, 0)) },
+    )?;
     Ok(())
 }
 
-// Whether the rowids that a text asks for rise once they are sorted. Then those of the table are
+// Whether the rowids that a text asks for rise once they are sorted: whether those of the table are
 // apart.
 fn has_rising<S: Alter>(conn: &mut Connection<S>, sql: &str) -> Result<bool, Error>
     requires { conn.old.in_transaction ≡ false }
     ensures told { HasCleanDisk (state S.Store conn.new) → IfOk result
-        (λ rising. IsTrue (state S.Store conn.old).is_open
-        × (IsTrue rising → AreApartIn
-        (sql.now ∷ []) (state S.Store conn.old).now)) }
+        (λ rising. IsTrue (state S.Store conn.old).is_open × ((tree : ℕ)
+        → AsksRowids (state S.Store conn.old).now.schema sql.now tree
+        → IsTrue rising ↔ AreApart ((state S.Store conn.old).now.trees tree))) }
     ensures kept { HasCleanDisk (state S.Store conn.new)
         → IsKept (state S.Store conn.old) (state S.Store conn.new) }
     ensures idle { conn.new.in_transaction ≡ false }
@@ -116,14 +123,14 @@ fn rowid_texts() -> &'static [&'static str]
     ]
 }
 
-/// Whether the rowids of our own tables rise once they are sorted, so that no two rows of a table
+/// Whether the rowids of our own tables rise once they are sorted: whether no two rows of a table
 /// have one. Nothing is changed, and a crash leaves what it could leave before.
 pub fn has_apart_rowids<S: Alter>(conn: &mut Connection<S>) -> Result<bool, Error>
     requires { conn.old.in_transaction ≡ false }
     ensures told { HasCleanDisk (state S.Store conn.new) → IfOk result
-        (λ rising. IsTrue (state S.Store conn.old).is_open
-        × (IsTrue rising → (state S.Store conn.old).now.schema ≡ our_schema
-        → HasApart (state S.Store conn.old).now)) }
+        (λ apart. IsTrue (state S.Store conn.old).is_open
+        × ((state S.Store conn.old).now.schema ≡ our_schema
+        → IsTrue apart ↔ HasApart (state S.Store conn.old).now)) }
     ensures kept { HasCleanDisk (state S.Store conn.new)
         → IsKept (state S.Store conn.old) (state S.Store conn.new) }
     ensures idle { conn.new.in_transaction ≡ false }

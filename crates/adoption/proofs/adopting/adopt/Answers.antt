@@ -2,7 +2,9 @@ use Rattle.std.proofs.Common.{arith, subst}
 use Rattle.sqlite.specs.Held.{state}
 use Rattle.sqlite.specs.State.{HasCleanDisk}
 use Rattle.adoption.specs.Telling.{Tells}
+use Rattle.adoption.specs.Adopts.{Settles}
 use Rattle.adoption.proofs.Taken.{left_taken, taken}
+use Rattle.adoption.proofs.Unwritten.{leaves_then, only_read}
 use Rattle.adoption.proofs.adopting.adopt.Goals as goal
 
 pub returns-in-Unsound-clause-damaged : goal.returns-in-Unsound-clause-damaged
@@ -15,6 +17,25 @@ returns-in_ok-settle-in-Sound-clause-ok g c clean =
     let early : HasCleanDisk mid = omega (arith, c.settle.ensures.crash.clean) in
     taken c.rows_are_held_in_any_order.ensures c.in-Sound.version c.in-Sound.tables old mid (state g.S.Store c.settle.new.conn) c.in_ok-audit.ensures.kept
     (λ read. subst (λ f. Tells f old.now) c.in-Sound.is (c.in_ok-audit.ensures.told read)) early (c.in_ok-settle-in-Sound.ensures.ok clean)
+
+pub returns-in_ok-settle-in-Sound-clause-unchanged : goal.returns-in_ok-settle-in-Sound-clause-unchanged
+returns-in_ok-settle-in-Sound-clause-unchanged g c =
+    leaves_then (Settles c.in-Sound.version c.in-Sound.tables) (state g.S.Store c.args.conn.now) (state g.S.Store c.audit.new.conn) (state g.S.Store c.settle.new.conn) c.in_ok-audit.ensures.kept c.in_ok-audit.ensures.survives
+    c.settle.result c.settle.ensures.ok c.settle.ensures.kept c.settle.ensures.crash c.settle.ensures.unchanged
+
+pub returns-in_err-settle-in-Sound-clause-unchanged : goal.returns-in_err-settle-in-Sound-clause-unchanged
+returns-in_err-settle-in-Sound-clause-unchanged g c =
+    leaves_then (Settles c.in-Sound.version c.in-Sound.tables) (state g.S.Store c.args.conn.now) (state g.S.Store c.audit.new.conn) (state g.S.Store c.settle.new.conn) c.in_ok-audit.ensures.kept c.in_ok-audit.ensures.survives
+    c.settle.result c.settle.ensures.ok c.settle.ensures.kept c.settle.ensures.crash c.settle.ensures.unchanged
+
+pub returns-in_err-audit-clause-unchanged : goal.returns-in_err-audit-clause-unchanged
+returns-in_err-audit-clause-unchanged g c clean stand = only_read (state g.S.Store c.args.conn.now) (state g.S.Store c.audit.new.conn) c.audit.ensures.kept c.audit.ensures.survives clean
+
+pub returns-in-NotOurs-clause-unchanged : goal.returns-in-NotOurs-clause-unchanged
+returns-in-NotOurs-clause-unchanged g c clean stand = only_read (state g.S.Store c.args.conn.now) (state g.S.Store c.audit.new.conn) c.audit.ensures.kept c.audit.ensures.survives clean
+
+pub returns-in-Unsound-clause-unchanged : goal.returns-in-Unsound-clause-unchanged
+returns-in-Unsound-clause-unchanged g c clean stand = only_read (state g.S.Store c.args.conn.now) (state g.S.Store c.audit.new.conn) c.audit.ensures.kept c.audit.ensures.survives clean
 
 pub returns-in_ok-settle-in-Sound-clause-crash : goal.returns-in_ok-settle-in-Sound-clause-crash
 returns-in_ok-settle-in-Sound-clause-crash g c =

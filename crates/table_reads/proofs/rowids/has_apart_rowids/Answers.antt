@@ -1,9 +1,9 @@
-use Rattle.std.proofs.Common.{[], ◌∙◌, ap, length, map, take, get_or, subst, sym, arith, rules}
-use Rattle.std.proofs.lemmas.List.{length-map, map_more, take_all}
+use Rattle.std.proofs.Common.{[], ◌∙◌, ap, length, get_or, refl, sym, arith, rules}
+use Rattle.std.proofs.lemmas.List.{get_or-map, length-map, take_all}
 use Rattle.sqlite.specs.State.{HasCleanDisk}
 use Rattle.sqlite.specs.Held.{state}
-use Rattle.table_reads.specs.Rowids.{AreApartIn}
-use Rattle.table_reads.proofs.After.{at_ours, further, kept_then}
+use Rattle.sql_tables.specs.Tables.{our_schema}
+use Rattle.table_reads.proofs.After.{all_apart, at_fault, kept_then, one_more, told_before}
 use Rattle.table_reads.proofs.rowids.has_apart_rowids.Goals as goal
 
 pub loop-text-preserved : goal.loop-text-preserved
@@ -19,19 +19,45 @@ loop-text-preserved g c =
     record {
       idle = c.has_rising.ensures.idle;
       was_open = λ clean some. (before.kept (early clean)).was_open (c.in_ok-has_rising.ensures.told clean).0;
-      apart = λ clean.
+      apart = λ clean ours.
           let told = c.in_ok-has_rising.ensures.told clean in
-          subst (λ texts. AreApartIn texts old.now) (sym (map_more (λ t. t.now) xs k _ c.loop-text-test.true))
-          (further old mid (map (λ t. t.now) (take k xs)) x.now (before.kept (early clean)) told.0 (before.apart (early clean)) (told.1 c.if-not-branch.false));
+          one_more old.now ours k (omega (arith, ap length c.rowid_texts-text-items.ensures, length-map xs (λ t. t.now))) x.now
+          (sym (get_or-map (λ t. t.now) xs k (record { ref_ptr = (0, 0); now = [] }) [] c.loop-text-test.true) ∙ ap (λ texts. get_or texts k []) c.rowid_texts-text-items.ensures)
+          _ (told_before old mid x.now _ (before.kept (early clean)) told.0 told.1) c.if-not-branch.false (before.apart (early clean) ours);
       kept = λ clean. kept_then old mid new (before.kept (early clean)) (c.has_rising.ensures.kept clean);
       survives = search rules;
     }
 
+pub returns-then-not-branch-clause-told : goal.returns-then-not-branch-clause-told
+returns-then-not-branch-clause-told g c clean =
+    let old = state g.S.Store c.args.conn.now in
+    let mid = state g.S.Store c.loop-text.conn in
+    let early : HasCleanDisk mid = omega (arith, c.has_rising.ensures.survives.clean) in
+    let k = c.loop-text.text-index in
+    let xs = c.rowid_texts-text-items.result.now in
+    let x = get_or xs k (record { ref_ptr = (0, 0); now = [] }) in
+    let kept = c.loop-text.invariant.kept early in
+    let told = c.in_ok-has_rising.ensures.told clean in (
+      kept.was_open told.0,
+      λ ours. (
+        (λ rises. absurd (cc)),
+        (λ apart.
+            let rises = at_fault old.now ours k (omega (arith, ap length c.rowid_texts-text-items.ensures, length-map xs (λ t. t.now))) x.now
+            (sym (get_or-map (λ t. t.now) xs k (record { ref_ptr = (0, 0); now = [] }) [] c.loop-text-test.true) ∙ ap (λ texts. get_or texts k []) c.rowid_texts-text-items.ensures)
+            _ (told_before old mid x.now _ kept told.0 told.1) apart in
+            sym c.if-not-branch.true ∙ rises),
+      ),
+    )
+
 pub returns-clause-told : goal.returns-clause-told
 returns-clause-told g c clean =
     let xs = c.rowid_texts-text-items.result.now in
-    let all = ap (map (λ t. t.now)) (take_all c.loop-text.text-index xs c.loop-text-test.false) ∙ c.rowid_texts-text-items.ensures in
+    let long = length-map xs (λ t. t.now) in
+    let k = c.loop-text.text-index in
     let db = (state g.S.Store c.args.conn.now).now in (
-      c.loop-text.invariant.was_open clean (omega (arith, ap length c.rowid_texts-text-items.ensures, length-map xs (λ t. t.now))),
-      λ is. at_ours db (subst (λ texts. AreApartIn texts db) all (c.loop-text.invariant.apart clean)),
+      c.loop-text.invariant.was_open clean (omega (arith, ap length c.rowid_texts-text-items.ensures, long)),
+      λ ours. (
+        (λ rises. all_apart k db (take_all k our_schema.tables (omega (arith, ap length c.rowid_texts-text-items.ensures, long))) (c.loop-text.invariant.apart clean ours)),
+        (λ apart. refl),
+      ),
     )
