@@ -1,5 +1,5 @@
 -- What a store knows of records stays so behind its commits, and begins with nothing.
-use Rattle.std.proofs.Common.{◌≡◌, [], All, Result, Ok, Err, OnErr, OnOk, sym, subst}
+use Rattle.std.proofs.Common.{◌≡◌, All, IfSome, Result, Ok, Err, OnErr, OnOk, sym, subst}
 use Rattle.std.proofs.Math.Logic.{∥∥₁_map}
 use Rattle.std.proofs.lemmas.List.Elements.{All-nil}
 use Rattle.sqlite.specs.Effect.{Database}
@@ -19,7 +19,7 @@ use Rattle.sql_tables.specs.Opening.{MakesAll}
 use Rattle.row_reads.specs.Reads.{Looks}
 use Rattle.store_reads.specs.declared.known.Known.{Known}
 use Rattle.store_reads.specs.Fixed.{fixed}
-use Rattle.store_reads.specs.Known.{AreKnownIn, HasKnown, IsKnownIn, Knows, known_records}
+use Rattle.store_reads.specs.Known.{HasKnown, IsAllKnownIn, IsKnownIn, Knows, KnowsNothing, StandsIn}
 use Rattle.store_reads.proofs.Knowing.{knows_after}
 use Rattle.adoption.specs.Adopts.{Adopts}
 use Rattle.adoption.specs.Comes.{Comes}
@@ -28,8 +28,8 @@ use Rattle.schema.proofs.Founding.{founded}
 -- ---- a commit
 
 module _ (w : Writing) (entry : Entry) (old new : State) (before after : Known) (knows : Knows old before) (early : HasCleanDisk new → HasCleanDisk old)
-    (stays : (t : Tables) → AreKnownIn t (known_records before) → AreKnownIn t (known_records after))
-    (moves : (t : Tables) → AreKnownIn t (known_records before) → AreKnownIn (rows_written w entry t) (known_records after)) where
+    (stays : (t : Tables) → IsAllKnownIn t before → IsAllKnownIn t after)
+    (moves : (t : Tables) → IsAllKnownIn t before → IsAllKnownIn (rows_written w entry t) after) where
   pub knows_written : {X : Type 0} (r : Result X Error) → (HasCleanDisk new → OnOk r (Ends (Moves (rows_written w entry)) old new)) → (HasCleanDisk new → OnErr r (IsKept old new)) → Knows new after
   knows_written (Ok x) ok err clean live =
       let k = ok clean in
@@ -40,16 +40,19 @@ module _ (w : Writing) (entry : Entry) (old new : State) (before after : Known) 
 
 -- ---- the beginning
 
-none_known : (t : Tables) (known : Known) → known_records known ≡ [] → AreKnownIn t (known_records known)
-none_known t known none apart = subst (All (IsKnownIn (fixed t))) (sym none) (All-nil (IsKnownIn (fixed t)))
+none_known : (t : Tables) (known : Known) → KnowsNothing known → IsAllKnownIn t known
+none_known t known none = record {
+  records = λ apart. subst (All (IsKnownIn (fixed t))) (sym none.records) (All-nil (IsKnownIn (fixed t)));
+  standing = subst (λ o. IfSome o (StandsIn t)) (sym none.standing) tt;
+}
 
-has_none : (t : Tables) (db : Database) (known : Known) → known_records known ≡ [] → IsImage t db → HasKnown db known
+has_none : (t : Tables) (db : Database) (known : Known) → KnowsNothing known → IsImage t db → HasKnown db known
 has_none t db known none is = record { rows = ∣ (t, is, none_known t known none) ∣₁ }
 
-pub knows_created : (old new : State) (known : Known) → known_records known ≡ [] → old.now.schema ≡ no_schema → (HasCleanDisk new → Ends MakesAll old new) → Knows new known
+pub knows_created : (old new : State) (known : Known) → KnowsNothing known → old.now.schema ≡ no_schema → (HasCleanDisk new → Ends MakesAll old new) → Knows new known
 knows_created old new known none empty made clean live = has_none (image no_contents) new.now known none (founded old.now new.now empty (made clean).made)
 
-pub knows_adopted : (old new : State) (known : Known) → known_records known ≡ [] → (HasCleanDisk new → Comes Adopts old new) → Knows new known
+pub knows_adopted : (old new : State) (known : Known) → KnowsNothing known → (HasCleanDisk new → Comes Adopts old new) → Knows new known
 knows_adopted old new known none comes clean live =
     let k = comes clean in
     has_none (image k.made.contents) new.now known none (subst (IsImage (image k.made.contents)) (sym (k.shown live)) k.made.stands)

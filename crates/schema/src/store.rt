@@ -132,7 +132,7 @@ impl<S: Alter> JobStore for SqlStore<S> {
     }
 
     fn first_waiting(&mut self, batch: &Name) -> Result<Option<Name>, StoreFault> {
-        let answer = reads::first_waiting(&mut self.conn, batch);
+        let answer = reads::first_waiting(&mut self.conn, &mut self.known, batch);
         self.counts.told(answer)
     }
 

@@ -14,30 +14,33 @@ use Rattle.job_facts.specs.Contents.{AreSound, Contents}
 use Rattle.job_facts.specs.Facts.{Facts}
 use Rattle.job_facts.specs.Rows.{segment_row_of}
 use Rattle.job_facts.specs.Sound.{IsSound}
-use Rattle.job_facts.specs.States.{plan_for}
-use Rattle.table_rows.specs.Keys.{is_batch, is_batch_named, is_grouping_at, is_record_at, is_record_named, is_session}
+use Rattle.job_facts.specs.States.{first_waiting, plan_for}
+use Rattle.table_rows.specs.Keys.{is_batch, is_batch_named, is_grouping_at, is_record_at, is_record_named, is_session, is_waiting_of}
 use Rattle.table_rows.specs.Tables.{PassesOnce, StoredBatch, StoredRecord}
 use Rattle.image_laws.specs.Image.{image, stored_batches, stored_groupings, stored_records, stored_sessions}
-use Rattle.row_laws.specs.Telling.{plan_in, session_in}
+use Rattle.row_laws.specs.Telling.{plan_in, session_in, waiting_in}
 use Rattle.row_reads.specs.declared.groupings.CodedAt.{CodedAt}
 use Rattle.row_reads.specs.declared.sessions.SessionAt.{SessionAt}
-use Rattle.row_reads.specs.CardDecoding.{coded_at, coded_line, grouping_at, is_of_segment, line_of, session_at}
+use Rattle.row_reads.specs.CardDecoding.{coded_at, coded_line, grouping_at, is_of_segment, line_of, place_of, record_at, session_at}
 use Rattle.row_reads.specs.Extremes.{AreSorted}
-use Rattle.row_reads.specs.Reads.{Looks}
+use Rattle.row_reads.specs.Reads.{Looks, TellsRows}
 use Rattle.sql_rows.specs.Image.{IsImage}
 use Rattle.store_reads.specs.declared.known.Known.{Known}
 use Rattle.store_reads.specs.declared.known.KnownRecord.{KnownRecord}
 use Rattle.store_reads.specs.declared.plans.SegmentHead.{SegmentHead}
 use Rattle.store_reads.specs.declared.segments.BatchProduct.{BatchProduct}
 use Rattle.store_reads.specs.Fixed.{AreNamedApart, fixed}
-use Rattle.store_reads.specs.Known.{IsKnownIn, Knows, TellsKnown, TellsSome, known_records}
+use Rattle.store_reads.specs.Known.{IsAllKnownIn, IsKnownIn, Knows, TellsKnown, TellsSome, known_records}
 use Rattle.store_reads.specs.Segments.{head_at, plan_at, row_in_plan}
 use Rattle.store_reads.specs.Sessions.{row_named}
+use Rattle.store_reads.specs.Tells.{Tells}
+use Rattle.store_reads.specs.Waiting.{IsFirstWaiting}
 use Rattle.store_reads.proofs.Found.{session_told}
-use Rattle.store_reads.proofs.KnownRows.{batch_with_id, known_in, names_apart, product_with_name, record_with_name, record_with_place}
+use Rattle.store_reads.proofs.KnownRows.{all_known_in, batch_with_id, id_with_name, known_in, names_apart, product_with_name, record_with_name, record_with_place}
 use Rattle.store_reads.proofs.Ordered.{Rises}
 use Rattle.store_reads.proofs.SegmentRows.{row_of_head, row_with_head, row_without_head, segment_told}
 use Rattle.store_reads.proofs.Telling.{Shows, ShowsRows}
+use Rattle.store_reads.proofs.Waiting.{first_waits}
 
 pub sound_apart : ((f : Facts) (n : List ℕ) → IsSound f → PassesOnce (is_batch_named n) (stored_batches f)) → ((f : Facts) (id : ℕ) (n : List ℕ) → PassesOnce (is_record_named id n) (stored_records f))
     → (c : Contents) → AreSound c → AreNamedApart (fixed (image c))
@@ -62,6 +65,25 @@ module _ (c : Contents) (k : KnownRecord) (known : ∥ IsKnownIn (fixed (image c
       → Some (row_named s k.batch k.rec) ≡ session_in (stored_sessions c.facts) (stored_batches c.facts) (stored_records c.facts) id
   session_by_known id s s_is id_is place_is =
       session_told (stored_sessions c.facts) (stored_batches c.facts) (stored_records c.facts) id s s_is k.batch (batch_named s.batch id_is) k.rec (record_named s.batch s.place id_is place_is)
+
+-- ---- the first record that waits
+
+-- of a batch of which a record is known
+pub waiting_by_known : (old new : State) (known : Known) (k : KnownRecord) (b : List ℕ) → Knows old known → Contains (known_records known) k → k.batch ≡ b → Looks old new
+    → ((c : Contents) → AreSound c → AreNamedApart (fixed (image c))) → ((f : Facts) → Rises record_at place_of (filter (is_waiting_of k.id) (stored_records f)))
+    → ((f : Facts) → first_waiting f b ≡ waiting_in (stored_batches f) (stored_records f) b)
+    → (result : Result (Option (List ℕ)) Error) → TellsRows old new result (IsFirstWaiting k.id) → Tells old new result (λ c answer. answer ≡ first_waiting c.facts b)
+waiting_by_known old new known k b knows there is looks apart rising law (Err e) told = λ clean. tt
+waiting_by_known old new known k b knows there is looks apart rising law (Ok name) told = λ clean.
+    let early : HasCleanDisk old = omega (arith, clean, looks.survives.clean) in
+    let s = told clean in (
+      s.0,
+      λ c sound image_is.
+          let id : Some k.id ≡ option_map (λ (row : StoredBatch). row.id) (find (is_batch_named b) (stored_batches c.facts)) =
+          ∥∥₁_elim (known_in old known knows early s.0 k there (image c) image_is (apart c sound)) (search props)
+          (λ it. subst (λ n. Some k.id ≡ option_map (λ (row : StoredBatch). row.id) (find (is_batch_named n) (stored_batches c.facts))) is (id_with_name (image c) k it (apart c sound))) in
+          first_waits (stored_batches c.facts) (stored_records c.facts) b k.id id (rising c.facts) name (s.1 (image c) image_is) ∙ sym (law c.facts),
+    )
 
 -- ---- a segment
 
@@ -105,14 +127,17 @@ module _ (k : KnownRecord) (b r : List ℕ) (b_is : k.batch ≡ b) (r_is : k.rec
       )
 
   -- a record that was read before
-  pub segment_by_read : (old mid new : State) → Looks old mid → Looks mid new → (HasCleanDisk mid → ShowsRows old (λ t. AreNamedApart (fixed t) → IsKnownIn (fixed t) k))
-      → ((c : Contents) → AreSound c → AreNamedApart (fixed (image c)))
+  pub segment_by_read : (old mid new : State) (known : Known) → Knows old known → Looks old mid → Looks mid new
+      → (HasCleanDisk mid → ShowsRows old (λ t. AreNamedApart (fixed t) → IsAllKnownIn t known → IsKnownIn (fixed t) k)) → ((c : Contents) → AreSound c → AreNamedApart (fixed (image c)))
       → (answer : Option SegmentRow) → (HasCleanDisk new → (c : Contents) → AreSound c → (IsTrue mid.is_open → IsImage (image c) mid.now) → IsKnownIn (fixed (image c)) k → answer ≡ segment_row_of c.facts k.batch k.rec a q)
       → HasCleanDisk new → Shows old (λ c. answer ≡ segment_row_of c.facts b r a q)
-  segment_by_read old mid new one two shows apart answer told clean =
+  segment_by_read old mid new known knows one two shows apart answer told clean =
       let early : HasCleanDisk mid = omega (arith, clean, two.survives.clean) in
+      let first : HasCleanDisk old = omega (arith, early, one.survives.clean) in
       let s = shows early in (
         s.0,
         λ c sound is.
-            told clean c sound (λ live. subst (IsImage (image c)) (sym ((one.kept early).now_is live)) is) (s.1 (image c) is (apart c sound)) ∙ of_names c.facts,
+            ∥∥₁_elim (all_known_in old known knows first s.0 (image c) is) (Coded-set (coded_option the_row.coded) _ _)
+            (λ all. told clean c sound (λ live. subst (IsImage (image c)) (sym ((one.kept early).now_is live)) is) (s.1 (image c) is (apart c sound) all))
+            ∙ of_names c.facts,
       )

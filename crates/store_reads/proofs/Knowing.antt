@@ -1,6 +1,6 @@
 -- What is known stays so behind a read, and behind what is written; and what is read of a record is
 -- known from then on.
-use Rattle.std.proofs.Common.{◌≡◌, ◌⊎◌, inl, inr, true, List, All, Contains, sym, subst, arith}
+use Rattle.std.proofs.Common.{◌≡◌, ◌⊎◌, ℕ, inl, inr, true, List, All, Contains, Some, IfSome, sym, subst, arith}
 use Rattle.std.proofs.Math.Logic.{∥∥₁_map}
 use Rattle.std.proofs.lemmas.List.Elements.{All-contains, All-contains_itself, All-weaker}
 use Rattle.sqlite.specs.State.{HasCleanDisk, State}
@@ -9,11 +9,13 @@ use Rattle.table_rows.specs.After.{rows_written}
 use Rattle.table_rows.specs.Tables.{Tables}
 use Rattle.table_rows.specs.declared.writing.Writing.{Writing}
 use Rattle.sql_rows.specs.Image.{IsImage}
+use Rattle.row_reads.specs.declared.records.RecordAt.{RecordAt}
 use Rattle.row_reads.specs.Reads.{Looks}
 use Rattle.store_reads.specs.declared.known.Known.{Known}
 use Rattle.store_reads.specs.declared.known.KnownRecord.{KnownRecord}
+use Rattle.store_reads.specs.declared.known.StandingRecord.{StandingRecord}
 use Rattle.store_reads.specs.Fixed.{AreNamedApart, fixed, leaves_fixed}
-use Rattle.store_reads.specs.Known.{AreKnownIn, HasKnown, IsKnownIn, Knows, known_records}
+use Rattle.store_reads.specs.Known.{AreKnownIn, HasKnown, IsAllKnownIn, IsKnownIn, Knows, StandsIn, known_records, standing_record}
 use Rattle.store_reads.proofs.Fixing.{written_fixed}
 use Rattle.store_reads.proofs.Telling.{ShowsRows}
 
@@ -26,9 +28,10 @@ knows_after a b known looks knows clean live =
     subst (λ db. HasKnown db known) (sym (k.now_is live)) (knows (omega (arith, clean, looks.survives.clean)) (k.was_open live))
 
 -- what was read of a record, of the rows as they stood, is known beside the rest
-pub knows_more : (a b c : State) (old new : Known) (read : KnownRecord) → Looks a b → Looks b c → (HasCleanDisk b → ShowsRows a (λ t. AreNamedApart (fixed t) → IsKnownIn (fixed t) read)) → Knows a old
-    → ((k : KnownRecord) → Contains (known_records new) k → (k ≡ read) ⊎ Contains (known_records old) k) → Knows c new
-knows_more a b c old new read one two shows knows each clean live =
+pub knows_more : (a b c : State) (old new : Known) (read : KnownRecord) → Looks a b → Looks b c
+    → (HasCleanDisk b → ShowsRows a (λ t. AreNamedApart (fixed t) → IsAllKnownIn t old → IsKnownIn (fixed t) read)) → Knows a old
+    → ((k : KnownRecord) → Contains (known_records new) k → (k ≡ read) ⊎ Contains (known_records old) k) → standing_record new ≡ standing_record old → Knows c new
+knows_more a b c old new read one two shows knows each same clean live =
     let early : HasCleanDisk b = omega (arith, clean, two.survives.clean) in
     let first : HasCleanDisk a = omega (arith, early, one.survives.clean) in
     let k = two.kept clean in
@@ -38,11 +41,31 @@ knows_more a b c old new read one two shows knows each clean live =
       rows = ∥∥₁_map (knows first (j.was_open mid)).rows (λ it. (
         it.0,
         subst (IsImage it.0) (sym (k.now_is live)) (subst (IsImage it.0) (sym (j.now_is mid)) it.1),
-        λ apart. All-weaker (Contains (known_records new)) (IsKnownIn (fixed it.0))
-            (λ x there. elim (each x there) [
-              | inl same ↦ subst (IsKnownIn (fixed it.0)) (sym same) ((shows early).1 it.0 it.1 apart)
-              | inr before ↦ All-contains (IsKnownIn (fixed it.0)) (known_records old) x (it.2 apart) before
-            ])
-            (known_records new) (All-contains_itself (known_records new)),
+        record {
+          records = λ apart. All-weaker (Contains (known_records new)) (IsKnownIn (fixed it.0))
+              (λ x there. elim (each x there) [
+                | inl same ↦ subst (IsKnownIn (fixed it.0)) (sym same) ((shows early).1 it.0 it.1 apart it.2)
+                | inr before ↦ All-contains (IsKnownIn (fixed it.0)) (known_records old) x (it.2.records apart) before
+              ])
+              (known_records new) (All-contains_itself (known_records new));
+          standing = subst (λ o. IfSome o (StandsIn it.0)) (sym same) it.2.standing;
+        },
+      ));
+    }
+
+-- and how a record stands, in place of another
+pub knows_standing : (a b : State) (old new : Known) (id : ℕ) (card : RecordAt) → Looks a b → (HasCleanDisk b → ShowsRows a (λ t. StandsIn t (let s : StandingRecord = record { batch = id; card = card } in s)))
+    → Knows a old → known_records new ≡ known_records old → standing_record new ≡ Some (let s : StandingRecord = record { batch = id; card = card } in s) → Knows b new
+knows_standing a b old new id card looks shows knows same is clean live =
+    let k = looks.kept clean in
+    let early : HasCleanDisk a = omega (arith, clean, looks.survives.clean) in
+    record {
+      rows = ∥∥₁_map (knows early (k.was_open live)).rows (λ it. (
+        it.0,
+        subst (IsImage it.0) (sym (k.now_is live)) it.1,
+        record {
+          records = subst (AreKnownIn it.0) (sym same) it.2.records;
+          standing = subst (λ o. IfSome o (StandsIn it.0)) (sym is) ((shows clean).1 it.0 it.1);
+        },
       ));
     }

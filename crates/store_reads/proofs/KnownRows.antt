@@ -1,12 +1,12 @@
 -- A record that is known in rows: in any order of them, and by look-ups among them.
-use Rattle.std.proofs.Common.{◌≡◌, ◌==◌, ◌&&◌, ℕ, zero, suc, ◌<◌, Bool, true, false, inl, inr, List, [], ◌∷◌, Contains, length, get_or, map, Option, Some, None, IsTrue, refl, sym, ap, subst, ◌∙◌, arith}
+use Rattle.std.proofs.Common.{◌≡◌, ◌==◌, ◌&&◌, ℕ, zero, suc, ◌<◌, Bool, true, false, inl, inr, List, [], ◌∷◌, All, Contains, length, get_or, map, Option, Some, None, IfSome, IsTrue, refl, sym, ap, subst, ◌∙◌, arith}
 use Rattle.std.specs.Prelude.{AllPairs, bytes_eq, filter, find, option_and_then, option_map}
 use Rattle.std.specs.List.Sorted.{IsPermutation}
 use Rattle.std.proofs.Math.Logic.{∥∥₁_map}
 use Rattle.std.proofs.lemmas.Bool.{and_from, and_parts, both_ways, cases_Bool, cond-false, cond-true}
 use Rattle.std.proofs.lemmas.Bool.Decides.{nat_tests}
 use Rattle.std.proofs.lemmas.List.{get_or-map, length-map}
-use Rattle.std.proofs.lemmas.List.Elements.{All-contains, All-contains_itself}
+use Rattle.std.proofs.lemmas.List.Elements.{All-cons, All-contains, All-contains_itself, All-filter, All-head, All-nil, All-tail, All-weaker, filter_passes}
 use Rattle.std.proofs.lemmas.List.Sorted.{Contains-permutation, IsPermutation-map, IsPermutation-sym, IsPermutation-trans}
 use Rattle.std.proofs.lemmas.Map.Keys.{IsDistinct-IsPermutation, IsDistinct-from_apart, apart_from_distinct}
 use Rattle.sqlite.specs.State.{HasCleanDisk, State}
@@ -18,20 +18,23 @@ use Rattle.job_facts.specs.States.{product_named}
 use Rattle.job_facts.proofs.Lists.{find-All}
 use Rattle.step_laws.proofs.BlankSums.{bytes_eq_either, named_once}
 use Rattle.step_laws.proofs.Permuted.{IsPermutation-filter}
-use Rattle.table_rows.specs.Keys.{is_batch, is_batch_named, is_grouping_at, is_record_at, is_record_named}
+use Rattle.sql_base.proofs.Selecting.{map_map}
+use Rattle.table_rows.specs.Keys.{is_batch, is_batch_named, is_grouping_at, is_record_at, is_record_named, is_waiting_of}
 use Rattle.table_rows.specs.Tables.{HaveSameRows, PassesOnce, StoredBatch, StoredRecord, Tables}
 use Rattle.table_rows.proofs.Found.{find_passes}
 use Rattle.image_laws.specs.Image.{image, stored_batches, stored_records}
 use Rattle.row_laws.proofs.Finding.{AllPairs-from_map, AllPairs-map, find-map}
+use Rattle.row_reads.specs.declared.groupings.GroupingAt.{GroupingAt}
 use Rattle.row_reads.specs.declared.records.RecordAt.{RecordAt}
-use Rattle.row_reads.specs.CardDecoding.{grouping_at, line_of, record_at}
-use Rattle.row_reads.specs.Extremes.{AreSorted}
+use Rattle.row_reads.specs.CardDecoding.{grouping_at, line_of, place_of, record_at}
+use Rattle.row_reads.specs.Extremes.{AreSorted, IsLeastBy}
 use Rattle.sql_rows.specs.Image.{IsImage}
 use Rattle.sql_rows.proofs.OneImage.{one_image}
 use Rattle.store_reads.specs.declared.known.Known.{Known}
 use Rattle.store_reads.specs.declared.known.KnownRecord.{KnownRecord}
+use Rattle.store_reads.specs.declared.known.StandingRecord.{StandingRecord}
 use Rattle.store_reads.specs.Fixed.{AreNamedApart, FixedBatch, FixedRecord, fixed, fixed_batch, fixed_record, is_named, is_named_in}
-use Rattle.store_reads.specs.Known.{IsKnownIn, Knows, known_records}
+use Rattle.store_reads.specs.Known.{IsAllKnownIn, IsKnownIn, IsStandingOf, Knows, StandsIn, known_records, standing_of, standing_record}
 use Rattle.store_reads.specs.declared.segments.BatchProduct.{BatchProduct}
 use Rattle.store_reads.specs.Segments.{product_in, product_under}
 use Rattle.store_reads.proofs.Found.{found_some}
@@ -79,13 +82,26 @@ module _ (t u : Tables) (same : HaveSameRows t u) where
     );
   }
 
--- what is known is so of the contents whose rows the database has
+  standing_moved : (o : Option StandingRecord) → IfSome o (StandsIn t) → IfSome o (StandsIn u)
+  standing_moved None there = tt
+  standing_moved (Some s) there = Contains-permutation _ _ _ (IsPermutation-map standing_of _ _ same.records) there
+
+-- all that is known is so of whatever rows the database has
+pub all_known_in : (s : State) (known : Known) → Knows s known → HasCleanDisk s → IsTrue s.is_open → (t : Tables) → IsImage t s.now → ∥ IsAllKnownIn t known ∥₁
+all_known_in s known knows clean live t is =
+    ∥∥₁_map (knows clean live).rows (λ it.
+    let there : HaveSameRows it.0 t = one_image it.0 t s.now it.1 is in
+    let back : HaveSameRows t it.0 = one_image t it.0 s.now is it.1 in
+    record {
+      records = λ apart. All-weaker (IsKnownIn (fixed it.0)) (IsKnownIn (fixed t)) (known_moved it.0 t there) (known_records known) (it.2.records (names_moved t it.0 back apart));
+      standing = standing_moved it.0 t there (standing_record known) it.2.standing;
+    })
+
+-- so is each record
 pub known_in : (s : State) (known : Known) → Knows s known → HasCleanDisk s → IsTrue s.is_open → (k : KnownRecord) → Contains (known_records known) k
     → (t : Tables) → IsImage t s.now → AreNamedApart (fixed t) → ∥ IsKnownIn (fixed t) k ∥₁
 known_in s known knows clean live k there t is apart =
-    ∥∥₁_map (knows clean live).rows (λ it.
-    known_moved it.0 t (one_image it.0 t s.now it.1 is) k
-    (All-contains (IsKnownIn (fixed it.0)) (known_records known) k (it.2 (names_moved t it.0 (one_image t it.0 s.now is it.1) apart)) there))
+    ∥∥₁_map (all_known_in s known knows clean live t is) (λ it. All-contains (IsKnownIn (fixed t)) (known_records known) k (it.records apart) there)
 
 -- the names of the batches and records of sound contents are apart
 pub names_apart : (c : Contents) → AreNamedOnce (map (λ (p : Product). p.code) c.facts.products) → ((n : List ℕ) → PassesOnce (is_batch_named n) (stored_batches c.facts))
@@ -156,6 +172,11 @@ module _ (t : Tables) (k : KnownRecord) (it : IsKnownIn (fixed t) k) where
         ∙ sym (ap (λ (e : FixedBatch). option_map (λ (p : Product). let e : BatchProduct = record { id = e.id; product = p } in e) (product_named t.products e.product)) b.2)
         ∙ ap (option_map (λ (p : Product). let e : BatchProduct = record { id = k.id; product = p } in e)) p)
 
+    pub id_with_name : Some k.id ≡ option_map (λ (b : StoredBatch). b.id) (find (is_batch_named k.batch) t.batches)
+    id_with_name =
+        let b = found_by_part fixed_batch (is_named k.batch) t.batches batch_part it.batch (batches_once t apart k.batch) (bytes_eq-same k.batch) in
+        ap (λ (e : FixedBatch). Some e.id) b.2 ∙ sym (ap (option_map (λ (b : StoredBatch). b.id)) b.1)
+
     pub record_with_name : (x : RecordAt) × (Some x ≡ option_map record_at (find (is_record_named k.id k.rec) t.records)) × (x.place ≡ k.place)
     record_with_name =
         let r = found_by_part fixed_record (is_named_in k.id k.rec) t.records record_part it.record_there (records_once t apart k.id k.rec)
@@ -202,3 +223,64 @@ read_known t k e e_is x x_is sorted id_is product_is place_is =
           subst (λ n. AreSorted line_of (map grouping_at (filter (is_grouping_at n k.place) t.groupings)) k.groupings.items) (sym id_is)
           (subst (λ n. AreSorted line_of (map grouping_at (filter (is_grouping_at e.id n) t.groupings)) k.groupings.items) (sym place_is) sorted);
     }
+
+-- ---- how a record stands
+
+-- what is found of the record of its name
+pub standing_told : (t : Tables) (known : Known) → IsAllKnownIn t known → (id : ℕ) (n : List ℕ) (card : RecordAt) → IsStandingOf known id n card → PassesOnce (is_record_named id n) t.records
+    → Some card ≡ option_map record_at (find (is_record_named id n) t.records)
+standing_told t known all id n card is =
+    subst (λ m. PassesOnce (is_record_named id m) t.records → Some card ≡ option_map record_at (find (is_record_named id m) t.records)) is.1 (λ once.
+    let s : StandingRecord = record { batch = id; card = card } in
+    let r = found_by_part standing_of (λ (x : StandingRecord). (x.batch == id) && bytes_eq x.card.name card.name) t.records s (subst (λ o. IfSome o (StandsIn t)) is.0 all.standing) once
+    (and_from (id == id) (bytes_eq card.name card.name) (same_number id) (bytes_eq-same card.name)) in
+    ap (λ (x : StandingRecord). Some x.card) r.2 ∙ sym (ap (option_map record_at) r.1))
+
+-- no change touches its place
+stands_there : (t : Tables) (id : ℕ) (card : RecordAt) → StandsIn t (let s : StandingRecord = record { batch = id; card = card } in s)
+    → Contains (map fixed_record t.records) (let r : FixedRecord = record { batch = id; place = card.place; name = card.name } in r)
+stands_there t id card there =
+    let part : StandingRecord → FixedRecord = λ s. record { batch = s.batch; place = s.card.place; name = s.card.name } in
+    subst (λ xs. Contains xs (let r : FixedRecord = record { batch = id; place = card.place; name = card.name } in r)) (map_map part standing_of t.records) (in_map part (map standing_of t.records) _ _ refl there)
+
+-- a record beside a known one of its batch, by how it stands
+pub read_beside : (t : Tables) (known : Known) → AreNamedApart (fixed t) → IsAllKnownIn t known → (o k : KnownRecord) → Contains (known_records known) o → (n : List ℕ) (card : RecordAt) → IsStandingOf known o.id n card
+    → (gs : List GroupingAt) → AreSorted line_of (map grouping_at (filter (is_grouping_at o.id card.place) t.groupings)) gs → k.groupings.items ≡ gs
+    → k.id ≡ o.id → k.batch ≡ o.batch → k.product ≡ o.product → k.place ≡ card.place → k.rec ≡ n → IsKnownIn (fixed t) k
+read_beside t known apart all o k there n card is gs sorted same id_is batch_is product_is place_is rec_is =
+    let it = All-contains (IsKnownIn (fixed t)) (known_records known) o (all.records apart) there in
+    let stands : StandsIn t (let s : StandingRecord = record { batch = o.id; card = card } in s) = subst (λ s. IfSome s (StandsIn t)) is.0 all.standing in
+    record {
+      batch = subst (Contains (map fixed_batch t.batches)) (same_batch_part _ _ _ _ _ _ (sym id_is) (sym batch_is) (sym (ap (λ (p : Product). p.code) product_is))) it.batch;
+      product = subst (Contains t.products) (sym product_is) it.product;
+      record_there = subst (Contains (map fixed_record t.records)) (same_record_part _ _ _ _ _ _ (sym id_is) (sym place_is) (is.1 ∙ sym rec_is)) (stands_there t o.id card stands);
+      groupings =
+          subst (λ n. AreSorted line_of (map grouping_at (filter (is_grouping_at n k.place) t.groupings)) k.groupings.items) (sym id_is)
+          (subst (λ n. AreSorted line_of (map grouping_at (filter (is_grouping_at o.id n) t.groupings)) k.groupings.items) (sym place_is)
+          (subst (AreSorted line_of (map grouping_at (filter (is_grouping_at o.id card.place) t.groupings))) (sym same) sorted));
+    }
+
+-- ---- the first record that waits
+
+module _ (id : ℕ) (all : List StoredRecord) where
+  abbrev IsThere : RecordAt → Type 0
+  IsThere card = Contains (map standing_of all) (record { batch = id; card = card })
+
+  waiting_there : (x : StoredRecord) → is_waiting_of id x ≡ true → Contains all x → IsThere (record_at x)
+  waiting_there x hit there =
+      let both = and_parts (x.batch == id) _ hit in
+      let batch : x.batch ≡ id = grind (arith, nat_tests, both.0) in
+      in_map standing_of all x _ (ap (λ (n : ℕ). let s : StandingRecord = record { batch = n; card = record_at x } in s) (sym batch)) there
+
+  each_there : (xs : List StoredRecord) → All (λ x. is_waiting_of id x ≡ true) xs → All (Contains all) xs → All IsThere (map record_at xs)
+  each_there [] waits there = All-nil IsThere
+  each_there (x ∷ xs) waits there =
+      All-cons IsThere (record_at x) (map record_at xs) (waiting_there x (All-head (λ y. is_waiting_of id y ≡ true) x xs waits) (All-head (Contains all) x xs there))
+      (each_there xs (All-tail (λ y. is_waiting_of id y ≡ true) x xs waits) (All-tail (Contains all) x xs there))
+
+pub waiting_stands : (t : Tables) (id : ℕ) (card : RecordAt) → IsLeastBy place_of (map record_at (filter (is_waiting_of id) t.records)) (Some card)
+    → StandsIn t (let s : StandingRecord = record { batch = id; card = card } in s)
+waiting_stands t id card least =
+    All-contains (IsThere id t.records) (map record_at (filter (is_waiting_of id) t.records)) card
+    (each_there id t.records (filter (is_waiting_of id) t.records) (filter_passes (is_waiting_of id) t.records) (All-filter (is_waiting_of id) (Contains t.records) t.records (All-contains_itself t.records)))
+    least.0

@@ -18,10 +18,8 @@ use Rattle.row_laws.specs.Telling.{place_of}
 use Rattle.image_laws.specs.WritingOf.{IsPlaceOf, IsPlaceOfSession}
 use Rattle.image_laws.specs.Image.{stored_batches, stored_lots, stored_records}
 use Rattle.step_laws.specs.Sums.{discarded_in}
+use Rattle.store_reads.specs.Heads.{place_at}
 use Rattle.store_reads.proofs.Found.{found_some}
-
-abbrev pub place_at : BatchHead → RecordAt → RecordPlace
-place_at h r = record { batch = h.id; place = r.place; spoiled = r.spoiled; remakes = r.remakes; totals = h.totals }
 
 module _ (f : Facts) where
   pub record_placed : (b r : List ℕ) → ((row : StoredBatch) (x : StoredRecord) → find (is_batch_named b) (stored_batches f) ≡ Some row → find (is_record_named row.id r) (stored_records f) ≡ Some x → IsPlaceOf f b r (place_of row x))

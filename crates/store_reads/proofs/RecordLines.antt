@@ -1,6 +1,6 @@
 -- The lines of a batch's records by what is read of them and of its good cards.
 use Rattle.std.proofs.Common.{◌≡◌, ℕ, ◌+◌, ◌<◌, ◌≤◌, ◌==◌, Bool, cond, true, false, List, [], ◌∷◌, ◌++◌, length, take, get_or, map, Option, Some, None, inl, inr, refl, sym, ap, subst, ◌∙◌, arith, IsPermutation}
-use Rattle.std.specs.Prelude.{AllPairs, count_by, filter, find, is_some, option_map, unwrap_or}
+use Rattle.std.specs.Prelude.{AllPairs, IsTrue, count_by, filter, find, is_some, option_map, unwrap_or}
 use Rattle.std.specs.List.{enumerate_from, flat_map}
 use Rattle.std.specs.Option.{option_or}
 use Rattle.std.proofs.lemmas.Bool.{cases_Bool, cond-false, cond-true}
@@ -8,7 +8,7 @@ use Rattle.std.proofs.lemmas.List.{take_more}
 use Rattle.std.proofs.lemmas.Bool.Decides.{nat_tests}
 use Rattle.std.proofs.lemmas.List.Elements.{filter-append}
 use Rattle.std.proofs.lemmas.List.Folds.{find-append}
-use Rattle.std.proofs.lemmas.List.Sums.{sum_by-cons, sum_by_push}
+use Rattle.std.proofs.lemmas.List.Sums.{count_by_more_yes, sum_by-cons, sum_by-take-le, sum_by_push}
 use Rattle.std.proofs.lemmas.Option.{none-some}
 use Rattle.job_facts.specs.Facts.{Batch, Facts}
 use Rattle.job_facts.proofs.Lists.{unmapped}
@@ -132,6 +132,34 @@ module _ (good : List GoodCard) (i : ℕ) (d : GoodCard) (within : i < length go
   pub once_so_far : ((k : ℕ) → count_by (is_card_at k) (take i good) ≤ 1) → (k : ℕ) → count_by (is_card_at k) (take (i + 1) good) ≤ 1
   once_so_far once k =
       subst (λ xs. count_by (is_card_at k) xs ≤ 1) (sym (take_more good i d within)) (once_more (take i good) (get_or good i d) free_so_far k (once k))
+
+-- where something was kept at its place, the place has two cards
+counted_some : (p : GoodCard → Bool) (xs : List GoodCard) → IsTrue (is_some (find p xs)) → 1 ≤ count_by p xs
+counted_some p [] some = absurd cc
+counted_some p (x ∷ xs) some =
+    let sum = sum_by-cons (λ y. cond {A = ℕ} (p y) 1 0) x xs in
+    elim (cases_Bool (p x)) [
+      | inl hit ↦ omega (arith, sum, cond-true {A = ℕ} (p x) 1 0 hit)
+      | inr miss ↦ omega (arith, sum, counted_some p xs (subst (λ o. IsTrue (is_some o)) (cond-false (p x) (Some x) (find p xs) miss) some))
+    ]
+
+found_there : (o : Option GoodCard) → IsTrue (is_some (option_map serial o)) → IsTrue (is_some o)
+found_there None some = some
+found_there (Some g) some = refl
+
+pub two_there : (good : List GoodCard) (i : ℕ) (d : GoodCard) → i < length good → (old : ℕ → Option ℕ) → ((k : ℕ) → old k ≡ blank_of (take i good) k)
+    → IsTrue (is_some (old (get_or good i d).place)) → ((k : ℕ) → count_by (is_card_at k) good ≤ 1) → ⊥
+two_there good i d within old value some once =
+    let k = (get_or good i d).place in
+    let same : is_card_at k (get_or good i d) ≡ true = grind (arith, nat_tests) in
+    let kept : IsTrue (is_some (blank_of (take i good) k)) = subst (λ o. IsTrue (is_some o)) (value k) some in
+    omega (
+      arith,
+      once k,
+      counted_some (is_card_at k) (take i good) (found_there (find (is_card_at k) (take i good)) kept),
+      count_by_more_yes (is_card_at k) good i d within same,
+      sum_by-take-le (λ h. cond {A = ℕ} (is_card_at k h) 1 0) good (i + 1),
+    )
 
 pub nothing : (o : Option ℕ) → is_some o ≡ false → o ≡ None
 nothing None e = refl

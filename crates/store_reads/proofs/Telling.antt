@@ -109,3 +109,13 @@ rows_as a b P Q shows law clean = let s = shows clean in (s.0, λ t is. law t (s
 
 pub rows_both : (a b c : State) (P Q : Tables → Type 0) → Looks a b → Looks b c → (HasCleanDisk b → ShowsRows a P) → (HasCleanDisk c → ShowsRows b Q) → HasCleanDisk c → ShowsRows a (λ t. P t × Q t)
 rows_both a b c P Q one two first second = rows_then a b c P Q (λ t. P t × Q t) one two first second (λ t p q. (p, q))
+
+-- a read of rows behind another that told nothing
+pub rows_later : {T : Type 0} (a b c : State) (r : Result T Error) (P Q : Tables → T → Type 0) → Looks a b → Looks b c → (HasCleanDisk c → IfOk r (λ x. ShowsRows b (λ t. P t x)))
+    → ((t : Tables) (x : T) → P t x → Q t x) → HasCleanDisk c → IfOk r (λ x. ShowsRows a (λ t. Q t x))
+rows_later a b c (Err e) P Q one two told law = λ clean. tt
+rows_later a b c (Ok x) P Q one two told law = λ clean.
+    let early : HasCleanDisk b = omega (arith, clean, two.survives.clean) in
+    let k = one.kept early in
+    let p = told clean in
+    (k.was_open p.0, λ t is. law t x (p.1 t (subst (IsImage t) (sym (k.now_is p.0)) is)))

@@ -26,3 +26,8 @@ module _ (batches : List StoredBatch) (records : List StoredRecord) (b : List �
       let told : option_map (λ (r : RecordAt). r.name) found ≡ option_map (λ (x : StoredRecord). x.name) (find (is_waiting_of id) records) =
       ap (option_map (λ (r : RecordAt). r.name)) first ∙ option_map-map (λ (r : RecordAt). r.name) record_at (find (is_waiting_of id) records) in
       rw row.1 (subst (λ k. option_map (λ (r : RecordAt). r.name) found ≡ option_map (λ (x : StoredRecord). x.name) (find (is_waiting_of k) records)) row.2 told)
+
+  pub first_waits : (id : ℕ) → Some id ≡ option_map (λ (row : StoredBatch). row.id) (find (is_batch_named b) batches) → Rises record_at place_of (filter (is_waiting_of id) records)
+      → (name : Option (List ℕ)) → (found : Option RecordAt) × IsLeastBy place_of (map record_at (filter (is_waiting_of id) records)) found × (name ≡ option_map (λ (r : RecordAt). r.name) found)
+      → name ≡ waiting_in batches records b
+  first_waits id id_is rising name first = first.2 ∙ waiting_told id id_is rising first.0 first.1

@@ -4,6 +4,8 @@ use Rattle.job_facts.specs.declared.rows.BatchRow.{BatchRow}
 use Rattle.job_facts.specs.declared.rows.BatchTotals.{BatchTotals}
 use Rattle.row_reads.specs.declared.batches.BatchHead.{BatchHead}
 use Rattle.row_reads.specs.declared.batches.BatchTold.{BatchTold}
+use Rattle.row_reads.specs.declared.records.RecordAt.{RecordAt}
+use Rattle.table_rows.specs.declared.writing.RecordPlace.{RecordPlace}
 use Rattle.row_laws.specs.Telling.{no_totals}
 
 abbrev pub row_of : BatchTold → BatchRow
@@ -17,3 +19,7 @@ totals_in (Some h) = h.totals
 -- none waits, runs or failed
 abbrev pub is_over : BatchTotals → Bool
 is_over totals = (totals.waiting == 0) && ((totals.running == 0) && (totals.failed == 0))
+
+-- where a record of the batch stands, with what is read of the record
+abbrev pub place_at : BatchHead → RecordAt → RecordPlace
+place_at h r = record { batch = h.id; place = r.place; spoiled = r.spoiled; remakes = r.remakes; totals = h.totals }

@@ -6,3 +6,4 @@ pub mod Sessions
 pub mod Sums
 pub mod Fixed
 pub mod Known
+pub mod Waiting

@@ -1,5 +1,5 @@
 -- How a product's blanks stand, by what is read of its lots and its batches.
-use Rattle.std.specs.Prelude.{List, length, sum_by}
+use Rattle.std.specs.Prelude.{◌<◌, ◌^◌, List, length, sum_by}
 use Rattle.job_facts.specs.declared.rows.BlankTotals.{BlankTotals}
 use Rattle.row_reads.specs.declared.batches.BatchHead.{BatchHead}
 use Rattle.row_reads.specs.declared.lots.LotRow.{LotRow}
@@ -15,6 +15,16 @@ batch_sums heads = record {
   running = sum_by (λ (h : BatchHead). h.totals.running) heads;
   spoiled = sum_by (λ (h : BatchHead). h.totals.spoiled) heads;
 }
+
+-- each sum is a number of 64 bits
+pub record AreLotSums (sums : LotSums) : Type 0 where
+  pub total : sums.total < 2 ^ 64
+  pub discarded : sums.discarded < 2 ^ 64
+
+pub record AreBatchSums (sums : BatchSums) : Type 0 where
+  pub good : sums.good < 2 ^ 64
+  pub running : sums.running < 2 ^ 64
+  pub spoiled : sums.spoiled < 2 ^ 64
 
 abbrev pub totals_told : List LotRow → List BatchHead → BlankTotals
 totals_told lots heads = record {

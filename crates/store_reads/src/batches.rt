@@ -1,4 +1,4 @@
-//! Batches are read.
+//! What the store answers of a batch: its row, its size and its totals.
 ghost use Rattle.std.specs.Prelude.{false, ◌≡◌};
 ghost use Rattle.sqlite.specs.Held.{state};
 ghost use Rattle.job_facts.specs.Accounts.{batch_totals};

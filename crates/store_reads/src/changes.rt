@@ -10,26 +10,41 @@ ghost use Rattle.image_laws.specs.WritingOf.{IsOfWord, IsPlaceOf, IsPlaceOfSessi
 ghost use Rattle.table_rows.specs.declared.writing.Writing.TheVariants.{AddsBatch};
 ghost use Rattle.sql_rows.specs.Image.{IsImage};
 ghost use Rattle.row_reads.specs.Reads.{Looks};
+ghost use Rattle.store_reads.specs.Heads.{place_at};
 ghost use Rattle.store_reads.specs.Known.{Knows};
 ghost use Rattle.store_reads.specs.Tells.{Tells};
 
 use crate::known::Known;
 use crate::sessions::session;
 use job_facts::{Change, NewBatch, NewWord, SessionState};
-use row_reads::{batch_head, record_named};
+use row_reads::{BatchHead, RecordAt, batch_head, record_named};
 use sqlite::{Alter, Connection, Error};
 use store_data::Name;
 use table_rows::{RecordPlace, Writing};
 
 // ---- records
 
-// Where this record of a batch stands.
+fn place_at(head: &BatchHead, card: &RecordAt) -> RecordPlace
+    ensures { result ≡ place_at head.now card.now }
+{
+    RecordPlace {
+        batch: head.id,
+        place: card.place,
+        spoiled: card.spoiled,
+        remakes: card.remakes,
+        totals: head.totals,
+    }
+}
+
+// Where this record of a batch stands. Its row is not read where it is known how it stands.
 fn place_of<S: Alter>(
     conn: &mut Connection<S>,
+    known: &Known,
     batch: &Name,
     rec: &Name,
 ) -> Result<RecordPlace, Error>
-    requires { conn.old.in_transaction ≡ false }
+    requires idle { conn.old.in_transaction ≡ false }
+    requires knows { Knows (state S.Store conn.old) known.now }
     ensures value { Tells (state S.Store conn.old) (state S.Store conn.new) result
         (λ c place. IsPlaceOf c.facts batch.now rec.now place) }
     ensures looks { Looks (state S.Store conn.old) (state S.Store conn.new) }
@@ -39,16 +54,13 @@ fn place_of<S: Alter>(
     let Some(head) = batch_head(conn, batch)? else {
         return Err(Error::InvalidQuery);
     };
+    if let Some(card) = known.stands(head.id, rec) {
+        return Ok(place_at(&head, card));
+    }
     let Some(card) = record_named(conn, head.id, rec)? else {
         return Err(Error::InvalidQuery);
     };
-    Ok(RecordPlace {
-        batch: head.id,
-        place: card.place,
-        spoiled: card.spoiled,
-        remakes: card.remakes,
-        totals: head.totals,
-    })
+    Ok(place_at(&head, &card))
 }
 
 // Where the record of a session stands.
@@ -66,7 +78,7 @@ fn place_of_session<S: Alter>(
     let Some(row) = session(conn, known, number)? else {
         return Err(Error::InvalidQuery);
     };
-    place_of(conn, &row.batch, &row.rec)
+    place_of(conn, known, &row.batch, &row.rec)
 }
 
 // ---- one change
@@ -111,12 +123,14 @@ fn discard_writing<'a, S: Alter>(
 // What is written for a word after which its session, of this record, stands so.
 fn word_writing<'a, S: Alter>(
     conn: &mut Connection<S>,
+    known: &Known,
     batch: &Name,
     rec: &Name,
     word: NewWord,
     stands: SessionState,
 ) -> Result<Writing<'a>, Error>
-    requires { conn.old.in_transaction ≡ false }
+    requires idle { conn.old.in_transaction ≡ false }
+    requires knows { Knows (state S.Store conn.old) known.now }
     ensures value { HasCleanDisk (state S.Store conn.new) → IfOk result (λ w. (c : Contents)
         → AreSound c → IsImage (image c) (state S.Store conn.old).now
         → IsOfWord c.facts batch.now rec.now word stands w) }
@@ -125,7 +139,7 @@ fn word_writing<'a, S: Alter>(
     match stands {
         SessionState::Running => Ok(Writing::AddsWord { word }),
         SessionState::Good | SessionState::Spoiled => {
-            let place = place_of(conn, batch, rec)?;
+            let place = place_of(conn, known, batch, rec)?;
             Ok(Writing::AddsLastWord {
                 word,
                 stands,
@@ -159,7 +173,7 @@ pub fn writing_of<'a, S: Alter>(
             batch,
             rec,
         } => {
-            let place = place_of(conn, &batch, &rec)?;
+            let place = place_of(conn, known, &batch, &rec)?;
             Ok(Writing::Opens { session, place })
         }
         Change::AddsWord {
@@ -167,18 +181,18 @@ pub fn writing_of<'a, S: Alter>(
             batch,
             rec,
             stands,
-        } => word_writing(conn, &batch, &rec, word, stands),
+        } => word_writing(conn, known, &batch, &rec, word, stands),
         Change::Ends { session } => {
             let place = place_of_session(conn, known, session)?;
             Ok(Writing::Ends { session, place })
         }
         Change::Discards { blank, lot } => discard_writing(conn, blank, &lot),
         Change::Remakes { batch, rec } => {
-            let place = place_of(conn, &batch, &rec)?;
+            let place = place_of(conn, known, &batch, &rec)?;
             Ok(Writing::Remakes { place })
         }
         Change::Withdraws { batch, rec, was } => {
-            let place = place_of(conn, &batch, &rec)?;
+            let place = place_of(conn, known, &batch, &rec)?;
             Ok(Writing::Withdraws { was, place })
         }
         Change::Closes { batch } => Ok(Writing::Closes { batch }),

@@ -1,4 +1,4 @@
-//! What there is is counted.
+//! How many products, lots, batches and sessions the store has.
 ghost use Rattle.std.specs.Prelude.{IfOk, false, length, ◌<◌, ◌^◌, ◌≡◌};
 ghost use Rattle.sqlite.specs.Held.{state};
 ghost use Rattle.row_reads.specs.Reads.{Looks};

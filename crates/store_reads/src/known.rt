@@ -1,10 +1,12 @@
-//! What is known of the records that were read of late: what of their rows no change touches.
-ghost use Rattle.std.specs.Prelude.{◌≡◌, ◌<◌, ◌^◌, All};
+//! What is known of the records that were read of late: what of their rows no change touches, and
+//! of one of them how it stands, up to the next change.
+ghost use Rattle.std.specs.Prelude.{◌≡◌, ◌<◌, ◌^◌, All, IfSome};
+ghost use Rattle.std.proofs.Props.{props};
 ghost use Rattle.store_data.specs.Sequence.{IsProduct};
-ghost use Rattle.row_reads.specs.CardDecoding.{IsGroupingAt};
+ghost use Rattle.row_reads.specs.CardDecoding.{IsGroupingAt, IsRecordAt};
 ghost use Rattle.store_reads.specs.Fixed.{leaves_fixed};
 
-use row_reads::GroupingAt;
+use row_reads::{GroupingAt, RecordAt};
 use std::alloc::Global;
 use store_data::{Name, Product};
 use table_rows::Writing;
@@ -28,29 +30,40 @@ pub struct KnownRecord {
     ghost groupings_in_range: { All IsGroupingAt groupings.items },
 }
 
-/// The records that were read of late, the oldest first.
+/// A record as it stands, in the batch with this id.
+#[derive(Clone, Copy)]
+pub struct StandingRecord {
+    pub(crate) batch: u64,
+    pub(crate) card: RecordAt,
+}
+
+/// The records that were read of late, the oldest first, and how the last of them stands.
 #[derive(Drop)]
 pub struct Known {
     records: Vec<KnownRecord>,
+    standing: Option<StandingRecord>,
+    ghost standing_in_range: { IfSome standing (λ s. IsRecordAt s.card) } by { Prim.hlevel props },
 }
 
 /// How many records are kept at once. Each running machine works on one record.
 const MOST: usize = 64;
 
 impl Known {
-    ghost use Rattle.std.specs.Prelude.{◌⊎◌, Contains, IfSome, []};
+    ghost use Rattle.std.specs.Prelude.{◌⊎◌, Contains};
     ghost use Rattle.job_facts.specs.Contents.{Entry};
     ghost use Rattle.table_rows.specs.After.{rows_written};
     ghost use Rattle.table_rows.specs.Tables.{Tables};
-    ghost use Rattle.store_reads.specs.Known.{AreKnownIn, known_records};
+    ghost use Rattle.store_reads.specs.Known.{IsAllKnownIn, IsStandingOf, KnowsNothing};
+    ghost use Rattle.store_reads.specs.Known.{known_records, standing_record};
     ghost use Rattle.store_reads.specs.declared.known.KnownRecord.{KnownRecord as KnownRecordValue};
 
     /// None.
     pub fn new(alloc: Global) -> Known
-        ensures { known_records result ≡ [] }
+        ensures { KnowsNothing result }
     {
         Known {
             records: Vec::new(alloc),
+            standing: None,
         }
     }
 
@@ -82,11 +95,36 @@ impl Known {
         None
     }
 
+    /// A record of the batch of this name.
+    pub(crate) fn of_batch(&self, batch: &Name) -> Option<&KnownRecord>
+        ensures known { IfSome result (λ k. Contains (known_records self.now) k.now) }
+        ensures batch { IfSome result (λ k. k.now.batch ≡ batch.now) }
+    {
+        for record in &self.records {
+            if record.batch == *batch {
+                return Some(record);
+            }
+        }
+        None
+    }
+
+    /// How the record of this name in the batch with this id stands.
+    pub(crate) fn stands(&self, id: u64, rec: &Name) -> Option<&RecordAt>
+        ensures known { IfSome result (λ card. IsStandingOf self.now id rec.now card.now) }
+        ensures ranged { IfSome result (λ card. IsRecordAt card.now) }
+    {
+        match &self.standing {
+            Some(it) if it.batch == id && it.card.name == *rec => Some(&it.card),
+            _ => None,
+        }
+    }
+
     /// Keeps a record, unless one of its name is kept. Of too many the oldest goes. Where there is
     /// no memory for it, it is not kept: it is read again.
     pub(crate) fn keep(&mut self, read: KnownRecord)
-        ensures { (k : KnownRecordValue) → Contains (known_records self.new) k
+        ensures records { (k : KnownRecordValue) → Contains (known_records self.new) k
             → (k ≡ read) ⊎ Contains (known_records self.old) k }
+        ensures standing { standing_record self.new ≡ standing_record self.old }
     {
         if self.named(&read.batch, &read.rec).is_some() {
             return;
@@ -97,14 +135,23 @@ impl Known {
         let _ = self.records.push(read);
     }
 
-    /// Forgets all where what is written adds a product or a batch, so that what is left is so
-    /// before it is written and after.
-    pub fn forget_for(&mut self, writing: &Writing<'_>)
-        ensures before { (t : Tables) → AreKnownIn t (known_records self.old)
-            → AreKnownIn t (known_records self.new) }
-        ensures after { (t : Tables) (entry : Entry) → AreKnownIn t (known_records self.old)
-            → AreKnownIn (rows_written writing.now entry t) (known_records self.new) }
+    /// Keeps how a record stands, in place of another.
+    pub(crate) fn note(&mut self, batch: u64, card: &RecordAt)
+        requires { IsRecordAt card.now }
+        ensures records { known_records self.new ≡ known_records self.old }
+        ensures standing { IsStandingOf self.new batch card.now.name card.now }
     {
+        self.standing = Some(StandingRecord { batch, card: *card });
+    }
+
+    /// Forgets how a record stands, and all where what is written adds a product or a batch, so
+    /// that what is left is so before it is written and after.
+    pub fn forget_for(&mut self, writing: &Writing<'_>)
+        ensures before { (t : Tables) → IsAllKnownIn t self.old → IsAllKnownIn t self.new }
+        ensures after { (t : Tables) (entry : Entry) → IsAllKnownIn t self.old
+            → IsAllKnownIn (rows_written writing.now entry t) self.new }
+    {
+        self.standing = None;
         if !leaves_fixed(writing) {
             self.records.clear();
         }

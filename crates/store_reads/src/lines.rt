@@ -3,6 +3,7 @@ ghost use Rattle.std.specs.Prelude.{All, IfOk, count_by, map, nat_eq, ℕ, ◌==
 ghost use Rattle.std.specs.HashMap.{get};
 ghost use Rattle.row_laws.specs.Telling.{cards};
 ghost use Rattle.row_reads.specs.CardDecoding.{IsRecordAt};
+ghost use Rattle.row_reads.specs.Readable.{FailsForMemory};
 ghost use Rattle.store_reads.specs.Lines.{blank_of, is_card_at, line_told, line_with};
 
 use job_facts::{RecordLine, RecordState};
@@ -26,6 +27,7 @@ fn cards(stands: RecordState) -> u64
 fn blanks_by_place(alloc: Global, good: &[GoodCard]) -> Result<HashMap<u64, u64>, Error>
     ensures value { IfOk result (λ blanks. (k : ℕ) → get nat_eq blanks k ≡ blank_of good.now k) }
     ensures once { IfOk result (λ _. (k : ℕ) → count_by (is_card_at k) good.now ≤ 1) }
+    ensures total { ((k : ℕ) → count_by (is_card_at k) good.now ≤ 1) → FailsForMemory result }
 {
     let mut blanks = HashMap::new(alloc);
     for card in good {
@@ -57,6 +59,7 @@ pub(crate) fn lines_told(
     requires { All IsRecordAt records.now }
     ensures value { IfOk result (λ lines. lines.items ≡ map (line_told good.now) records.now) }
     ensures once { IfOk result (λ _. (k : ℕ) → count_by (is_card_at k) good.now ≤ 1) }
+    ensures total { ((k : ℕ) → count_by (is_card_at k) good.now ≤ 1) → FailsForMemory result }
 {
     let blanks = blanks_by_place(alloc, good)?;
     let mut lines = Vec::new(alloc);

@@ -1,4 +1,4 @@
-//! Lots and blanks are read.
+//! What the store answers of lots and of blanks.
 ghost use Rattle.std.specs.Prelude.{false, ◌≡◌};
 ghost use Rattle.sqlite.specs.Held.{state};
 ghost use Rattle.job_facts.specs.States.{any_overlaps, is_charged, lot_named, lot_of};

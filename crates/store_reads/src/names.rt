@@ -1,4 +1,4 @@
-//! Products are read.
+//! What the store answers of a product.
 ghost use Rattle.std.specs.Prelude.{IfOk, IfSome, false, ◌≡◌};
 ghost use Rattle.sqlite.specs.Held.{state};
 ghost use Rattle.store_data.specs.Sequence.{IsProduct};

@@ -1,10 +1,13 @@
-//! Records are read.
-ghost use Rattle.std.specs.Prelude.{false, ◌≡◌};
+//! What the store answers of a record's state, and which record waits first.
+ghost use Rattle.std.specs.Prelude.{false, ◌<◌, ◌^◌, ◌≡◌};
 ghost use Rattle.sqlite.specs.Held.{state};
 ghost use Rattle.job_facts.specs.States.{first_waiting, record_state_of};
-ghost use Rattle.row_reads.specs.Reads.{Looks};
+ghost use Rattle.row_reads.specs.Reads.{Looks, TellsRows};
+ghost use Rattle.store_reads.specs.Known.{Knows};
 ghost use Rattle.store_reads.specs.Tells.{Tells};
+ghost use Rattle.store_reads.specs.Waiting.{IsFirstWaiting};
 
+use crate::known::Known;
 use job_facts::RecordState;
 use row_reads::{batch_id, record_named};
 use sqlite::{Alter, Connection, Error};
@@ -30,21 +33,50 @@ pub fn record_state<S: Alter>(
     Ok(found.map(|card| card.stands))
 }
 
-/// The first waiting record of a batch, in file order.
+// The first waiting record of the batch with this id. It is known from then on how it stands.
+fn waiting_of<S: Alter>(
+    conn: &mut Connection<S>,
+    known: &mut Known,
+    id: u64,
+) -> Result<Option<Name>, Error>
+    requires idle { conn.old.in_transaction ≡ false }
+    requires knows { Knows (state S.Store conn.old) known.old }
+    requires id { id < 2 ^ 63 }
+    ensures value { TellsRows (state S.Store conn.old) (state S.Store conn.new) result
+        (IsFirstWaiting id) }
+    ensures knows { Knows (state S.Store conn.new) known.new }
+    ensures looks { Looks (state S.Store conn.old) (state S.Store conn.new) }
+{
+    let Some(card) = row_reads::first_waiting(conn, id)? else {
+        return Ok(None);
+    };
+    known.note(id, &card);
+    Ok(Some(card.name))
+}
+
+/// The first waiting record of a batch, in file order. The batch's id is read unless one of its
+/// records is known.
 pub fn first_waiting<S: Alter>(
     conn: &mut Connection<S>,
+    known: &mut Known,
     batch: &Name,
 ) -> Result<Option<Name>, Error>
-    requires { conn.old.in_transaction ≡ false }
+    requires idle { conn.old.in_transaction ≡ false }
+    requires knows { Knows (state S.Store conn.old) known.old }
     ensures value { Tells (state S.Store conn.old) (state S.Store conn.new) result
         (λ c answer. answer ≡ first_waiting c.facts batch.now) }
+    ensures knows { Knows (state S.Store conn.new) known.new }
     ensures looks { Looks (state S.Store conn.old) (state S.Store conn.new) }
 {
     row_laws::batches_by_name();
+    row_laws::records_by_name();
     row_laws::records_of_batches();
+    if let Some(card) = known.of_batch(batch) {
+        let id = card.id;
+        return waiting_of(conn, known, id);
+    }
     let Some(id) = batch_id(conn, batch)? else {
         return Ok(None);
     };
-    let found = row_reads::first_waiting(conn, id)?;
-    Ok(found.map(|card| card.name))
+    waiting_of(conn, known, id)
 }

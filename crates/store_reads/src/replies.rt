@@ -1,4 +1,4 @@
-//! Kept replies and marks are read.
+//! What the store answers of kept replies and of release marks.
 ghost use Rattle.std.specs.Prelude.{false, length, option_map, ◌≡◌};
 ghost use Rattle.sqlite.specs.Held.{state};
 ghost use Rattle.job_facts.specs.Contents.{entry_of, mark_of, reply_of_entry};

@@ -1,4 +1,4 @@
-//! The accounts of batches and blanks are read.
+//! What the store answers of the accounts of a batch and of a product's blanks.
 ghost use Rattle.std.specs.Prelude.{false, ◌≡◌, ◌<◌, ◌^◌};
 ghost use Rattle.sqlite.specs.Held.{state};
 ghost use Rattle.job_facts.specs.Accounts.{blank_totals, record_lines};

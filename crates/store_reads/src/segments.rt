@@ -1,20 +1,22 @@
-//! The segments of a record's plan are read.
-ghost use Rattle.std.specs.Prelude.{IfOk, IfSome, IsTrue, false, ℕ, None, Some, ◌≡◌, ◌≤◌};
+//! What the store answers of a segment of a record's plan.
+ghost use Rattle.std.specs.Prelude.{All, IfOk, IfSome, IsTrue, false, ℕ, None, Some, ◌≡◌, ◌≤◌};
 ghost use Rattle.sqlite.specs.Held.{state};
 ghost use Rattle.sqlite.specs.State.{HasCleanDisk};
 ghost use Rattle.job_facts.specs.declared.rows.SegmentRow.{SegmentRow as SegmentRowValue};
 ghost use Rattle.job_facts.specs.Rows.{segment_row_of};
+ghost use Rattle.row_reads.specs.CardDecoding.{IsGroupingAt, IsRecordAt};
 ghost use Rattle.row_reads.specs.Reads.{Looks, TellsRows};
 ghost use Rattle.store_reads.specs.declared.known.KnownRecord.{KnownRecord as KnownRecordValue};
 ghost use Rattle.store_reads.specs.Fixed.{AreNamedApart, fixed};
-ghost use Rattle.store_reads.specs.Known.{IsKnownIn, Knows, TellsKnown, TellsSome};
+ghost use Rattle.store_reads.specs.Known.{IsAllKnownIn, IsKnownIn, Knows, ShowsSome};
+ghost use Rattle.store_reads.specs.Known.{TellsKnown, TellsSome};
 ghost use Rattle.store_reads.specs.Segments.{IsBatchProduct, product_in};
 ghost use Rattle.store_reads.specs.Tells.{Tells};
 
 use crate::known::{Known, KnownRecord};
 use crate::plans::{head_at, joined};
 use job_facts::SegmentRow;
-use row_reads::{batch_told, coded_of, groupings_of, record_named};
+use row_reads::{GroupingAt, RecordAt, batch_told, coded_of, groupings_of, record_named};
 use sqlite::{Alter, Connection, Error};
 use store_data::{Name, Product};
 
@@ -83,6 +85,76 @@ fn record_read<S: Alter>(
         place: card.place,
         groupings,
     }))
+}
+
+// The record that stands so, of the batch of another, with these groupings.
+fn beside(other: &KnownRecord, card: &RecordAt, groupings: Vec<GroupingAt>) -> KnownRecord
+    requires card { IsRecordAt card.now }
+    requires groupings { All IsGroupingAt groupings.items }
+    ensures batch { result.batch ≡ other.now.batch }
+    ensures rec { result.rec ≡ card.now.name }
+    ensures id { result.id ≡ other.now.id }
+    ensures product { result.product ≡ other.now.product }
+    ensures place { result.place ≡ card.now.place }
+    ensures groupings { result.groupings.items ≡ groupings.items }
+{
+    KnownRecord {
+        batch: other.batch,
+        rec: card.name,
+        id: other.id,
+        product: other.product,
+        place: card.place,
+        groupings,
+    }
+}
+
+// The record, where one of its batch is known, and how it stands itself: then its groupings alone
+// are read.
+fn record_beside<S: Alter>(
+    conn: &mut Connection<S>,
+    known: &Known,
+    batch: &Name,
+    rec: &Name,
+) -> Result<Option<KnownRecord>, Error>
+    requires { conn.old.in_transaction ≡ false }
+    ensures known { ShowsSome (state S.Store conn.old) (state S.Store conn.new) result
+        (λ t k. AreNamedApart (fixed t) → IsAllKnownIn t known.now → IsKnownIn (fixed t) k) }
+    ensures named { IfOk result (λ found. IfSome found
+        (λ (k : KnownRecordValue). (k.batch ≡ batch.now) × (k.rec ≡ rec.now))) }
+    ensures looks { Looks (state S.Store conn.old) (state S.Store conn.new) }
+{
+    let Some(other) = known.of_batch(batch) else {
+        return Ok(None);
+    };
+    let Some(card) = known.stands(other.id, rec) else {
+        return Ok(None);
+    };
+    let groupings = groupings_of(conn, other.id, card.place)?;
+    Ok(Some(beside(other, card, groupings)))
+}
+
+// The record, if it is there, by what is known or by what is read.
+fn record_found<S: Alter>(
+    conn: &mut Connection<S>,
+    known: &Known,
+    batch: &Name,
+    rec: &Name,
+) -> Result<Option<KnownRecord>, Error>
+    requires { conn.old.in_transaction ≡ false }
+    ensures known { TellsRows (state S.Store conn.old) (state S.Store conn.new) result
+        (λ t found. AreNamedApart (fixed t) → IsAllKnownIn t known.now
+        → IfSome found (IsKnownIn (fixed t))) }
+    ensures named { IfOk result (λ found. IfSome found
+        (λ (k : KnownRecordValue). (k.batch ≡ batch.now) × (k.rec ≡ rec.now))) }
+    ensures none { Tells (state S.Store conn.old) (state S.Store conn.new) result
+        (λ c found. found ≡ None → (a q : ℕ)
+        → None ≡ segment_row_of c.facts batch.now rec.now a q) }
+    ensures looks { Looks (state S.Store conn.old) (state S.Store conn.new) }
+{
+    match record_beside(conn, known, batch, rec)? {
+        Some(card) => Ok(Some(card)),
+        None => record_read(conn, batch, rec),
+    }
 }
 
 // ---- a segment
@@ -170,7 +242,7 @@ fn segment_read<S: Alter>(
 {
     row_laws::batches_by_name();
     row_laws::records_by_name();
-    let Some(card) = record_read(conn, batch, rec)? else {
+    let Some(card) = record_found(conn, known, batch, rec)? else {
         return Ok(None);
     };
     let row = segment_of(conn, &card, app, segment)?;

@@ -1,4 +1,4 @@
-//! Sessions are read.
+//! What the store answers of a session, by its number or its machine.
 ghost use Rattle.std.specs.Prelude.{IfOk, IfSome, false, ◌≡◌};
 ghost use Rattle.sqlite.specs.Held.{state};
 ghost use Rattle.store_data.specs.Cursor.{IsCursor};

@@ -1,6 +1,7 @@
 //! How a product's blanks stand, by the rows of its lots and its batches.
-ghost use Rattle.std.specs.Prelude.{IfOk, ◌≡◌, ◌+◌};
-ghost use Rattle.store_reads.specs.Sums.{batch_sums, lot_sums, totals_told};
+ghost use Rattle.std.specs.Prelude.{IfOk, IsOk, ◌<◌, ◌^◌, ◌≡◌, ◌+◌};
+ghost use Rattle.store_reads.specs.Sums.{AreBatchSums, AreLotSums, batch_sums, lot_sums};
+ghost use Rattle.store_reads.specs.Sums.{totals_told};
 
 use job_facts::BlankTotals;
 use row_reads::{BatchHead, LotRow};
@@ -23,13 +24,15 @@ struct BatchSums {
 
 // A sum past 64 bits is an error: sound contents have none.
 fn plus(a: u64, b: u64) -> Result<u64, Error>
-    ensures { IfOk result (λ sum. sum ≡ a + b) }
+    ensures value { IfOk result (λ sum. sum ≡ a + b) }
+    ensures total { a + b < 2 ^ 64 → IsOk result }
 {
     a.checked_add(b).ok_or(Error::InvalidQuery)
 }
 
 fn lot_sums(lots: &[LotRow]) -> Result<LotSums, Error>
-    ensures { IfOk result (λ sums. sums ≡ lot_sums lots.now) }
+    ensures value { IfOk result (λ sums. sums ≡ lot_sums lots.now) }
+    ensures total { AreLotSums (lot_sums lots.now) → IsOk result }
 {
     let mut sums = LotSums {
         total: 0,
@@ -45,7 +48,8 @@ fn lot_sums(lots: &[LotRow]) -> Result<LotSums, Error>
 }
 
 fn batch_sums(heads: &[BatchHead]) -> Result<BatchSums, Error>
-    ensures { IfOk result (λ sums. sums ≡ batch_sums heads.now) }
+    ensures value { IfOk result (λ sums. sums ≡ batch_sums heads.now) }
+    ensures total { AreBatchSums (batch_sums heads.now) → IsOk result }
 {
     let mut sums = BatchSums {
         good: 0,
@@ -62,9 +66,11 @@ fn batch_sums(heads: &[BatchHead]) -> Result<BatchSums, Error>
     Ok(sums)
 }
 
-/// The sums over a product's lots and its batches.
+/// The sums over a product's lots and its batches, where each is a number of 64 bits.
 pub(crate) fn totals_told(lots: &[LotRow], heads: &[BatchHead]) -> Result<BlankTotals, Error>
-    ensures { IfOk result (λ totals. totals ≡ totals_told lots.now heads.now) }
+    ensures value { IfOk result (λ totals. totals ≡ totals_told lots.now heads.now) }
+    ensures total { AreLotSums (lot_sums lots.now) → AreBatchSums (batch_sums heads.now)
+        → IsOk result }
 {
     let LotSums { total, discarded } = lot_sums(lots)?;
     let BatchSums {

@@ -23,7 +23,7 @@ returns-clause-value g c =
     (λ totals. totals ≡ totals_told lots heads) _
     (shown_then old mid new _ _ _ c.lots_of.ensures.looks c.batches_of.ensures.looks
     (shown old mid _ _ c.in_ok-lots.ensures.found (λ d sound is. is)) (shown mid new _ _ c.in_ok-heads.ensures.found (λ d sound is. is)) (λ d sound one two. (one, two)))
-    (rw (c.as_slice.ensures.value, c.as_slice-2.ensures.value) at c.totals_told.ensures)
+    (rw (c.as_slice.ensures.value, c.as_slice-2.ensures.value) at c.totals_told.ensures.value)
     (λ d sound both totals made.
     made ∙ blanks_told (filter (is_lot_for p) (stored_lots d.facts)) (filter (is_batch_for p) (stored_batches d.facts)) lots heads both.0 both.1
     ∙ sym (c.blanks_by_rows.ensures d.facts p sound.facts))

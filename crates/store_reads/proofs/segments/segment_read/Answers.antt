@@ -6,18 +6,18 @@ use Rattle.store_reads.proofs.segments.segment_read.Goals as goal
 
 pub returns-in_err-card-clause-knows : goal.returns-in_err-card-clause-knows
 returns-in_err-card-clause-knows g c =
-    knows_after (state g.S.Store c.args.conn.now) (state g.S.Store c.record_read.new.conn) c.args.known.now c.record_read.ensures.looks c.requires.knows
+    knows_after (state g.S.Store c.args.conn.now) (state g.S.Store c.record_found.new.conn) c.args.known.now c.record_found.ensures.looks c.requires.knows
 
 pub returns-in_err-row-clause-knows : goal.returns-in_err-row-clause-knows
 returns-in_err-row-clause-knows g c =
     let old = state g.S.Store c.args.conn.now in
-    let mid = state g.S.Store c.record_read.new.conn in
+    let mid = state g.S.Store c.record_found.new.conn in
     let new = state g.S.Store c.segment_of.new.conn in
-    knows_after old new c.args.known.now (looks_then old mid new c.record_read.ensures.looks c.segment_of.ensures.looks) c.requires.knows
+    knows_after old new c.args.known.now (looks_then old mid new c.record_found.ensures.looks c.segment_of.ensures.looks) c.requires.knows
 
 pub returns-in_default-clause-knows : goal.returns-in_default-clause-knows
 returns-in_default-clause-knows g c =
-    knows_after (state g.S.Store c.args.conn.now) (state g.S.Store c.record_read.new.conn) c.args.known.now c.record_read.ensures.looks c.requires.knows
+    knows_after (state g.S.Store c.args.conn.now) (state g.S.Store c.record_found.new.conn) c.args.known.now c.record_found.ensures.looks c.requires.knows
 
 pub returns-in_default-clause-value : goal.returns-in_default-clause-value
 returns-in_default-clause-value g c clean =
@@ -28,10 +28,10 @@ pub returns-clause-value : goal.returns-clause-value
 returns-clause-value g c =
     let named = rw c.in-Some.is at c.in_ok-card.ensures.named in
     segment_by_read c.in-Some.card c.args.batch.now c.args.rec.now named.0 named.1 c.args.app c.args.segment
-    (state g.S.Store c.args.conn.now) (state g.S.Store c.record_read.new.conn) (state g.S.Store c.segment_of.new.conn) c.record_read.ensures.looks c.segment_of.ensures.looks
+    (state g.S.Store c.args.conn.now) (state g.S.Store c.record_found.new.conn) (state g.S.Store c.segment_of.new.conn) c.args.known.now c.requires.knows c.record_found.ensures.looks c.segment_of.ensures.looks
     (rw c.in-Some.is at c.in_ok-card.ensures.known) (sound_apart c.batches_by_name.ensures.once c.records_by_name.ensures.once) c.in_ok-row.row c.in_ok-row.ensures.value
 
 pub returns-clause-knows : goal.returns-clause-knows
 returns-clause-knows g c =
-    knows_more (state g.S.Store c.args.conn.now) (state g.S.Store c.record_read.new.conn) (state g.S.Store c.segment_of.new.conn) c.args.known.now c.keep.new.self c.in-Some.card
-    c.record_read.ensures.looks c.segment_of.ensures.looks (rw c.in-Some.is at c.in_ok-card.ensures.known) c.requires.knows c.keep.ensures
+    knows_more (state g.S.Store c.args.conn.now) (state g.S.Store c.record_found.new.conn) (state g.S.Store c.segment_of.new.conn) c.args.known.now c.keep.new.self c.in-Some.card
+    c.record_found.ensures.looks c.segment_of.ensures.looks (rw c.in-Some.is at c.in_ok-card.ensures.known) c.requires.knows c.keep.ensures.records c.keep.ensures.standing
