@@ -10,14 +10,13 @@ use Rattle.image_laws.specs.Image.{image}
 use Rattle.sql_base.specs.Ends.{IsLeft}
 use Rattle.sql_tables.specs.declared.versions.Version.{Version}
 use Rattle.sql_rows.specs.Image.{IsImage}
-use Rattle.sql_rows.proofs.OneImage.{one_image}
 use Rattle.sql_rows.proofs.SameRows.{same_rows}
 use Rattle.table_reads.specs.Holding.{HoldsRows, HoldsSoundRows}
 use Rattle.adoption.specs.Adopts.{Adopts}
 use Rattle.adoption.specs.Comes.{Comes}
 use Rattle.schema.specs.Begun.{WasHeld}
 use Rattle.schema.specs.Link.{Stands, link}
-use Rattle.schema.proofs.Link.{RowsLaw, at_trees, found, same_database}
+use Rattle.schema.proofs.Link.{RowsLaw, found, has_image, image_had, shown_at}
 
 -- a database holds the rows of one image alone
 abbrev pub OneLaw : Type 0
@@ -42,10 +41,10 @@ leaves_them law one old new comes v c d sound held left =
     found law c sound comes.db (image_of one v c old.now comes.db held comes.made) left.0 (comes.only left.0 left.1) d left.2
 
 was_held : OrderLaw → (old db : Database) → Adopts old db → (trees : Trees) → trees ≡ db.trees → (d : Option Contents) → Stands d trees → WasHeld d old
-was_held order old db made trees is None none =
-    absurd (none made.contents made.sound (subst (IsImage (image made.contents)) (sym (same_database db trees made.stands.ours is)) made.stands))
-was_held order old db made trees is (Some d) stands =
-    let same = one_image (image d) (image made.contents) db (at_trees (image d) db trees made.stands.ours is stands.1) made.stands in
+was_held order old db made trees is None at =
+    absurd (shown_at None db trees made.stands.sound is at made.contents made.sound (image_had made.contents db made.stands))
+was_held order old db made trees is (Some d) at =
+    let same = has_image (image made.contents) d db made.stands (shown_at (Some d) db trees made.stands.sound is at).1 in
     (made.version, order made.version (image d) (image made.contents) old same made.held)
 
 pub left_late : OrderLaw → (old new : State) → Survives old new (IsLeft Adopts old) → HasCleanDisk new → (d : Option Contents) → (link new 0 0).may_leave d

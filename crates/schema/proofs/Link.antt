@@ -1,9 +1,13 @@
 -- From what a call makes of a connection to what it makes of the contents, once for all calls.
-use Rattle.std.proofs.Common.{◌≡◌, ◌⊎◌, ◌∙◌, ℕ, Option, None, Some, Result, Ok, Err, OnOk, OnErr, IfOk, inl, inr, sym, ap, subst}
-use Rattle.sqlite.specs.Effect.{Database}
+use Rattle.std.proofs.Common.{◌≡◌, ◌⊎◌, ◌∙◌, ℕ, length, Option, None, Some, Result, Ok, Err, OnOk, OnErr, IfOk, inl, inr, sym, ap, subst, arith}
+use Rattle.sqlite.specs.Effect.{Database, IsDatabase}
+use Rattle.sqlite.specs.Schema.{Schema}
 use Rattle.sqlite.specs.Tree.{Trees}
 use Rattle.sqlite.specs.State.{HasCleanDisk, State, Survives}
 use Rattle.sqlite.specs.declared.error.Error.{Error}
+use Rattle.sqlite_trees.specs.Objects.{catalog_tree}
+use Rattle.sqlite_catalog.specs.Listing.{Lists}
+use Rattle.sqlite_catalog.proofs.ReadLemmas.{lists_once}
 use Rattle.job_facts.specs.declared.store.StoreFault.{StoreFault}
 use Rattle.job_facts.specs.Contents.{AreSame, AreSound, Contents}
 use Rattle.job_facts.specs.Store.{Commits, IsFound, Reads, Stays}
@@ -11,10 +15,11 @@ use Rattle.table_rows.specs.Tables.{HaveSameRows, Tables}
 use Rattle.image_laws.specs.Image.{image}
 use Rattle.sql_base.specs.Ends.{Ends, IsKept, IsLeft}
 use Rattle.sql_rows.specs.Image.{IsImage}
-use Rattle.sql_rows.proofs.OneImage.{one_image}
-use Rattle.sql_tables.specs.Tables.{our_schema}
+use Rattle.sql_tables.specs.declared.versions.Version.TheVariants.{Three}
+use Rattle.table_reads.proofs.OneHeld.{one_held}
+use Rattle.table_reads.proofs.OurImage.{our_image_held}
 use Rattle.store_reads.specs.Tells.{Tells}
-use Rattle.schema.specs.Link.{IsTold, Stands, link, ours_at}
+use Rattle.schema.specs.Link.{Has, HasAt, IsTold, Stands, link}
 use Rattle.schema.specs.Takes.{Takes}
 
 -- ---- reads
@@ -44,12 +49,33 @@ module _ {T : Type 0} where
 
 -- ---- commits
 
--- what is found at the trees of a database of ours
-pub same_database : (db : Database) (trees : Trees) → db.schema ≡ our_schema → trees ≡ db.trees → ours_at trees ≡ db
-same_database db trees ours is = ap ours_at is ∙ sym (ap (λ s. let d : Database = record { schema = s; trees = db.trees } in d) ours)
+-- trees list one schema, so two databases at the same trees are one
+one_database : (a b : Database) → IsDatabase a → IsDatabase b → a.trees ≡ b.trees → a ≡ b
+one_database a b sound other same =
+    let schema = lists_once (b.trees catalog_tree) a.schema b.schema (subst (λ (t : Trees). Lists (t catalog_tree) a.schema) same sound.lists) other.lists in
+    λ i. record { schema = schema i; trees = same i }
 
-pub at_trees : (t : Tables) (db : Database) (trees : Trees) → db.schema ≡ our_schema → trees ≡ db.trees → IsImage t (ours_at trees) → IsImage t db
-at_trees t db trees ours is found = subst (IsImage t) (same_database db trees ours is) found
+-- what stands at the trees of a database stands in it
+pub has_there : (db : Database) (trees : Trees) (c : Contents) → IsDatabase db → trees ≡ db.trees → HasAt trees c → Has db c
+has_there db trees c sound is at = subst (λ (x : Database). Has x c) (one_database at.db db at.is_database sound (at.stands ∙ is)) at.has
+
+-- an open over a database finds sound contents that it has, or it has none
+abbrev pub Shows : Option Contents → Database → Type 0
+Shows None db = (c : Contents) → AreSound c → ¬ Has db c
+Shows (Some c) db = AreSound c × Has db c
+
+-- what an open finds at the trees of a database
+pub shown_at : (d : Option Contents) (db : Database) (trees : Trees) → IsDatabase db → trees ≡ db.trees → Stands d trees → Shows d db
+shown_at None db trees sound is none = λ c fine has. none c fine (record { db = db; is_database = sound; stands = sym is; has = has })
+shown_at (Some d) db trees sound is at = (at.0, has_there db trees d sound is at.1)
+
+-- an image has no other rows
+pub has_image : (t : Tables) (c : Contents) (db : Database) → IsImage t db → Has db c → HaveSameRows (image c) t
+has_image t c db now (inl held) = one_held held.0 Three (image c) t db held.1 (our_image_held t db now)
+has_image t c db now (inr none) = absurd (omega (arith, ap (λ (s : Schema). length s.tables) (sym now.ours ∙ none.0)))
+
+pub image_had : (c : Contents) (db : Database) → IsImage (image c) db → Has db c
+image_had c db now = inl (Three, our_image_held (image c) db now)
 
 -- the rows of two sound contents are not the same, unless they are
 abbrev pub RowsLaw : Type 0
@@ -57,8 +83,8 @@ RowsLaw = (c d : Contents) → AreSound c → AreSound d → HaveSameRows (image
 
 -- at the trees of an image its contents are found
 pub found : RowsLaw → (c : Contents) → AreSound c → (db : Database) → IsImage (image c) db → (trees : Trees) → trees ≡ db.trees → (d : Option Contents) → Stands d trees → IsFound d c
-found law c sound db now trees is None none = absurd (none c sound (subst (IsImage (image c)) (sym (same_database db trees now.ours is)) now))
-found law c sound db now trees is (Some d) stands = law d c stands.0 sound (one_image (image d) (image c) db (at_trees (image d) db trees now.ours is stands.1) now)
+found law c sound db now trees is None at = absurd (shown_at None db trees now.sound is at c sound (image_had c db now))
+found law c sound db now trees is (Some d) at = let shown = shown_at (Some d) db trees now.sound is at in law d c shown.0 sound (has_image (image c) d db now shown.1)
 
 module _ (law : RowsLaw) (Owed : Contents → Type 0) (after : Contents → Contents) (sound : (c : Contents) → AreSound c → Owed c → AreSound (after c)) (old new : State) (a b m n : ℕ)
     (survives : Survives old new (IsLeft (Takes Owed after) old)) where

@@ -1,4 +1,5 @@
 pub mod Link
+pub mod Left
 pub mod Takes
 pub mod Stores
 pub mod Begun

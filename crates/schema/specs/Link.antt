@@ -1,26 +1,36 @@
 -- What a connection to our tables stands for.
-use Rattle.std.specs.Prelude.{◌≡◌, ℕ, IsTrue, Option, None, Some, Result, Ok, Err}
-use Rattle.sqlite.specs.Effect.{Database}
+use Rattle.std.specs.Prelude.{◌≡◌, ◌⊎◌, ℕ, IsTrue, Option, None, Some, Result, Ok, Err}
+use Rattle.sqlite.specs.Effect.{Database, IsDatabase}
 use Rattle.sqlite.specs.State as sqlite
 use Rattle.sqlite.specs.Tree.{Trees}
 use Rattle.sqlite.specs.declared.error.Error.{Error}
 use Rattle.sqlite_trees.specs.View.{doubt}
 use Rattle.job_facts.specs.declared.store.StoreFault.{StoreFault}
-use Rattle.job_facts.specs.Contents.{AreSound, Contents}
+use Rattle.job_facts.specs.Contents.{AreSound, Contents, no_contents}
 use Rattle.job_facts.specs.Store.{State}
 use Rattle.image_laws.specs.Image.{image}
+use Rattle.sql_base.specs.Columns.{no_schema}
 use Rattle.sql_rows.specs.Image.{IsImage}
+use Rattle.sql_tables.specs.declared.versions.Version.{Version}
+use Rattle.table_reads.specs.Holding.{HoldsRows}
 use Rattle.adoption.specs.Faults.{fault_for}
-use Rattle.sql_tables.specs.Tables.{our_schema}
 
-abbrev pub ours_at : Trees → Database
-ours_at trees = record { schema = our_schema; trees = trees }
+-- the database has these contents: their rows stand in our tables, of some version and in any
+-- order, or it is empty, and there are none
+abbrev pub Has : Database → Contents → Type 0
+Has db c = ((v : Version) × HoldsRows v (image c) db) ⊎ ((db.schema ≡ no_schema) × (c ≡ no_contents))
 
--- what an open finds at these trees of our tables: sound contents whose image they are, or none,
--- where there are none
+-- a database with these contents stands at the trees, as their own catalog lists it
+pub record HasAt (trees : Trees) (c : Contents) : Type 0 where
+  pub db : Database
+  pub is_database : IsDatabase db
+  pub stands : db.trees ≡ trees
+  pub has : Has db c
+
+-- what an open finds at these trees: sound contents, or none, and then it is refused
 abbrev pub Stands : Option Contents → Trees → Type 0
-Stands None trees = (c : Contents) → AreSound c → ¬ IsImage (image c) (ours_at trees)
-Stands (Some c) trees = AreSound c × IsImage (image c) (ours_at trees)
+Stands None trees = (c : Contents) → AreSound c → ¬ HasAt trees c
+Stands (Some c) trees = AreSound c × HasAt trees c
 
 -- One that a fault has shut stands for any sound contents. The two counts are the store's own.
 abbrev pub link : sqlite.State → ℕ → ℕ → State

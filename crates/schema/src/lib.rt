@@ -5,6 +5,7 @@ mod again;
 mod closing;
 mod faults;
 mod keeping;
+pub mod laws;
 pub mod opening;
 pub mod store;
 

@@ -1,5 +1,5 @@
 //! A store begins, and ends.
-ghost use Rattle.std.specs.Prelude.{◌≡◌, ◌≢◌, ◌⊎◌, false, IfErr, IfOk, IsTrue, MatchResult};
+ghost use Rattle.std.specs.Prelude.{◌≡◌, ◌≢◌, ◌⊎◌, false, IfErr, IfOk, IsTrue, MatchResult, None};
 ghost use Rattle.sqlite.specs.Held.{state};
 ghost use Rattle.sqlite.specs.State.{HasCleanDisk, Survives};
 ghost use Rattle.job_facts.specs.Contents.{AreSound, Contents, no_contents};
@@ -10,14 +10,16 @@ ghost use Rattle.sql_base.specs.Ends.{IsKept, IsLeft};
 ghost use Rattle.sql_tables.specs.declared.versions.Version.{Version};
 ghost use Rattle.table_reads.specs.Holding.{HoldsRows, HoldsSoundRows, IsOfVersion};
 ghost use Rattle.adoption.specs.Adopts.{Adopts};
+ghost use Rattle.adoption.specs.Unwritten.{LeavesOurs};
 ghost use Rattle.schema.specs.Begun.{LeavesNoOther, WasHeld};
-ghost use Rattle.schema.specs.Link.{link};
+ghost use Rattle.schema.specs.Left.{IsRefusal, Leaves, TakesAt};
+ghost use Rattle.schema.specs.Link.{Stands, link};
 ghost use Rattle.schema.specs.Stores.{connection, stands_for};
 
 use crate::faults::Counts;
 use crate::store::SqlStore;
 use adoption::{OpenFault, adopt};
-use sql_base::is_empty;
+use sql_base::{is_empty, laws};
 use sql_tables::make_tables;
 use sqlite::{Alter, Connection};
 use std::alloc::Global;
@@ -52,8 +54,21 @@ impl<S: Alter> SqlStore<S> {
         ensures file { MatchResult result
             (λ store. LeavesNoOther (state S.Store conn) (state S.Store (connection store)))
             (λ e. LeavesNoOther (state S.Store conn) (state S.Store e.0)) }
+        ensures clean { MatchResult result
+            (λ store. HasCleanDisk (state S.Store (connection store))
+            → HasCleanDisk (state S.Store conn))
+            (λ e. HasCleanDisk (state S.Store e.0) → HasCleanDisk (state S.Store conn)) }
+        ensures open { IfOk result (λ store. HasCleanDisk (state S.Store (connection store))
+            → IsTrue (state S.Store (connection store)).is_open) }
+        ensures takes { IfOk result (λ store. HasCleanDisk (state S.Store (connection store))
+            → TakesAt (state S.Store conn).now.trees (stands_for S.Store store)) }
+        ensures leaves { IfErr result (λ e. HasCleanDisk (state S.Store e.0)
+            → IsTrue (state S.Store conn).is_open → (state S.Store conn).now.schema ≡ no_schema
+            → Leaves (link (state S.Store e.0) 0 0) no_contents) }
     {
         image_laws::same_rows_same_contents();
+        laws::is_committed(&conn);
+        laws::is_live(&conn);
         if !is_empty(conn.schema()) {
             return Err((conn, OpenFault::NotOurs));
         }
@@ -73,8 +88,8 @@ impl<S: Alter> SqlStore<S> {
 
     /// A store over a database whose tables, of any version and in any order, hold the rows of
     /// sound contents: it has these, in our own tables. Any other is refused and stays as it is,
-    /// and its connection is handed back. A crash leaves what it could leave before, or the same
-    /// contents.
+    /// and its connection is handed back. Where our own tables stand as they are made, every
+    /// tree stays. A crash leaves what it could leave before, or the same contents.
     pub fn adopt(
         alloc: Global,
         mut conn: Connection<S>,
@@ -106,14 +121,32 @@ impl<S: Alter> SqlStore<S> {
             → (link (state S.Store e.0) 0 0).may_leave d
             → (link (state S.Store conn) 0 0).may_leave d
             ⊎ WasHeld d (state S.Store conn).now) }
+        ensures unchanged { MatchResult result
+            (λ store. LeavesOurs (state S.Store conn) (state S.Store (connection store)))
+            (λ e. LeavesOurs (state S.Store conn) (state S.Store e.0)) }
         ensures survives { MatchResult result (λ store. Survives (state S.Store conn)
             (state S.Store (connection store)) (IsLeft Adopts (state S.Store conn)))
             (λ e. Survives (state S.Store conn) (state S.Store e.0)
             (IsLeft Adopts (state S.Store conn))) }
+        ensures open { IfOk result (λ store. HasCleanDisk (state S.Store (connection store))
+            → IsTrue (state S.Store (connection store)).is_open) }
+        ensures takes { IfOk result (λ store. HasCleanDisk (state S.Store (connection store))
+            → TakesAt (state S.Store conn).now.trees (stands_for S.Store store)) }
+        ensures refuses { IfErr result (λ e. HasCleanDisk (state S.Store e.0)
+            → IsTrue (state S.Store conn).is_open → IsRefusal e.1
+            → (state S.Store conn).now.schema ≢ no_schema
+            → Stands None (state S.Store conn).now.trees) }
+        ensures leaves { IfErr result (λ e. HasCleanDisk (state S.Store e.0)
+            → IsTrue (state S.Store conn).is_open
+            → (v : Version) (c : Contents) → AreSound c
+            → HoldsRows v (image c) (state S.Store conn).now
+            → Leaves (link (state S.Store e.0) 0 0) c) }
     {
         image_laws::same_rows_same_contents();
         table_reads::laws::held_rows_are_one();
         table_reads::laws::rows_are_held_in_any_order();
+        laws::is_committed(&conn);
+        laws::is_live(&conn);
         match adopt(alloc, &mut conn) {
             Ok(()) => {
                 let counts = Counts { failed: 0, full: 0 };
