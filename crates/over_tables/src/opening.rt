@@ -2,14 +2,9 @@
 ghost use Rattle.std.specs.Prelude.{◌≡◌, ◌↔◌, false, IfErr, IfOk, IsTrue};
 ghost use Rattle.sqlite.specs.Held.{state};
 ghost use Rattle.sqlite.specs.State.{HasCleanDisk};
-ghost use Rattle.job_facts.specs.Contents.{AreSound, Contents, no_contents};
-ghost use Rattle.image_laws.specs.Image.{image};
-ghost use Rattle.sql_base.specs.Ends.{IsKept};
-ghost use Rattle.sql_tables.specs.declared.versions.Version.{Version};
-ghost use Rattle.table_reads.specs.Holding.{HoldsRows, HoldsSoundRows, IsOfVersion};
 ghost use Rattle.schema.specs.Stores.{connection, stands_for};
-ghost use Rattle.over_tables.specs.Opens.{Begins};
-ghost use Rattle.over_tables.specs.Refusals.{Explains, IsDamaged, IsNotOurs};
+ghost use Rattle.over_tables.specs.Opens.{Begins, IsOpened};
+ghost use Rattle.over_tables.specs.Refusals.{IsRefused};
 
 use crate::fault::FileFault;
 use crate::refusing::with_cause;
@@ -39,39 +34,22 @@ pub fn begins<S: Alter>(conn: &Connection<S>, wanted: Wanted) -> bool
 
 /// The store over a database: a new one where it is empty and may be, and else the one whose rows
 /// it holds, in our tables of any version. Any other is refused and stays as it is: its connection
-/// is handed back with the cause, for which its schema, or all its rows, are read again.
+/// is handed back with the cause, for which its schema, or all its rows, are read again. A crash
+/// leaves what it could leave before, or what the store stands for.
 pub fn store_over<S: Alter>(
     alloc: Global,
     conn: Connection<S>,
     wanted: Wanted,
 ) -> Result<SqlStore<S>, (Connection<S>, FileFault)>
     requires { conn.in_transaction ≡ false }
-    ensures begun { IfOk result (λ store. HasCleanDisk (state S.Store (connection store))
-        → Begins wanted (state S.Store conn).now
-        → (stands_for S.Store store).holds no_contents) }
     ensures taken { IfOk result (λ store. HasCleanDisk (state S.Store (connection store))
-        → ¬ Begins wanted (state S.Store conn).now
-        → (v : Version) × HoldsSoundRows v (state S.Store conn).now) }
-    ensures holds { IfOk result (λ store. HasCleanDisk (state S.Store (connection store))
-        → ¬ Begins wanted (state S.Store conn).now
-        → (v : Version) (c : Contents) → AreSound c
-        → HoldsRows v (image c) (state S.Store conn).now → (stands_for S.Store store).holds c) }
+        → IsOpened wanted (state S.Store conn).now (stands_for S.Store store)) }
+    ensures clean { IfOk result (λ store. HasCleanDisk (state S.Store (connection store))
+        → HasCleanDisk (state S.Store conn)) }
     ensures counts { IfOk result (λ store. ((stands_for S.Store store).failed ≡ 0)
         × ((stands_for S.Store store).full ≡ 0)) }
-    ensures not_empty { IfErr result (λ e. IsNotOurs e.1
-        → ¬ Begins wanted (state S.Store conn).now) }
-    ensures not_ours { IfErr result (λ e. HasCleanDisk (state S.Store e.0)
-        → IsNotOurs e.1 → (v : Version) → ¬ IsOfVersion v (state S.Store conn).now) }
-    ensures damaged { IfErr result (λ e. HasCleanDisk (state S.Store e.0)
-        → IsDamaged e.1
-        → ((v : Version) × IsOfVersion v (state S.Store conn).now)
-        × ((v : Version) → ¬ HoldsSoundRows v (state S.Store conn).now)) }
-    ensures why { IfErr result (λ e. HasCleanDisk (state S.Store e.0)
-        → IsTrue (state S.Store conn).is_open → IsTrue (state S.Store e.0).is_open
-        → Explains (state S.Store conn).now e.1) }
-    ensures kept { IfErr result (λ e. HasCleanDisk (state S.Store e.0)
-        → IsTrue (state S.Store conn).is_open
-        → IsKept (state S.Store conn) (state S.Store e.0)) }
+    ensures refused { IfErr result (λ e. IsRefused wanted (state S.Store conn)
+        (state S.Store e.0) e.1) }
     ensures idle { IfErr result (λ e. e.0.in_transaction ≡ false) }
 {
     let opened = if begins(&conn, wanted) {

@@ -1,9 +1,10 @@
 //! Why a database that is opened is not taken.
 ghost use Rattle.std.specs.Prelude.{◌≡◌, false};
 ghost use Rattle.sqlite.specs.Held.{state};
-ghost use Rattle.sqlite.specs.State.{HasCleanDisk};
+ghost use Rattle.sqlite.specs.State.{HasCleanDisk, Survives};
 ghost use Rattle.sql_base.specs.Ends.{IsKept};
-ghost use Rattle.over_tables.specs.Faults.{of_damage, of_difference};
+ghost use Rattle.job_facts.specs.declared.store.StoreFault.{StoreFault};
+ghost use Rattle.over_tables.specs.Faults.{of_damage, of_difference, of_store};
 ghost use Rattle.over_tables.specs.Refusals.{Explains, IsDamaged, IsNotOurs};
 
 use crate::cause::Cause;
@@ -50,10 +51,11 @@ pub(crate) fn with_cause<S: Alter>(
         → Explains (state S.Store conn).now result.1 }
     ensures not_ours { IsNotOurs result.1 → fault ≡ OpenFault.NotOurs }
     ensures damaged { IsDamaged result.1 → fault ≡ OpenFault.Damaged }
-    ensures clean { HasCleanDisk (state S.Store result.0) → HasCleanDisk (state S.Store conn) }
+    ensures told { (own : StoreFault) → fault ≡ OpenFault.Store own → result.1 ≡ of_store own }
     ensures kept { HasCleanDisk (state S.Store result.0)
         → IsKept (state S.Store conn) (state S.Store result.0) }
     ensures idle { result.0.in_transaction ≡ false }
+    ensures survives { Survives (state S.Store conn) (state S.Store result.0) (λ _. ⊥) }
 {
     let cause = match fault {
         OpenFault::NotOurs => of_difference(find_difference(alloc, &mut conn)),

@@ -1,6 +1,10 @@
-use Rattle.std.proofs.Common.{◌≡◌, sym, subst, ◌∙◌}
-use Rattle.std.specs.Prelude.{IfErr, IfOk, Ok, Err, Result}
+use Rattle.std.proofs.Common.{◌≡◌, sym, subst, ◌∙◌, arith}
+use Rattle.std.specs.Prelude.{IfErr, IfOk, MatchResult, Ok, Err, Result}
 use Rattle.std.proofs.lemmas.Bool.{false≢true}
+use Rattle.sqlite.specs.Held.{state}
+use Rattle.schema.specs.Stores.{stands_for}
+use Rattle.over_tables.specs.Opens.{Begins}
+use Rattle.over_tables.proofs.Stores.{opened_new, opened_over, refused_new, refused_over}
 use Rattle.over_tables.proofs.opening.store_over.Goals as goal
 use Rattle.over_tables.proofs.opening.store_over.Goals.{then-begins, else-begins}
 
@@ -11,26 +15,55 @@ at_ok P o x is holds = subst (λ o. IfOk o P) is holds
 at_err : {A E : Type 0} (P : E → Type 0) (o : Result A E) (e : E) → o ≡ Err e → IfErr o P → P e
 at_err P o e is holds = subst (λ o. IfErr o P) is holds
 
-pub returns-in-Ok-clause-begun : goal.returns-in-Ok-clause-begun
-returns-in-Ok-clause-begun g c clean new = elim c.if-begins.branch [
-  | then-begins w ↦ at_ok _ w.create-opened.result c.in-Ok.store (sym w.opened-is ∙ c.in-Ok.is) w.create-opened.ensures.holds clean
-  | else-begins w ↦ absurd (false≢true (sym w.if-begins.false ∙ c.begins.ensures.1 new))
-]
+either_err : {A E : Type 0} (P : A → Type 0) (Q : E → Type 0) (o : Result A E) (e : E) → o ≡ Err e → MatchResult o P Q → Q e
+either_err P Q o e is holds = subst (λ o. MatchResult o P Q) is holds
+
+either_ok : {A E : Type 0} (P : A → Type 0) (Q : E → Type 0) (o : Result A E) (x : A) → o ≡ Ok x → MatchResult o P Q → P x
+either_ok P Q o x is holds = subst (λ o. MatchResult o P Q) is holds
 
 pub returns-in-Ok-clause-taken : goal.returns-in-Ok-clause-taken
-returns-in-Ok-clause-taken g c clean no_new = elim c.if-begins.branch [
-  | then-begins w ↦ absurd (no_new (c.begins.ensures.0 w.if-begins.true))
-  | else-begins w ↦ at_ok _ w.adopt-opened.result c.in-Ok.store (sym w.opened-is ∙ c.in-Ok.is) w.adopt-opened.ensures.taken clean
-]
+returns-in-Ok-clause-taken g c clean =
+    let wanted = c.args.wanted in
+    let db = (state g.S.Store c.args.conn).now in
+    let store = stands_for g.S.Store c.in-Ok.store in
+    elim c.if-begins.branch [
+      | then-begins w ↦
+          let is = sym w.opened-is ∙ c.in-Ok.is in
+          let ok = w.create-opened.ensures in
+          opened_new wanted db store (c.begins.ensures.0 w.if-begins.true) (at_ok _ w.create-opened.result c.in-Ok.store is ok.holds clean) (at_ok _ w.create-opened.result c.in-Ok.store is ok.crash clean)
+      | else-begins w ↦
+          let is = sym w.opened-is ∙ c.in-Ok.is in
+          let ok = w.adopt-opened.ensures in
+          opened_over wanted db store (λ begins. false≢true (sym w.if-begins.false ∙ c.begins.ensures.1 begins)) (at_ok _ w.adopt-opened.result c.in-Ok.store is ok.taken clean)
+          (at_ok _ w.adopt-opened.result c.in-Ok.store is ok.holds clean) (at_ok _ w.adopt-opened.result c.in-Ok.store is ok.crash clean)
+    ]
 
-pub returns-in-Ok-clause-holds : goal.returns-in-Ok-clause-holds
-returns-in-Ok-clause-holds g c clean no_new = elim c.if-begins.branch [
-  | then-begins w ↦ absurd (no_new (c.begins.ensures.0 w.if-begins.true))
-  | else-begins w ↦ at_ok _ w.adopt-opened.result c.in-Ok.store (sym w.opened-is ∙ c.in-Ok.is) w.adopt-opened.ensures.holds clean
-]
+pub returns-in-Err-clause-refused : goal.returns-in-Err-clause-refused
+returns-in-Err-clause-refused g c =
+    let wanted = c.args.wanted in
+    let old = state g.S.Store c.args.conn in
+    let mid = state g.S.Store c.in-Err.conn in
+    let new = state g.S.Store c.with_cause.result.0 in
+    let looked = c.with_cause.ensures in
+    elim c.if-begins.branch [
+      | then-begins w ↦
+          let is = sym w.opened-is ∙ c.in-Err.is in
+          let err = w.create-opened.ensures in
+          let begins = c.begins.ensures.0 w.if-begins.true in
+          refused_new wanted old mid new c.with_cause.result.1 _ _ looked.not_ours looked.damaged looked.why looked.kept looked.survives begins
+          (at_err _ w.create-opened.result _ is err.refused) (at_err _ w.create-opened.result _ is err.unread) (either_err _ _ w.create-opened.result _ is err.clean) (at_err _ w.create-opened.result _ is err.kept)
+          (at_err _ w.create-opened.result _ is err.late)
+      | else-begins w ↦
+          let is = sym w.opened-is ∙ c.in-Err.is in
+          let err = w.adopt-opened.ensures in
+          let stands : ¬ Begins wanted old.now = λ begins. false≢true (sym w.if-begins.false ∙ c.begins.ensures.1 begins) in
+          refused_over wanted old mid new c.with_cause.result.1 _ _ looked.not_ours looked.damaged looked.why looked.kept looked.survives stands
+          (at_err _ w.adopt-opened.result _ is err.not_ours) (at_err _ w.adopt-opened.result _ is err.damaged) (λ clean. omega (arith, (either_err _ _ w.adopt-opened.result _ is err.survives).clean))
+          (at_err _ w.adopt-opened.result _ is err.kept) (at_err _ w.adopt-opened.result _ is err.late)
+    ]
 
-pub returns-in-Err-clause-damaged : goal.returns-in-Err-clause-damaged
-returns-in-Err-clause-damaged g c clean is = elim c.if-begins.branch [
-  | then-begins w ↦ absurd (at_err _ w.create-opened.result _ (sym w.opened-is ∙ c.in-Err.is) w.create-opened.ensures.unread (c.with_cause.ensures.damaged is))
-  | else-begins w ↦ at_err _ w.adopt-opened.result _ (sym w.opened-is ∙ c.in-Err.is) w.adopt-opened.ensures.damaged (c.with_cause.ensures.clean clean) (c.with_cause.ensures.damaged is)
+pub returns-in-Ok-clause-clean : goal.returns-in-Ok-clause-clean
+returns-in-Ok-clause-clean g c clean = elim c.if-begins.branch [
+  | then-begins w ↦ either_ok _ _ w.create-opened.result c.in-Ok.store (sym w.opened-is ∙ c.in-Ok.is) w.create-opened.ensures.clean clean
+  | else-begins w ↦ omega (arith, (either_ok _ _ w.adopt-opened.result c.in-Ok.store (sym w.opened-is ∙ c.in-Ok.is) w.adopt-opened.ensures.survives).clean)
 ]
