@@ -1,4 +1,4 @@
-//! The store.
+//! The store of lists behind a device, whose faults each call may meet.
 use crate::device::{Device, Fault, Plan};
 use job_facts::{
     BatchRow, BatchSize, BatchTotals, BlankTotals, Change, FaultCounts, JobStore, KeptReply, Lot,

@@ -3,8 +3,23 @@
 //! socket; and why one is not taken. And runs of the program, and each of its ends.
 #![tactic(auto)]
 
+// What the tests share.
 #[cfg(test)]
 mod bodies;
+#[cfg(test)]
+mod disks;
+#[cfg(test)]
+mod exchanges;
+#[cfg(test)]
+mod stories;
+
+// A store over lists or tables whose device or memory fails.
+#[cfg(test)]
+mod faults;
+#[cfg(test)]
+mod refused;
+
+// A store over files: stops, earlier versions, and files that are refused.
 #[cfg(test)]
 mod carried;
 #[cfg(test)]
@@ -12,24 +27,16 @@ mod causes;
 #[cfg(test)]
 mod damaged;
 #[cfg(test)]
-mod disks;
+mod stops;
+#[cfg(test)]
+mod versions;
+
+// The program, and the server behind a socket.
 #[cfg(test)]
 mod ends;
-#[cfg(test)]
-mod exchanges;
-#[cfg(test)]
-mod faults;
 #[cfg(test)]
 mod joins;
 #[cfg(test)]
 mod programs;
 #[cfg(test)]
-mod refused;
-#[cfg(test)]
 mod served;
-#[cfg(test)]
-mod stops;
-#[cfg(test)]
-mod stories;
-#[cfg(test)]
-mod versions;

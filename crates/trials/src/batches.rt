@@ -14,6 +14,14 @@ pub(crate) const FILE: &[u8] =
 pub(crate) const PRINTED: &str =
     "record R2\n00A4040006F00000000101\n80E26000058000020102\n80E28001050102027000\nrecord R1\n00A4040006F00000000101\n80E28000050101027000\n";
 
+/// A record of two applications, the first with an enciphered segment before a plain one.
+pub(crate) const TWO_APPLICATIONS: &[u8] =
+    b"record,aid,rank,enc,tol,dgi\nR2,F0000000020202,2,0,0,0201027000\nR2,F00000000101,1,0,0,0101027000\nR2,F0000000020202,1,1,0,8000081122334455667788\n";
+
+/// What is printed for it.
+pub(crate) const TWO_PRINTED: &str =
+    "record R2\n00A4040007F0000000020202\n80E260000B8000081122334455667788\n80E28001050201027000\n00A4040006F00000000101\n80E28000050101027000\n";
+
 /// A product of these numbers.
 pub(crate) fn product(max: u8, low: u8, check: bool) -> Result<Product, Fail>
     requires least { 16 ≤ max }

@@ -21,6 +21,11 @@ impl Limited {
         }
     }
 
+    /// For how many bytes it has room in all.
+    pub(crate) fn room(&self) -> usize {
+        self.most
+    }
+
     /// What it took.
     pub(crate) fn taken(&self) -> &[u8] {
         self.bytes.get(..self.taken).unwrap_or(&[])

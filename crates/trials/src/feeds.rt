@@ -26,13 +26,14 @@ macro_rules! reply {
     };
 }
 
-use reply;
+pub(crate) use reply;
 
 const RELEASED: &str = reply!("200 OK", 37, r#"{"mark":10000000,"result":"released"}"#);
 
 const RESET: &str = reply!("200 OK", 30, r#"{"result":"reset","session":0}"#);
 
-const OPENED: &str = reply!(
+/// An opening's first command.
+pub(crate) const OPENED: &str = reply!(
     "200 OK",
     117,
     r#"{"batch":"B1","blank":1000,"command":"00A4040006F00000000101","index":0,"record":"R1","result":"command","session":1}"#
@@ -51,6 +52,25 @@ const REPLIES: [&str; 5] = [RELEASED, RESET, OPENED, NEXT, GOOD];
 
 const PRINTED: &[u8] =
     b"1000 00A4040006F00000000101 9000\n1000 80E28000050101027000 9000\n1000 good\n";
+
+// Commands for a session and a place that no answer can name.
+const LEAST_SESSION: &str = reply!(
+    "200 OK",
+    117,
+    r#"{"batch":"B1","blank":1000,"command":"00A4040006F00000000101","index":0,"record":"R1","result":"command","session":0}"#
+);
+
+const MOST_SESSION: &str = reply!(
+    "200 OK",
+    135,
+    r#"{"batch":"B1","blank":1000,"command":"00A4040006F00000000101","index":0,"record":"R1","result":"command","session":1000000000000000000}"#
+);
+
+const MOST_INDEX: &str = reply!(
+    "200 OK",
+    84,
+    r#"{"command":"80E28000050101027000","index":4294967296,"result":"command","session":1}"#
+);
 
 const STORAGE: &str = reply!(
     "503 Service Unavailable",
@@ -149,6 +169,25 @@ fn a_storage_fault_and_a_malformed_message_are_no_replies(rt: HostRuntime) -> Re
         let end = at_last!(feed_of_limited(&rt, alloc, machine, &replies[..count], 0));
         assert_eq!(rt; end, Err(FeedStop::NoReply));
     }
+    Ok(())
+}
+
+#[test]
+fn a_reply_out_of_range_is_none(rt: HostRuntime) -> Result<(), Fail> {
+    let (alloc, machine) = (rt.alloc(), name("m1")?);
+    let [released, reset, open, answer, good] = REPLIES;
+    let replies = [
+        released,
+        reset,
+        LEAST_SESSION,
+        MOST_SESSION,
+        open,
+        MOST_INDEX,
+        answer,
+        good,
+    ];
+    let end = at_last!(feed_of_limited(&rt, alloc, machine, &replies, PRINTED.len()));
+    assert_eq!(rt; end, Ok(()));
     Ok(())
 }
 

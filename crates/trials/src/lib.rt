@@ -17,6 +17,8 @@ mod feeds;
 #[cfg(test)]
 mod memory;
 #[cfg(test)]
+mod numbers;
+#[cfg(test)]
 mod readers;
 #[cfg(test)]
 mod servers;

@@ -3,12 +3,14 @@ ghost use Rattle.store_data.specs.Sequence.{IsProduct};
 
 use crate::again::{MayWantMemory, at_last};
 use crate::batches::{FILE, product};
-use crate::exchanges::inputs;
+use crate::exchanges::{UNAVAILABLE, inputs, name};
 use crate::failing_readers::{Broken, Counted, Failing};
 use crate::failing_writers::Limited;
 use drill::{DrillStop, drill_over_lists, serve_inputs};
+use job_facts::JobStore;
+use list_store::ListStore;
 use plan_print::{PlanStop, plan_engine};
-use server::{Connections, NextFault};
+use server::{Connections, End, NextFault, Served, serve_one};
 use std::alloc::Global;
 use std::process::Abort;
 use std::test::Fail;
@@ -75,6 +77,38 @@ fn a_failed_read_is_the_end(rt: HostRuntime) {
             "at {size}"
         );
     }
+}
+
+// What becomes of a connection whose read fails behind so many bytes.
+fn served_in_part(alloc: Global, store: &mut ListStore, size: usize) -> (Served, Limited) {
+    let (front, others) = PRODUCT.split_at_checked(size).unwrap_or((PRODUCT, b""));
+    let mut writer = Limited::new(512, 512);
+    let served = serve_one(
+        alloc,
+        store,
+        &mut Failing::new(front, others, 5),
+        &mut writer,
+    );
+    (served, writer)
+}
+
+// Nothing is written, and neither the product nor a reply is kept.
+#[test]
+fn a_message_whose_read_fails_does_nothing(rt: HostRuntime) -> Result<(), Fail> {
+    let (alloc, office, code) = (rt.alloc(), name("office")?, name("P1")?);
+    let mut store = ListStore::new(alloc);
+    for size in 0..PRODUCT.len() {
+        let (mut served, mut writer) = served_in_part(alloc, &mut store, size);
+        if writer.taken() == UNAVAILABLE {
+            (served, writer) = served_in_part(alloc, &mut store, size);
+        }
+        let (end, decided) = (End::Broken, false);
+        assert_eq!(rt; served, Served { end, decided }, "at {size}");
+        assert!(rt; writer.taken().is_empty(), "at {size}");
+        assert!(rt; at_last!(store.product(&code))?.is_none(), "at {size}");
+        assert!(rt; at_last!(store.kept(&office, 1))?.is_none(), "at {size}");
+    }
+    Ok(())
 }
 
 // How a plan ends whose reader fails behind these bytes; nothing is written.

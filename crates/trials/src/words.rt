@@ -1,4 +1,4 @@
-//! The program's words.
+//! Tests of the program's arguments.
 use arguments::{Words, WordsFault, read_words};
 use std::alloc::{AllocError, Global};
 use std::process::Abort;

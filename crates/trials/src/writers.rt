@@ -5,6 +5,7 @@ use crate::again::{MayWantMemory, at_last};
 use crate::batches::{FILE, PRINTED, product};
 use crate::exchanges::{REPORT, name, served, stocked};
 use crate::failing_writers::Limited;
+use crate::feeds::{OPENED, reply};
 use drill::{DrillStop, drill_over_lists};
 use list_store::ListStore;
 use plan_print::{PlanStop, plan_engine};
@@ -129,31 +130,66 @@ const PRODUCT: &[u8] =
 const CREATED: &[u8] =
     b"HTTP/1.1 200 OK\r\nContent-Type: application/json\r\nContent-Length: 35\r\nConnection: close\r\n\r\n{\"product\":\"P1\",\"result\":\"created\"}";
 
-// The product's reply is told up to the room of its writer, and whole where the product comes
-// again.
-fn check_told_again(rt: &impl Abort, alloc: Global, room: usize, at_a_call: usize) {
-    let mut store = ListStore::new(alloc);
-    let (first, writer) = served(alloc, &mut store, PRODUCT, Limited::new(room, at_a_call));
-    let end = if room < CREATED.len() {
+const OPEN: &[u8] =
+    b"POST /c/m1/1 HTTP/1.1\r\nContent-Length: 39\r\n\r\n{\"do\":\"open\",\"batch\":\"B1\",\"blank\":1000}";
+
+const BLANKS: &[u8] = b"GET /blanks/P1 HTTP/1.1\r\n\r\n";
+
+const ONE_CHARGED: &str = reply!(
+    "200 OK",
+    103,
+    r#"{"charged":1,"discarded":0,"free":2,"good":0,"lots":1,"product":"P1","running":1,"spoiled":0,"total":3}"#
+);
+
+// A message's reply is told up to the room of its writer, and whole where the message comes again.
+fn check_told_again(
+    rt: &impl Abort,
+    alloc: Global,
+    store: &mut ListStore,
+    message: &[u8],
+    reply: &[u8],
+    writer: Limited,
+) {
+    let room = writer.room().min(reply.len());
+    let (first, writer) = served(alloc, store, message, writer);
+    let end = if room < reply.len() {
         End::WriteFailed
     } else {
         End::Answered
     };
     let decided = true;
     assert_eq!(rt; first, Served { end, decided }, "at {room}");
-    assert_eq!(rt; Some(writer.taken()), CREATED.get(..room), "at {room}");
-    let (again, writer) = served(alloc, &mut store, PRODUCT, Limited::new(512, at_a_call));
+    assert_eq!(rt; Some(writer.taken()), reply.get(..room), "at {room}");
+    let (again, writer) = served(alloc, store, message, Limited::new(512, 1 + room % 8));
     let end = End::Answered;
     assert_eq!(rt; again, Served { end, decided }, "at {room}");
-    assert_eq!(rt; writer.taken(), CREATED, "at {room}");
+    assert_eq!(rt; writer.taken(), reply, "at {room}");
 }
 
 #[test]
 fn a_failed_reply_is_told_again(rt: HostRuntime) {
+    let alloc = rt.alloc();
     for room in 0..=CREATED.len() {
-        check_told_again(&rt, rt.alloc(), room, 1 + room % 8);
+        let mut store = ListStore::new(alloc);
+        let writer = Limited::new(room, 1 + room % 8);
+        check_told_again(&rt, alloc, &mut store, PRODUCT, CREATED, writer);
     }
-    check_told_again(&rt, rt.alloc(), CREATED.len(), 512);
+    let (mut store, writer) = (ListStore::new(alloc), Limited::new(512, 512));
+    check_told_again(&rt, alloc, &mut store, PRODUCT, CREATED, writer);
+}
+
+// The card's first command is told again, and one blank is charged.
+#[test]
+fn a_failed_reply_charges_one_blank(rt: HostRuntime) -> Result<(), Fail> {
+    let (alloc, opened) = (rt.alloc(), OPENED.as_bytes());
+    for room in 0..=opened.len() {
+        let mut store = stocked(alloc)?;
+        check_told_again(&rt, alloc, &mut store, OPEN, opened, Limited::new(room, 1));
+        let (account, writer) = served(alloc, &mut store, BLANKS, Limited::new(512, 512));
+        assert_eq!(rt; account.end, End::Answered);
+        assert_eq!(rt; writer.taken(), ONE_CHARGED.as_bytes(), "at {room}");
+    }
+    Ok(())
 }
 
 // Two replies, and a line that is none of a script.

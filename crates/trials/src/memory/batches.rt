@@ -3,7 +3,7 @@ ghost use Rattle.std.specs.Prelude.{IfOk};
 ghost use Rattle.store_data.specs.Sequence.{AreRows, IsProduct};
 
 use crate::again::{MayWantMemory, at_last};
-use crate::batches::{FILE, PRINTED, product};
+use crate::batches::{FILE, PRINTED, TWO_APPLICATIONS, TWO_PRINTED, product};
 use crate::failing_writers::Limited;
 use batch_import::{ImportFault, Totals, check_batch, read_batch, rows};
 use dgi::from_hex_text;
@@ -78,15 +78,12 @@ fn rows_end_where_memory_is_refused(rt: HostRuntime) -> Result<(), Fail> {
     Ok(())
 }
 
-const ONE_RECORD: &[u8] =
-    b"record,aid,rank,enc,tol,dgi\nR1,F00000000101,1,0,0,0101027000\nR1,F0000000020202,1,0,0,0102027000\n";
-
 // The rows of one record, if there is memory for them.
 fn rows_of_one(alloc: Global, product: &Product) -> Result<Vec<Row>, ImportFault>
     requires { IsProduct product.now }
     ensures { IfOk result (λ rows. AreRows rows.items) }
 {
-    Ok(read_batch(alloc, ONE_RECORD, product)?.rows)
+    Ok(read_batch(alloc, TWO_APPLICATIONS, product)?.rows)
 }
 
 fn one_record(alloc: Global, product: &Product) -> Result<Vec<Row>, ImportFault>
@@ -99,7 +96,7 @@ fn one_record(alloc: Global, product: &Product) -> Result<Vec<Row>, ImportFault>
     }
 }
 
-// These rows of two applications have two commands each.
+// These rows of two applications have three commands and two.
 fn check_planned(
     rt: &impl Abort,
     alloc: Global,
@@ -110,9 +107,9 @@ fn check_planned(
     requires product { IsProduct product.now }
 {
     let planned = at_last!(plan(alloc, rows, product))?;
-    assert_eq!(rt; count(&planned), 4);
+    assert_eq!(rt; count(&planned), 5);
     let commands = at_last!(list(alloc, &planned))?;
-    assert_eq!(rt; commands.len(), 4);
+    assert_eq!(rt; commands.len(), 5);
     Ok(())
 }
 
@@ -127,9 +124,11 @@ fn a_plan_is_made_after_refused_memory(rt: HostRuntime) -> Result<(), Fail> {
 #[test]
 fn a_plan_is_printed_after_refused_memory(rt: HostRuntime) -> Result<(), Fail> {
     let product = product(255, 0, false)?;
-    let mut writer = Limited::new(512, 512);
-    let end = at_last!(plan_engine(rt.alloc(), &product, &mut Cursor::new(FILE), &mut writer));
-    assert_eq!(rt; end, Ok(()));
-    assert_eq!(rt; writer.taken(), PRINTED.as_bytes());
+    for (file, printed) in [(FILE, PRINTED), (TWO_APPLICATIONS, TWO_PRINTED)] {
+        let mut writer = Limited::new(512, 512);
+        let end = at_last!(plan_engine(rt.alloc(), &product, &mut Cursor::new(file), &mut writer));
+        assert_eq!(rt; end, Ok(()));
+        assert_eq!(rt; writer.taken(), printed.as_bytes());
+    }
     Ok(())
 }

@@ -1,4 +1,4 @@
-//! The program's words.
+//! Tests of the program's arguments where memory is refused.
 use crate::words::read_at_last;
 use arguments::{Words, WordsFault};
 
