@@ -66,17 +66,17 @@ told_text told.Memory = codes "memory"
 
 -- ---- which end it is
 
+abbrev pub end_of_store : StoreFault → End
+end_of_store store.Memory = end.Memory
+end_of_store store.Device = end.Storage
+end_of_store store.Full = end.Storage
+
 abbrev pub end_of_plan_stop : PlanStop → End
 end_of_plan_stop (stop.Refused fault) = end.Refused fault
 end_of_plan_stop stop.TooLarge = end.TooLarge
 end_of_plan_stop stop.ReadFailed = end.ReadFailed
 end_of_plan_stop stop.WriteFailed = end.WriteFailed
 end_of_plan_stop stop.Memory = end.Memory
-
--- of `plan`
-abbrev pub end_of_plan : Result (Unit {0}) PlanStop → End
-end_of_plan (Ok u) = end.Done
-end_of_plan (Err stop) = end_of_plan_stop stop
 
 abbrev pub end_of_drill_stop : DrillStop → End
 end_of_drill_stop (drill.BadLine line) = end.BadLine line
@@ -85,15 +85,15 @@ end_of_drill_stop drill.ReadFailed = end.ReadFailed
 end_of_drill_stop drill.WriteFailed = end.WriteFailed
 end_of_drill_stop drill.Memory = end.Memory
 
+-- of `plan`
+abbrev pub end_of_plan : Result (Unit {0}) PlanStop → End
+end_of_plan (Ok u) = end.Done
+end_of_plan (Err stop) = end_of_plan_stop stop
+
 -- of `drill`
 abbrev pub end_of_drill : Result (Unit {0}) DrillStop → End
 end_of_drill (Ok u) = end.Done
 end_of_drill (Err stop) = end_of_drill_stop stop
-
-abbrev pub end_of_store : StoreFault → End
-end_of_store store.Memory = end.Memory
-end_of_store store.Device = end.Storage
-end_of_store store.Full = end.Storage
 
 -- of a file that isn't taken
 abbrev pub end_of_file : FileFault → End
