@@ -1,5 +1,5 @@
 #!/usr/bin/env python3
-"""Hunts for giving up: want of memory, a fault of the store or a failed write that is told where there was none.
+"""Hunts for failures without cause: out of memory, a fault of the store or a failed write that is told where there was none.
 
 No clause can forbid that for one shape of input alone. So this makes batches, exchanges and messages of every shape and size up to each
 limit, by a seed, as files in the formats of docs/WORKED.md. They run through the program `worked`, which fails on any giving up and on any

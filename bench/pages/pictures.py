@@ -127,7 +127,7 @@ def house() -> str:
 CONTRACTS = {
     "over": (110, 60, 320, "serve_over_tables", "over_tables", "the theorem over SQLite; a whole file at the end"),
     "inputs": (460, 60, 320, "serve_inputs", "drill", "the theorem over lists, without a premise"),
-    "run": (110, 140, 320, "serve_and_tell", "server", "ServesAll, event lines, listening and served N"),
+    "run": (110, 140, 320, "serve_and_report", "server", "ServesAll, event lines, listening and served N"),
     "all": (460, 140, 320, "serve_all", "server", "ServesAll: a list of connections"),
     "one": (250, 220, 340, "serve_one, serve_by", "server", "Serves: one connection"),
     "meaning": (20, 310, 240, "read_meaning", "http_requests", "what the bytes mean, and nothing else"),
@@ -150,7 +150,7 @@ CONTRACTS = {
     "feeder": (860, 310, 260, "Feeder", "feeder", "the rows of the table of states"),
     "feed": (860, 220, 260, "feed_engine", "feeding", "what a feed sends and prints"),
     "wire": (860, 400, 260, "request_text, parse_reply", "wire", "a client's half of the messages"),
-    "arrivals": (860, 490, 260, "in_turn, repeats_are_told", "arrivals", "what arrivals mean, with no store"),
+    "arrivals": (860, 490, 260, "in_turn, repeats_get_their_reply", "arrivals", "what arrivals mean, with no store"),
     "laws": (860, 600, 260, "sound_facts_stay_sound, ..", "step_laws", "laws of the plain machine"),
     "planning": (860, 710, 260, "plan, Cursor, check_batch", "store_data, batch_import", "the sequence of a record"),
 }

@@ -10,7 +10,7 @@ use Rattle.sql_base.specs.Ends.{IsKept, IsLeft}
 use Rattle.sql_tables.specs.declared.versions.Version.{Version}
 use Rattle.sql_rows.proofs.SameRows.{same_rows}
 use Rattle.table_reads.specs.Holding.{HoldsRows}
-use Rattle.adoption.specs.Telling.{AreOfSoundContents}
+use Rattle.adoption.specs.Findings.{AreOfSoundContents}
 use Rattle.adoption.specs.Adopts.{Adopts, Settles}
 use Rattle.adoption.specs.Comes.{Comes}
 

@@ -5,7 +5,7 @@ use Rattle.sqlite.specs.declared.error.ErrorCode.TheVariants.{DiskFull, OutOfMem
 use Rattle.job_facts.specs.declared.store.StoreFault.{StoreFault}
 use Rattle.job_facts.specs.declared.store.StoreFault.TheVariants.{Device, Full, Memory}
 
--- refused memory and a full disk are told as such, and any other error as the device's
+-- refused memory and a full disk are reported as such, and any other error as the device's
 abbrev pub fault_for : Error → StoreFault
 fault_for (SqliteFailure OutOfMemory) = Memory
 fault_for (SqliteFailure DiskFull) = Full

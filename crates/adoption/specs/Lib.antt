@@ -1,4 +1,4 @@
-pub mod Telling
+pub mod Findings
 pub mod Comes
 pub mod Adopts
 pub mod Faults

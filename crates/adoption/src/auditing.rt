@@ -6,7 +6,7 @@ ghost use Rattle.sql_base.specs.Ends.{IsKept};
 ghost use Rattle.sql_tables.specs.Ours.{AreThere};
 ghost use Rattle.sql_tables.specs.Versions.{schema_of};
 ghost use Rattle.table_reads.specs.Holding.{IsOfVersion};
-ghost use Rattle.adoption.specs.Telling.{Judges, Tells};
+ghost use Rattle.adoption.specs.Findings.{IsFinding, Judges};
 
 use audit_rows::sort_and_audit;
 use sql_tables::{Version, version_in};
@@ -29,7 +29,7 @@ pub(crate) enum Found {
 // The tables' version, which their own row says too.
 fn own_version<S: Alter>(alloc: Global, conn: &mut Connection<S>) -> Result<Option<Version>, Error>
     requires { conn.old.in_transaction ≡ false }
-    ensures told { HasCleanDisk (state S.Store conn.new) → IfOk result (λ found. MatchOption found
+    ensures value { HasCleanDisk (state S.Store conn.new) → IfOk result (λ found. MatchOption found
         ((v : _) → ¬ IsOfVersion v (state S.Store conn.old).now)
         (λ v. IsOfVersion v (state S.Store conn.old).now
         × AreThere (state S.Store conn.old).now.schema (schema_of v).tables)) }
@@ -63,8 +63,8 @@ fn judged(alloc: Global, version: Version, mut tables: Tables) -> Result<Found, 
 /// memory. Nothing is changed, and a crash leaves what it could leave before.
 pub(crate) fn audit<S: Alter>(alloc: Global, conn: &mut Connection<S>) -> Result<Found, Error>
     requires { conn.old.in_transaction ≡ false }
-    ensures told { HasCleanDisk (state S.Store conn.new)
-        → IfOk result (λ found. Tells found (state S.Store conn.old).now) }
+    ensures value { HasCleanDisk (state S.Store conn.new)
+        → IfOk result (λ found. IsFinding found (state S.Store conn.old).now) }
     ensures kept { HasCleanDisk (state S.Store conn.new)
         → IsKept (state S.Store conn.old) (state S.Store conn.new) }
     ensures idle { conn.new.in_transaction ≡ false }

@@ -13,7 +13,7 @@ use table_reads::has_apart_rowids;
 /// Whether our own tables stand as they are made, so that they can stay.
 pub(crate) fn can_stay<S: Alter>(alloc: Global, conn: &mut Connection<S>) -> Result<bool, Error>
     requires { conn.old.in_transaction ≡ false }
-    ensures told { HasCleanDisk (state S.Store conn.new) → IfOk result (λ stay.
+    ensures value { HasCleanDisk (state S.Store conn.new) → IfOk result (λ stay.
         (IsTrue stay → IsTrue (state S.Store conn.old).is_open)
         × (IsTrue stay ↔ StandAsMade (state S.Store conn.old).now)) }
     ensures kept { HasCleanDisk (state S.Store conn.new)

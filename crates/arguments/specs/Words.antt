@@ -1,4 +1,4 @@
--- What the words of the program mean: this project's profile, as a command of `clap`.
+-- What the arguments of the program mean: this project's profile, as a command of `clap`.
 use Rattle.std.specs.Prelude.{◌≡◌, ◌≢◌, ◌≤◌, ◌⊎◌, ⊤, ℕ, Bool, List, [], ◌∷◌, codes}
 use Rattle.std.specs.Prelude.{Option, Some, pos, true, false, string_bytes}
 use Rattle.std.specs.Str.Parse.{IsNumeral, digits_value, without_leading_plus}
@@ -128,13 +128,13 @@ UsesStreams (Serve db port turns) = ⊥
 UsesStreams (Report db batch) = ⊥
 UsesStreams (Feed port start) = ⊥
 
--- an option has this number, by the words or by default: its text is its decimal digits, before
+-- an option has this number, by the arguments or by default: its text is its decimal digits, before
 -- which a plus may stand
 abbrev pub IsNumber : Text → List Row → ℕ → Type 0
 IsNumber name rows n = (t : Text) × (one_of name rows ≡ Some t)
     × IsNumeral 10 (without_leading_plus t) × (digits_value 10 (without_leading_plus t) ≡ n)
 
--- the flag is on or off, by the words or by default
+-- the flag is on or off, by the arguments or by default
 abbrev pub IsFlag : Text → List Row → Bool → Type 0
 IsFlag name rows on = one_of name rows ≡ Some (bool_text on)
 
@@ -188,15 +188,15 @@ ReadsAs sub (Serve db port turns) = Reads (codes "serve") ReadsServe sub (Serve 
 ReadsAs sub (Report db batch) = Reads (codes "report") ReadsReport sub (Report db batch)
 ReadsAs sub (Feed port start) = Reads (codes "feed") ReadsFeed sub (Feed port start)
 
--- the words ask for this: it is how clap's subcommand of the words reads
+-- the arguments ask for this: it is how clap's subcommand of the arguments reads
 abbrev pub Means : List Text → Words → Type 0
 Means words = ReadsAs (subcommand_of program words)
 
--- some words ask for this, in range
+-- some arguments ask for this, in range
 abbrev pub IsAsked : Words → Type 0
 IsAsked w = InRange w × (words : List Text) × Means words w
 
--- the words ask for nothing in range
+-- the arguments ask for nothing in range
 abbrev pub MeanNothing : List Text → Type 0
 MeanNothing words = (w : Words) → InRange w → ¬ Means words w
 
@@ -228,16 +228,16 @@ FeedsNot rows lacks.Nothing = ReadsNone (ReadsFeed rows)
 FeedsNot rows lacks.BadName = HasBadName (codes "machine") rows ⊎ HasBadName (codes "batch") rows
 FeedsNot rows lacks.Memory = ⊥
 
--- a subcommand tells a bad name
-abbrev pub TellsBadName : Option (Text × List Row) → Type 0
-TellsBadName sub =
+-- a subcommand has a bad name
+abbrev pub HasBadNameIn : Option (Text × List Row) → Type 0
+HasBadNameIn sub =
     ((rows : List Row) × (sub ≡ Some (codes "report", rows)) × ReportsNot rows lacks.BadName)
     ⊎ ((rows : List Row) × (sub ≡ Some (codes "feed", rows)) × FeedsNot rows lacks.BadName)
 
--- a subcommand with its options isn't: it asks for nothing in range, or tells a bad name
+-- a subcommand with its options isn't: it asks for nothing in range, or has a bad name
 abbrev pub ReadsNot : Option (Text × List Row) → Unread → Type 0
 ReadsNot sub lacks.Nothing = ReadsNone (ReadsAs sub)
-ReadsNot sub lacks.BadName = TellsBadName sub
+ReadsNot sub lacks.BadName = HasBadNameIn sub
 ReadsNot sub lacks.Memory = ⊤
 
 -- help and the version where they are among clap's kinds, a usage fault where another is; memory
@@ -251,8 +251,8 @@ IsRefusedBy kinds NotText = ⊥
 IsRefusedBy kinds BadName = ⊥
 IsRefusedBy kinds Memory = ⊤
 
--- clap refuses the words so, or it takes them and they are a usage fault, since they ask for
--- nothing or tell a batch or a machine by what isn't a name
+-- clap refuses the arguments so, or it takes them and they are a usage fault, since they ask for
+-- nothing or name a batch or a machine by what isn't a name
 abbrev pub IsRefusal : List Text → WordsFault → Type 0
 IsRefusal words (Help text) = IsRefusedBy (fault_of program words) (Help text)
 IsRefusal words (Version text) = IsRefusedBy (fault_of program words) (Version text)
@@ -260,7 +260,7 @@ IsRefusal words (Usage text) = IsRefusedBy (fault_of program words) (Usage text)
     ⊎ ((fault_of program words ≡ []) × MeanNothing words)
 IsRefusal words NotText = ⊥
 IsRefusal words BadName =
-    (fault_of program words ≡ []) × TellsBadName (subcommand_of program words)
+    (fault_of program words ≡ []) × HasBadNameIn (subcommand_of program words)
 IsRefusal words Memory = ⊤
 
 -- why the process gives no words, by the kind of the error

@@ -1,4 +1,4 @@
-//! The program's words, and what they ask for.
+//! The program's arguments, and what they ask for.
 #![tactic(auto)]
 
 mod words;

@@ -1,4 +1,4 @@
-//! The program's words: the subcommand that they ask for, each of its values in its range.
+//! The program's arguments: the subcommand that they ask for, each of its values in its range.
 ghost use Rattle.std.specs.Prelude.{◌≡◌, ◌≤◌, ◌<◌, ◌^◌, ℕ, [], IfOk, IfErr, IfSome, IsTrue, ◌↔◌};
 ghost use Rattle.std.specs.Prelude.{None, Some, false, map};
 ghost use Rattle.clap.specs.Words.{HasKind, Kinds, app_of, fault_of, rule_of};
@@ -84,7 +84,7 @@ impl Words {
     }
 }
 
-/// Why the words give no subcommand.
+/// Why the arguments give no subcommand.
 #[derive(Debug, Drop)]
 pub enum WordsFault {
     /// They ask for help: its text is for standard output, and the exit status is 0.
@@ -124,10 +124,11 @@ impl From<AllocError> for WordsFault {
     }
 }
 
-/// What the words ask for. The first is the program's own name, as `env::args` gives them.
+/// What the arguments ask for. The first is the program's own name, as `env::args` gives them.
 ///
-/// `Help` and `Version` come only where `clap` answers the words so, with `clap`'s text. `Usage`
-/// comes where `clap` refuses them, with `clap`'s text too, or where they ask for nothing in range.
+/// `Help` and `Version` come only where `clap` answers the arguments so, with `clap`'s text.
+/// `Usage` comes where `clap` refuses them, with `clap`'s text too, or where they ask for nothing
+/// in range.
 pub fn read_words<S: AsStr>(alloc: Global, words: &[S]) -> Result<Words, WordsFault>
     ensures ranges { IfOk result InRange }
     ensures meaning { IfOk result (Means (map S.text words.now)) }

@@ -1,4 +1,4 @@
--- The same contents in another order: each arrival is told the same, and leaves the same again.
+-- The same contents in another order: each arrival gets the same reply, and leaves the same again.
 use Rattle.std.proofs.Common.{◌≡◌, ◌==◌, ◌&&◌, ◌||◌, ℕ, Bool, true, false, List, [], ◌∷◌, ◌++◌, get_or, map, sym, ap, ◌∙◌, subst, inl, inr, IsPermutation, eq-eqb, not}
 use Rattle.std.specs.Prelude.{bytes_eq, filter, max, nat_le, nat_lt, if◌then◌else◌}
 use Rattle.std.proofs.lemmas.Bool.{and_from, and_parts, both_ways, cases_Bool, eqb-true, false_from_ne_true}
@@ -15,9 +15,9 @@ use Rattle.job_facts.specs.Sound.{IsSound}
 use Rattle.job_facts.specs.Steps.{by_option, step}
 use Rattle.step_laws.specs.Alike.{AreAlike}
 use Rattle.step_laws.proofs.Permuted.{IsPermutation-filter, at_most_one, find_moved}
-use Rattle.arrivals.specs.Laws.{AreToldAlike}
-use Rattle.arrivals.specs.Told.{told_of}
-use Rattle.arrivals.specs.Meaning.{Arrived, Number, contents_after, entries_of, entry_with, facts_after, facts_by, is_among, is_released, mark_by, marks_after, marks_by, number_of, reply_by, reply_to, told_by, told_on}
+use Rattle.arrivals.specs.Laws.{AreAnsweredAlike}
+use Rattle.arrivals.specs.HttpReplies.{http_reply_of}
+use Rattle.arrivals.specs.Meaning.{Arrived, Number, contents_after, entries_of, entry_with, facts_after, facts_by, http_reply_by, http_reply_on, is_among, is_released, mark_by, marks_after, marks_by, number_of, reply_by, reply_to}
 use Rattle.arrivals.proofs.MeaningLemmas.{mark_other, mark_set, upto_of}
 
 same_bytes : (m n : List ℕ) → bytes_eq m n ≡ true → m ≡ n
@@ -45,7 +45,7 @@ above_alike ms ns ds es alike moved =
     let tests : is_above ms ≡ is_above ns = λ i e. nat_lt (alike e.client i) e.number in
     subst (λ p. IsPermutation (above ms ds) (filter p es)) tests (IsPermutation-filter (is_above ms) ds es moved)
 
--- the contents after an arrival that is told again, or after a first
+-- the contents after an arrival that gets its reply again, or after a first
 abbrev after_by : Contents → Arrived → Bool → Contents
 after_by c a again =
     let new : List Arrived = if again then [] else a ∷ [] in
@@ -102,10 +102,10 @@ module _ (facts : FactsAlike) (c d : Contents) (sound : AreSound c) (same : AreS
     new_marks (Job r) = (same.marks, marks_alike)
     new_marks (Release upto) = released_marks upto (nat_le number upto)
 
-  told_alike : (a : Arrived) → told_on c a ≡ told_on d a
-  told_alike a = λ i.
-      if nat_le a.number (marks_alike a.client i) then told_of (NumberReleased (marks_alike a.client i))
-      else by_option (entries_alike a.client a.number i) (told_of (reply_alike a.client a.number a.request i)) (told_by a.ask)
+  answered_alike : (a : Arrived) → http_reply_on c a ≡ http_reply_on d a
+  answered_alike a = λ i.
+      if nat_le a.number (marks_alike a.client i) then http_reply_of (NumberReleased (marks_alike a.client i))
+      else by_option (entries_alike a.client a.number i) (http_reply_of (reply_alike a.client a.number a.request i)) (http_reply_by a.ask)
 
   after_alike : (a : Arrived) (again : Bool) → AreSame (after_by c a again) (after_by d a again)
   after_alike a true = record {
@@ -125,16 +125,16 @@ module _ (facts : FactsAlike) (c d : Contents) (sound : AreSound c) (same : AreS
         marks = marks.0;
       }
 
-  -- whether it is told again
+  -- whether it gets its reply again
   again_alike : (a : Arrived) → (is_released c.marks a || is_among (map number_of c.kept) a) ≡ (is_released d.marks a || is_among (map number_of d.kept) a)
   again_alike a =
       let among : is_among (map number_of c.kept) a ≡ is_among (map number_of d.kept) a =
       list_any-IsPermutation (λ (n : Number). bytes_eq n.0 a.client && (n.1 == a.number)) (map number_of c.kept) (map number_of d.kept) (IsPermutation-map number_of c.kept d.kept same.kept) in
       λ i. nat_le a.number (marks_alike a.client i) || among i
 
-pub same_told_alike : FactsAlike → AreToldAlike
-same_told_alike facts c d a sound same = (
-  told_alike facts c d sound same a,
+pub same_answered_alike : FactsAlike → AreAnsweredAlike
+same_answered_alike facts c d a sound same = (
+  answered_alike facts c d sound same a,
   subst (λ again. AreSame (contents_after c (a ∷ [])) (after_by d a again)) (again_alike facts c d sound same a)
       (after_alike facts c d sound same a (is_released c.marks a || is_among (map number_of c.kept) a)),
 )

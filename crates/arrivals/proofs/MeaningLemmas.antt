@@ -13,8 +13,8 @@ use Rattle.job_facts.specs.declared.reply.Reply.TheVariants.{NumberReleased}
 use Rattle.job_facts.specs.Steps.{by_option}
 use Rattle.job_facts.specs.Contents.{Contents, Entry, Mark, above, entry_of, has_mark, is_above, mark_of, with_mark}
 use Rattle.arrivals.specs.Laws.{AreAbove}
-use Rattle.arrivals.specs.Told.{Told, told_of}
-use Rattle.arrivals.specs.Meaning.{Arrived, contents_after, contents_with, entry_with, is_among, is_released, mark_by, marks_by, marks_with, number_of, reply_to, told_by, told_on}
+use Rattle.arrivals.specs.HttpReplies.{HttpReply, http_reply_of}
+use Rattle.arrivals.specs.Meaning.{Arrived, contents_after, contents_with, entry_with, http_reply_by, http_reply_on, is_among, is_released, mark_by, marks_by, marks_with, number_of, reply_to}
 
 pub filter_all : {X : Type 0} (p : X → Bool) (xs : List X) → All (λ x. p x ≡ true) xs → filter p xs ≡ xs
 filter_all p [] all = refl
@@ -42,31 +42,30 @@ contents_old c a e are not_released some = rw (not_released, among_kept c.kept a
 pub contents_new : (c : Contents) (a : Arrived) → is_released c.marks a ≡ false → entry_of c.kept a.client a.number ≡ None → contents_after c (a ∷ []) ≡ contents_with c a
 contents_new c a not_released none = rw (not_released, among_kept c.kept a, none) refl
 
--- an arrival by its three cases: what holds of the contents that each leaves, and of what it is
--- told
-pub decided_by : (c : Contents) (a : Arrived) (P : Contents → Told → Type 0) → AreAbove c
-    → (is_released c.marks a ≡ true → P c (told_of (NumberReleased (mark_of c.marks a.client))))
-    → ((e : Entry) → is_released c.marks a ≡ false → entry_of c.kept a.client a.number ≡ Some e → P c (told_by a.ask e))
-    → (is_released c.marks a ≡ false → entry_of c.kept a.client a.number ≡ None → P (contents_with c a) (told_of (reply_to c.facts c.marks a)))
-    → P (contents_after c (a ∷ [])) (told_on c a)
+-- an arrival by its three cases: what holds of the contents that each leaves, and of what it gets
+pub decided_by : (c : Contents) (a : Arrived) (P : Contents → HttpReply → Type 0) → AreAbove c
+    → (is_released c.marks a ≡ true → P c (http_reply_of (NumberReleased (mark_of c.marks a.client))))
+    → ((e : Entry) → is_released c.marks a ≡ false → entry_of c.kept a.client a.number ≡ Some e → P c (http_reply_by a.ask e))
+    → (is_released c.marks a ≡ false → entry_of c.kept a.client a.number ≡ None → P (contents_with c a) (http_reply_of (reply_to c.facts c.marks a)))
+    → P (contents_after c (a ∷ [])) (http_reply_on c a)
 decided_by c a P are released again new =
-    let gone : Told = told_of (NumberReleased (mark_of c.marks a.client)) in
-    let first : Told = told_of (reply_to c.facts c.marks a) in
-    let other : Told = by_option (entry_of c.kept a.client a.number) first (told_by a.ask) in
-    let at : (o : Option Entry) → entry_of c.kept a.client a.number ≡ o → is_released c.marks a ≡ false → P (contents_after c (a ∷ [])) (told_on c a) =
-    λ o is miss. elim o as (λ o. entry_of c.kept a.client a.number ≡ o → P (contents_after c (a ∷ [])) (told_on c a)) [
-      | None ↦ λ none. subst (λ d. P d (told_on c a)) (sym (contents_new c a miss none))
-          (subst (P (contents_with c a)) (sym (cond-false (is_released c.marks a) gone other miss ∙ ap (λ o. by_option o first (told_by a.ask)) none)) (new miss none))
-      | Some e ↦ λ some. subst (λ d. P d (told_on c a)) (sym (contents_old c a e are miss some))
-          (subst (P c) (sym (cond-false (is_released c.marks a) gone other miss ∙ ap (λ o. by_option o first (told_by a.ask)) some)) (again e miss some))
+    let gone : HttpReply = http_reply_of (NumberReleased (mark_of c.marks a.client)) in
+    let first : HttpReply = http_reply_of (reply_to c.facts c.marks a) in
+    let other : HttpReply = by_option (entry_of c.kept a.client a.number) first (http_reply_by a.ask) in
+    let at : (o : Option Entry) → entry_of c.kept a.client a.number ≡ o → is_released c.marks a ≡ false → P (contents_after c (a ∷ [])) (http_reply_on c a) =
+    λ o is miss. elim o as (λ o. entry_of c.kept a.client a.number ≡ o → P (contents_after c (a ∷ [])) (http_reply_on c a)) [
+      | None ↦ λ none. subst (λ d. P d (http_reply_on c a)) (sym (contents_new c a miss none))
+          (subst (P (contents_with c a)) (sym (cond-false (is_released c.marks a) gone other miss ∙ ap (λ o. by_option o first (http_reply_by a.ask)) none)) (new miss none))
+      | Some e ↦ λ some. subst (λ d. P d (http_reply_on c a)) (sym (contents_old c a e are miss some))
+          (subst (P c) (sym (cond-false (is_released c.marks a) gone other miss ∙ ap (λ o. by_option o first (http_reply_by a.ask)) some)) (again e miss some))
     ] is in
     elim (cases_Bool (is_released c.marks a)) [
-      | inl hit ↦ subst (λ d. P d (told_on c a)) (sym (contents_released c a are hit)) (subst (P c) (sym (cond-true (is_released c.marks a) gone other hit)) (released hit))
+      | inl hit ↦ subst (λ d. P d (http_reply_on c a)) (sym (contents_released c a are hit)) (subst (P c) (sym (cond-true (is_released c.marks a) gone other hit)) (released hit))
       | inr miss ↦ at (entry_of c.kept a.client a.number) refl miss
     ]
 
 pub above_after : (c : Contents) (a : Arrived) → AreAbove c → AreAbove (contents_after c (a ∷ []))
-above_after c a are = decided_by c a (λ d told. AreAbove d) are (λ released. are) (λ e no some. are)
+above_after c a are = decided_by c a (λ d http_reply. AreAbove d) are (λ released. are) (λ e no some. are)
     (λ no none. filter_passes (is_above (marks_with c.marks a)) (c.kept ++ entry_with a (reply_to c.facts c.marks a) ∷ []))
 
 -- what holds of each entry, and of a new one
@@ -123,7 +122,7 @@ mark_other marks client upto n apart =
     or_none None = refl
     or_none (Some m) = refl
 
--- a client's mark, by what its clients did
+-- a client's release mark, by what its clients did
 pub mark_after : (marks : List Mark) (client : List ℕ) (number : ℕ) (call : Call) (n : List ℕ) → mark_of marks n ≤ mark_of (marks_by marks client number call) n
 mark_after marks client number (Job r) n = omega arith
 mark_after marks client number (Release upto) n =

@@ -1,4 +1,4 @@
--- What an arrival was told it is told again, until its number is released.
+-- An arrival gets the same reply again, until its number is released.
 use Rattle.std.proofs.Common.{◌≡◌, ◌==◌, ◌&&◌, Bool, true, false, cond, List, [], ◌∷◌, ◌++◌, Some, None, refl, sym, ap, ◌∙◌, subst, inl, inr, eq-eqb, arith}
 use Rattle.std.specs.Prelude.{bytes_eq}
 use Rattle.std.proofs.lemmas.Bool.{and_parts, cases_Bool, cond-true, cond-false, eqb-true, false≢true}
@@ -8,15 +8,15 @@ use Rattle.std.proofs.lemmas.Slice.Eq.{bytes_eq-Decides}
 use Rattle.job_facts.specs.declared.reply.Reply.TheVariants.{NumberReleased}
 use Rattle.job_facts.specs.Steps.{by_option}
 use Rattle.job_facts.specs.Contents.{Contents, Entry, Mark, above, entry_of, is_above, mark_of}
-use Rattle.arrivals.specs.Laws.{AreAbove, RepeatsAreTold}
-use Rattle.arrivals.specs.Told.{Told, reused, told_of}
-use Rattle.arrivals.specs.Meaning.{Arrived, contents_after, entry_with, is_released, marks_with, reply_to, told_by, told_on}
+use Rattle.arrivals.specs.Laws.{AreAbove, RepeatsGetTheirReply}
+use Rattle.arrivals.specs.HttpReplies.{HttpReply, http_reply_of, reused}
+use Rattle.arrivals.specs.Meaning.{Arrived, contents_after, entry_with, http_reply_by, http_reply_on, is_released, marks_with, reply_to}
 use Rattle.arrivals.proofs.MeaningLemmas.{above_after, decided_by, marks_grow, same_contents}
 use Rattle.arrivals.proofs.MeaningLists.{one_then, released_before}
 
--- the arrival's number is released, or its entry tells it this
-abbrev pub IsKeptFor : Contents → Arrived → Told → Type 0
-IsKeptFor c a told = is_released c.marks a ≡ false → (e : Entry) × (entry_of c.kept a.client a.number ≡ Some e) × (told_by a.ask e ≡ told)
+-- the arrival's number is released, or its entry has this reply
+abbrev pub IsKeptFor : Contents → Arrived → HttpReply → Type 0
+IsKeptFor c a http_reply = is_released c.marks a ≡ false → (e : Entry) × (entry_of c.kept a.client a.number ≡ Some e) × (http_reply_by a.ask e ≡ http_reply)
 
 -- an entry is found among those that are kept, if its number is not released
 entry_above : (marks : List Mark) (es : List Entry) (a : Arrived) (e : Entry) → is_released marks a ≡ false → entry_of es a.client a.number ≡ Some e → entry_of (above marks es) a.client a.number ≡ Some e
@@ -60,45 +60,45 @@ found_last (d ∷ es) a e client number none =
       | inr miss ↦ ap (λ b. cond b (Some d) (entry_of (es ++ e ∷ []) a.client a.number)) miss ∙ found_last es a e client number (sym (cond-false p (Some d) (entry_of es a.client a.number) miss) ∙ none)
     ]
 
--- what an arrival is told is told of it from then on
-pub told_itself : (c : Contents) (a : Arrived) → AreAbove c → IsKeptFor (contents_after c (a ∷ [])) a (told_on c a)
-told_itself c a are =
-    decided_by c a (λ d told. IsKeptFor d a told) are
+-- the reply to an arrival is its reply from then on
+pub own_reply_kept : (c : Contents) (a : Arrived) → AreAbove c → IsKeptFor (contents_after c (a ∷ [])) a (http_reply_on c a)
+own_reply_kept c a are =
+    decided_by c a (λ d http_reply. IsKeptFor d a http_reply) are
     (λ gone live. absurd (false≢true (sym live ∙ gone)))
     (λ e first some live. (e, some, refl))
     (λ first none live.
     let reply = reply_to c.facts c.marks a in
     let entry = entry_with a reply in
     let same : bytes_eq a.ask a.ask ≡ true = (bytes_eq-Decides a.ask a.ask).1 refl in
-    (entry, entry_above (marks_with c.marks a) (c.kept ++ entry ∷ []) a entry live (found_last c.kept a entry refl refl none), cond-true (bytes_eq a.ask a.ask) (told_of reply) reused same))
+    (entry, entry_above (marks_with c.marks a) (c.kept ++ entry ∷ []) a entry live (found_last c.kept a entry refl refl none), cond-true (bytes_eq a.ask a.ask) (http_reply_of reply) reused same))
 
 -- and so does each other arrival leave it
-pub still_told : (c : Contents) (a b : Arrived) (told : Told) → AreAbove c → IsKeptFor c b told → IsKeptFor (contents_after c (a ∷ [])) b told
-still_told c a b told are is =
-    decided_by c a (λ d t. IsKeptFor d b told) are (λ gone. is) (λ e first some. is)
+pub reply_still_kept : (c : Contents) (a b : Arrived) (http_reply : HttpReply) → AreAbove c → IsKeptFor c b http_reply → IsKeptFor (contents_after c (a ∷ [])) b http_reply
+reply_still_kept c a b http_reply are is =
+    decided_by c a (λ d t. IsKeptFor d b http_reply) are (λ gone. is) (λ e first some. is)
     (λ first none live.
     let was = is (released_before c.marks (marks_with c.marks a) b (marks_grow c.marks a) live) in
     let entry = entry_with a (reply_to c.facts c.marks a) in
     (was.0, entry_above (marks_with c.marks a) (c.kept ++ entry ∷ []) b was.0 live (found_more c.kept (entry ∷ []) b was.0 was.1), was.2))
 
--- a repeat is told so
-pub repeat_is_told : (c : Contents) (a : Arrived) (told : Told) → IsKeptFor c a told → is_released c.marks a ≡ false → told_on c a ≡ told
-repeat_is_told c a told is live =
+-- a repeat gets this reply
+pub repeat_gets_reply : (c : Contents) (a : Arrived) (http_reply : HttpReply) → IsKeptFor c a http_reply → is_released c.marks a ≡ false → http_reply_on c a ≡ http_reply
+repeat_gets_reply c a http_reply is live =
     let e = is live in
-    let first : Told = told_of (reply_to c.facts c.marks a) in
-    cond-false (is_released c.marks a) (told_of (NumberReleased (mark_of c.marks a.client))) (by_option (entry_of c.kept a.client a.number) first (told_by a.ask)) live
-    ∙ ap (λ o. by_option o first (told_by a.ask)) e.1 ∙ e.2
+    let first : HttpReply = http_reply_of (reply_to c.facts c.marks a) in
+    cond-false (is_released c.marks a) (http_reply_of (NumberReleased (mark_of c.marks a.client))) (by_option (entry_of c.kept a.client a.number) first (http_reply_by a.ask)) live
+    ∙ ap (λ o. by_option o first (http_reply_by a.ask)) e.1 ∙ e.2
 
 -- whatever comes between
-kept_for : (c : Contents) (b : Arrived) (told : Told) (between : List Arrived) → AreAbove c → IsKeptFor c b told → IsKeptFor (contents_after c between) b told
-kept_for c b told [] are is = subst (λ d. IsKeptFor d b told) (sym (same_contents c are)) is
-kept_for c b told (a ∷ between) are is =
-    subst (λ d. IsKeptFor d b told) (sym (one_then c a between are))
-    (kept_for (contents_after c (a ∷ [])) b told between (above_after c a are) (still_told c a b told are is))
+kept_for : (c : Contents) (b : Arrived) (http_reply : HttpReply) (between : List Arrived) → AreAbove c → IsKeptFor c b http_reply → IsKeptFor (contents_after c between) b http_reply
+kept_for c b http_reply [] are is = subst (λ d. IsKeptFor d b http_reply) (sym (same_contents c are)) is
+kept_for c b http_reply (a ∷ between) are is =
+    subst (λ d. IsKeptFor d b http_reply) (sym (one_then c a between are))
+    (kept_for (contents_after c (a ∷ [])) b http_reply between (above_after c a are) (reply_still_kept c a b http_reply are is))
 
-pub repeats_are_told : RepeatsAreTold
-repeats_are_told c a between are live =
+pub repeats_get_their_reply : RepeatsGetTheirReply
+repeats_get_their_reply c a between are live =
     let after = contents_after c (a ∷ between) in
-    let kept : IsKeptFor after a (told_on c a) = subst (λ d. IsKeptFor d a (told_on c a)) (sym (one_then c a between are))
-    (kept_for (contents_after c (a ∷ [])) a (told_on c a) between (above_after c a are) (told_itself c a are)) in
-    repeat_is_told after a (told_on c a) kept live
+    let kept : IsKeptFor after a (http_reply_on c a) = subst (λ d. IsKeptFor d a (http_reply_on c a)) (sym (one_then c a between are))
+    (kept_for (contents_after c (a ∷ [])) a (http_reply_on c a) between (above_after c a are) (own_reply_kept c a are)) in
+    repeat_gets_reply after a (http_reply_on c a) kept live

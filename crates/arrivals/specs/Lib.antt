@@ -1,4 +1,4 @@
-pub mod Told
+pub mod HttpReplies
 pub mod Values
 pub mod Meaning
 pub mod Commands

@@ -1,5 +1,5 @@
--- What arrivals mean: the first of each number acts, each later one is told what is kept, and one
--- whose number is released is told so.
+-- What arrivals mean: the first of each number acts, each later one gets what is kept, and one
+-- whose number is released is refused.
 use Rattle.std.specs.Prelude.{ℕ, ◌==◌, ◌&&◌, ◌||◌, nat_le, max, Bool, if◌then◌else◌, List, [], ◌∷◌, ◌++◌, map, bytes_eq, Option, option_map}
 use Rattle.std.specs.List.{list_any}
 use Rattle.job_facts.specs.declared.request.Call.{Call}
@@ -11,7 +11,7 @@ use Rattle.job_facts.specs.declared.rows.KeptReply.{KeptReply}
 use Rattle.job_facts.specs.Facts.{Facts}
 use Rattle.job_facts.specs.Steps.{by_option, step}
 use Rattle.job_facts.specs.Contents.{Contents, Entry, Mark, above, entry_of, mark_of, reply_of_entry, with_mark}
-use Rattle.arrivals.specs.Told.{Told, status_of, body_of, reused, told_of}
+use Rattle.arrivals.specs.HttpReplies.{HttpReply, status_of, body_of, reused, http_reply_of}
 
 -- a call under its client's number, with the bytes that asked for it
 pub record Arrived : Type 0 where
@@ -31,7 +31,7 @@ number_of e = (e.client, e.number)
 abbrev pub is_among : List Number → Arrived → Bool
 is_among numbers a = list_any (λ (n : Number). bytes_eq n.0 a.client && (n.1 == a.number)) numbers
 
--- the arrival's number is released: its client's mark has reached it
+-- the arrival's number is released: its client's release mark has reached it
 abbrev pub is_released : List Mark → Arrived → Bool
 is_released marks a = nat_le a.number (mark_of marks a.client)
 
@@ -102,23 +102,23 @@ contents_with c a =
     let marks = marks_with c.marks a in
     record { facts = facts_with c.facts a; kept = above marks (c.kept ++ entry_with a (reply_to c.facts c.marks a) ∷ []); marks = marks }
 
--- ---- what an arrival is told
+-- ---- what an arrival gets
 
--- what an ask is told by the reply that is kept under its number
-abbrev pub told_again : List ℕ → KeptReply → Told
-told_again ask kept = if bytes_eq kept.ask ask then record { status = kept.status; body = kept.body } else reused
+-- what an ask gets by the reply that is kept under its number
+abbrev pub http_reply_again : List ℕ → KeptReply → HttpReply
+http_reply_again ask kept = if bytes_eq kept.ask ask then record { status = kept.status; body = kept.body } else reused
 
--- what an arrival is told by the entry of its number
-abbrev pub told_by : List ℕ → Entry → Told
-told_by ask e = told_again ask (reply_of_entry e)
+-- what an arrival gets by the entry of its number
+abbrev pub http_reply_by : List ℕ → Entry → HttpReply
+http_reply_by ask e = http_reply_again ask (reply_of_entry e)
 
--- what an arrival is told by what is kept, if its number is there
-abbrev pub answer : List Entry → Arrived → Option Told
-answer kept a = option_map (told_by a.ask) (entry_of kept a.client a.number)
+-- what an arrival gets by what is kept, if its number is there
+abbrev pub answer : List Entry → Arrived → Option HttpReply
+answer kept a = option_map (http_reply_by a.ask) (entry_of kept a.client a.number)
 
--- what an arrival is told on these contents: that its number is released, or by the entry of its
+-- what an arrival gets on these contents: that its number is released, or by the entry of its
 -- number, or where there is none its own reply
-abbrev pub told_on : Contents → Arrived → Told
-told_on c a =
-    if is_released c.marks a then told_of (NumberReleased (mark_of c.marks a.client))
-    else by_option (entry_of c.kept a.client a.number) (told_of (reply_to c.facts c.marks a)) (told_by a.ask)
+abbrev pub http_reply_on : Contents → Arrived → HttpReply
+http_reply_on c a =
+    if is_released c.marks a then http_reply_of (NumberReleased (mark_of c.marks a.client))
+    else by_option (entry_of c.kept a.client a.number) (http_reply_of (reply_to c.facts c.marks a)) (http_reply_by a.ask)

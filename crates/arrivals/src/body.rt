@@ -3,7 +3,7 @@ ghost use Rattle.std.specs.Prelude.{◌≡◌, IfOk, string_bytes};
 ghost use Rattle.hex.specs.Hex.{encode_upper};
 ghost use Rattle.json.specs.Print.{escape};
 ghost use Rattle.serde_json.specs.View.{view};
-ghost use Rattle.arrivals.specs.Told.{body_of, status_of};
+ghost use Rattle.arrivals.specs.HttpReplies.{body_of, status_of};
 ghost use Rattle.arrivals.specs.Values.{IsPlain, ended_value, made_name, record_value, value_of};
 
 use batch_import::RowFault;

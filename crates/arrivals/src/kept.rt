@@ -1,7 +1,7 @@
-//! What an arrival is told.
+//! What an arrival gets.
 use store_data::Bytes;
 
-/// What an arrival is told: an HTTP status and a body in JSON (this project's profile).
+/// What an arrival gets: an HTTP status and a body in JSON (this project's profile).
 #[derive(Drop)]
 pub struct Kept {
     /// 200, or 409 for every refusal.

@@ -1,8 +1,8 @@
-//! Arrivals and what they mean, with no store in sight: what is told of a reply, and what a list of
-//! arrivals leaves.
+//! Arrivals and what they mean, with no store in sight: what a client gets for a reply, and what a
+//! list of arrivals leaves.
 #![tactic(auto)]
 
-ghost use Rattle.arrivals.specs.Laws.{AreInTurn, AreToldAlike, RepeatsAreTold};
+ghost use Rattle.arrivals.specs.Laws.{AreAnsweredAlike, AreInTurn, RepeatsGetTheirReply};
 
 mod body;
 mod kept;
@@ -15,14 +15,14 @@ pub fn in_turn()
     ensures { AreInTurn }
 {}
 
-/// A repeat is told the same again, unless its number was released: a law. It does nothing.
-pub fn repeats_are_told()
-    ensures { RepeatsAreTold }
+/// A repeat gets the same reply again, unless its number was released: a law. It does nothing.
+pub fn repeats_get_their_reply()
+    ensures { RepeatsGetTheirReply }
 {}
 
 /// The same contents, in whatever order sets and maps stand, answer alike: a law. It does nothing.
 pub fn same_contents_answer_alike()
-    ensures { AreToldAlike }
+    ensures { AreAnsweredAlike }
 {
     step_laws::same_facts_answer_alike();
 }

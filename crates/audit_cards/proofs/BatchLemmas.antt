@@ -96,8 +96,8 @@ module _ (t : Tables) (b : StoredBatch) where
         ap (λ x. x && list_all (λ (r : StoredRecord). is_finished r.state) rs) (All-head (λ state. IsTrue (is_finished state)) r.state (map (λ (r : StoredRecord). r.state) rs) all)
         ∙ all_finished rs (All-tail (λ state. IsTrue (is_finished state)) r.state (map (λ (r : StoredRecord). r.state) rs) all)
 
-    pub counts_told : IsAuditedBatch t b → CountsBy records sessions b
-    counts_told a = (
+    pub audited_counts : IsAuditedBatch t b → CountsBy records sessions b
+    audited_counts a = (
       record {
         waiting = a.waiting ∙ sym (so_many rec.Waiting);
         running = a.running ∙ sym (so_many rec.Running);
@@ -109,8 +109,8 @@ module _ (t : Tables) (b : StoredBatch) where
       λ closed. all_finished records (subst (All (λ state. IsTrue (is_finished state))) (sym states_are) (a.closed closed)),
     )
 
-    pub told_counts : CountsBy records sessions b → IsAuditedBatch t b
-    told_counts a = record {
+    pub counts_audited : CountsBy records sessions b → IsAuditedBatch t b
+    counts_audited a = record {
       waiting = a.0.waiting ∙ so_many rec.Waiting;
       running = a.0.running ∙ so_many rec.Running;
       failed = a.0.failed ∙ so_many rec.Failed;
@@ -209,11 +209,11 @@ module _ (t : Tables) (b : StoredBatch) (p : Product) (rows : List Row) (groups 
     groupings = groupings ∙ ap (groupings_in b.id) (sym file_is) ∙ sym (groupings_here t b p has.product_is has.file has.file_is);
     each_record = subst (All (IsAuditedRecord t)) has.records_are (each_record t b p groups records sessions has same all);
     each_session = each_session t b p groups records sessions has same all placed;
-    counts = told_counts t b records has.records_are sessions same counts;
+    counts = counts_audited t b records has.records_are sessions same counts;
   }
 
-  pub file_told : IsAuditedFile t b → All (IsAuditedWith t) records
-  file_told a = with_sessions t b p groups records sessions has same (subst (All (IsAuditedRecord t)) (sym has.records_are) a.each_record) a.each_session
+  pub file_audited : IsAuditedFile t b → All (IsAuditedWith t) records
+  file_audited a = with_sessions t b p groups records sessions has same (subst (All (IsAuditedRecord t)) (sym has.records_are) a.each_record) a.each_session
 
 module _ (t : Tables) (b : StoredBatch) (p : Product) (rows : List Row) (records : List StoredRecord) (by_record own : List StoredSession)
     (batch_is : find (is_batch b.id) t.batches ≡ Some b) (product_is : product_named t.products b.product ≡ Some p) (ranged : IsProduct p) (file_is : IsFileOf p b.raw rows)

@@ -90,22 +90,22 @@ module _ (own : List StoredSession) (r : StoredRecord) where
       subst (λ n. IsSoundCount (so has_card) n (is_withdrawn r) r.remakes) (counted is_spoiled)
       (subst (λ n. IsSoundCount n (count_by is_spoiled (states_in own)) (is_withdrawn r) r.remakes) (counted has_card) (count_of_sound (states_in own) (is_withdrawn r) r.remakes a.sound))
 
-  -- the same by counts that are told
+  -- the same by counts that are given
   module _ (good running spoiled : ℕ) (state : RecordState) (good_is : good ≡ so is_good) (running_is : running ≡ so is_running) (spoiled_is : spoiled ≡ so is_spoiled)
-      (state_told : state ≡ state_by_count (ltb 0 good) (ltb 0 running) (is_withdrawn r) (ltb r.remakes spoiled)) where
-    told : state ≡ counts
-    told =
-        state_told
+      (state_in_rows : state ≡ state_by_count (ltb 0 good) (ltb 0 running) (is_withdrawn r) (ltb r.remakes spoiled)) where
+    states_agree : state ≡ counts
+    states_agree =
+        state_in_rows
         ∙ ap (λ n. state_by_count (ltb 0 n) (ltb 0 running) (is_withdrawn r) (ltb r.remakes spoiled)) good_is
         ∙ ap (λ n. state_by_count (ltb 0 (so is_good)) (ltb 0 n) (is_withdrawn r) (ltb r.remakes spoiled)) running_is
         ∙ ap (λ n. state_by_count (ltb 0 (so is_good)) (ltb 0 (so is_running)) (is_withdrawn r) (ltb r.remakes n)) spoiled_is
 
     pub so_by_counts : StandsBy (states_in own) r → (r.spoiled ≡ spoiled) × (r.state ≡ state)
-    so_by_counts a = let so_is = stands_so a in (so_is.0 ∙ sym spoiled_is, so_is.1 ∙ sym told)
+    so_by_counts a = let so_is = stands_so a in (so_is.0 ∙ sym spoiled_is, so_is.1 ∙ sym states_agree)
 
     pub stands_by_counts : (cards : ℕ) → cards ≡ so has_card → r.spoiled ≡ spoiled → r.state ≡ state → IsSoundCount cards spoiled (is_withdrawn r) r.remakes → StandsBy (states_in own) r
     stands_by_counts cards cards_is spoils stands_there sound =
-        stands (spoils ∙ spoiled_is) (stands_there ∙ told)
+        stands (spoils ∙ spoiled_is) (stands_there ∙ states_agree)
         (subst (λ n. IsSoundCount (so has_card) n (is_withdrawn r) r.remakes) spoiled_is (subst (λ n. IsSoundCount n spoiled (is_withdrawn r) r.remakes) cards_is sound))
 
   pub sound_by_counts : (spoiled cards : ℕ) → spoiled ≡ so is_spoiled → cards ≡ so has_card → StandsBy (states_in own) r → IsSoundCount cards spoiled (is_withdrawn r) r.remakes

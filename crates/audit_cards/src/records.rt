@@ -18,7 +18,8 @@ use table_rows::{StoredBatch, StoredRecord, Tables};
 
 /// How many of these sessions stand so.
 pub(crate) fn count_of(sessions: &[SessionRef<'_>], state: SessionState) -> u64
-    ensures { result ≡ count_by (λ (s : SessionValue). same_session_state state s.state) sessions.now }
+    ensures { result
+        ≡ count_by (λ (s : SessionValue). same_session_state state s.state) sessions.now }
 {
     sessions
         .iter()
@@ -133,7 +134,8 @@ fn are_audited(
     own: &[SessionRef<'_>],
 ) -> bool
     requires ready { AreReady tables.now }
-    requires plans { All (λ (s : SessionValue). HasPlan tables.now s.batch s.place batch.now plan.now)
+    requires plans { All
+        (λ (s : SessionValue). HasPlan tables.now s.batch s.place batch.now plan.now)
         own.now }
     ensures { IsTrue result ↔ All (IsAuditedSession tables.now) own.now }
 {

@@ -36,7 +36,8 @@ fn behind_turns<'a>(
     stored: &StoredRecord,
 ) -> Option<&'a [StoredRemake]>
     ensures some { IfSome result (λ rest. remakes.now ≡ turns_of stored.now ++ rest.now) }
-    ensures none { result ≡ None → (rest : List RemakeValue) → remakes.now ≡ turns_of stored.now ++ rest → ⊥ }
+    ensures none { result ≡ None → (rest : List RemakeValue)
+        → remakes.now ≡ turns_of stored.now ++ rest → ⊥ }
 {
     if stored.remakes > remakes.len() as u64 {
         return None;

@@ -68,13 +68,13 @@ module _ (c : Contents) (sound : IsSound c.facts) where
   pub lots_back : AreLots f.products (map (λ (l : StoredLot). l.lot) (stored_lots f))
   lots_back = subst (AreLots f.products) (sym (lots_are f)) sound.named.lots
 
-  discarded_told : (l : Lot) → discarded_in f l ≡ count_by (λ (b : StoredBlank). is_in b.serial l) (discarded_rows (stored_blanks f))
-  discarded_told l =
+  discarded_agree : (l : Lot) → discarded_in f l ≡ count_by (λ (b : StoredBlank). is_in b.serial l) (discarded_rows (stored_blanks f))
+  discarded_agree l =
       sym (ap (count_by (λ (b : StoredBlank). is_in b.serial l)) rows_out ∙ sum_by-map _ (stored_blank f true) f.discarded)
 
   pub lots_audited : All (IsAuditedLot (image c)) (stored_lots f)
   unfolding stored_lots
-  lots_audited = All-map (IsAuditedLot (image c)) (stored_lot f) f.lots (λ k d within. discarded_told (get_or f.lots k d))
+  lots_audited = All-map (IsAuditedLot (image c)) (stored_lot f) f.lots (λ k d within. discarded_agree (get_or f.lots k d))
 
   -- ---- blanks
 

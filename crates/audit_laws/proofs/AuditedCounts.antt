@@ -55,7 +55,7 @@ module _ (c : Contents) (sound : IsSound c.facts) where
     unfolding record_state
     gone =
         let b : List ℕ = e.1.name in
-        sym (withdrawn_stands (states_of f b r.1) (is_gone f b r.1) (remakes_of f b r.1) (sound.told.records b r.1))
+        sym (withdrawn_stands (states_of f b r.1) (is_gone f b r.1) (remakes_of f b r.1) (sound.states.records b r.1))
 
     stands : record_state f e.1.name r.1 ≡ state_by (states_of f e.1.name r.1) (is_gone f e.1.name r.1) (remakes_of f e.1.name r.1)
     unfolding record_state
@@ -64,7 +64,7 @@ module _ (c : Contents) (sound : IsSound c.facts) where
     record_audited : IsAuditedRecord t row
     record_audited = record {
       sound = subst (λ ss. IsSoundRecord ss (is_withdrawn row) row.remakes) states
-          (subst (λ w. IsSoundRecord (states_of f e.1.name r.1) w row.remakes) gone (sound.told.records e.1.name r.1));
+          (subst (λ w. IsSoundRecord (states_of f e.1.name r.1) w row.remakes) gone (sound.states.records e.1.name r.1));
       state = stands ∙ (λ i. state_by (states i) (gone i) row.remakes);
       spoiled = ap (count_by is_spoiled) states;
     }
@@ -88,7 +88,7 @@ module _ (c : Contents) (sound : IsSound c.facts) where
     its_records = sym (batch_record_states f sound e own)
 
     closed_over : is_closed f e.1.name ≡ true → All (λ state. IsTrue (is_finished state)) (record_states f e.1.name)
-    closed_over closed = finished f e.1.name (named_holds (λ b. IsTrue (is_batch_finished f b)) f.closed e.1.name sound.told.closed closed)
+    closed_over closed = finished f e.1.name (named_holds (λ b. IsTrue (is_batch_finished f b)) f.closed e.1.name sound.states.closed closed)
 
     batch_audited : IsAuditedBatch t batch_row
     unfolding batch_totals

@@ -1,4 +1,4 @@
--- What the audit tests holds of the same rows in another order of those tables whose order tells
+-- What the audit tests holds of the same rows in another order of those tables whose order matters
 -- nothing.
 use Rattle.std.proofs.Common.{◌≡◌, ◌≢◌, ◌==◌, ℕ, Bool, false, not, List, get_or, map, inl, inr, sym, ap, ◌∙◌, subst, arith, IsPermutation}
 use Rattle.std.specs.Prelude.{AllPairs, IsSome, IsTrue, bytes_eq, count_by, nat_lt, option_map, unwrap_or}

@@ -16,7 +16,7 @@ use Rattle.image_laws.proofs.Places.{map_joined}
 use Rattle.image_laws.proofs.Staying.{totals_are}
 use Rattle.image_laws.specs.Decided.{batch_name, batch_of_row, contents_of, discarded_rows, facts_of}
 use Rattle.audit_laws.specs.Audited.{IsAudited, IsAuditedBatch, IsAuditedBlank, IsAuditedLot, IsAuditedSession, file_groupings, file_keys, file_records, key_of, named_session, opened_rows, record_states_of, session_states_of, turns_of}
-use Rattle.audit_laws.proofs.Tells.{IsToldBatch, IsToldRecord, IsToldSession, Tells}
+use Rattle.audit_laws.proofs.Agreeing.{BatchAgrees, RecordAgrees, RowsAgree, SessionAgrees}
 use Rattle.audit_laws.proofs.ImageLists.{flat_joined, made_again}
 use Rattle.audit_laws.proofs.SoundSessions.{sessions_are}
 
@@ -27,11 +27,11 @@ numbered_batch b = (b.id, batch_of_row b)
 abbrev numbered_session : Tables → StoredSession → ℕ × Session
 numbered_session t s = (s.id, named_session t s)
 
--- a batch of which no more is told than its name
+-- a batch of which no more is known than its name
 abbrev under_name : List ℕ → Batch
 under_name n = record { name = n; product = []; raw = [] }
 
-module _ (t : Tables) (audited : IsAudited t) (tells : Tells t) where
+module _ (t : Tables) (audited : IsAudited t) (rows_agree : RowsAgree t) where
   abbrev f : Facts
   f = facts_of t
 
@@ -50,8 +50,8 @@ module _ (t : Tables) (audited : IsAudited t) (tells : Tells t) where
 
   -- ---- batches
 
-  batch_again : (b : StoredBatch) → IsToldBatch t b → IsAuditedBatch t b → stored_batch f (numbered_batch b) ≡ b
-  batch_again b told counted =
+  batch_again : (b : StoredBatch) → BatchAgrees t b → IsAuditedBatch t b → stored_batch f (numbered_batch b) ≡ b
+  batch_again b agrees counted =
       let e : ℕ × Batch = numbered_batch b in
       let rows : batch_by e b.closed (totals_by (record_states_of t b) (session_states_of t b)) ≡ b = λ i. record {
         id = b.id;
@@ -67,40 +67,40 @@ module _ (t : Tables) (audited : IsAudited t) (tells : Tells t) where
         sessions = sym counted.sessions i;
         spoiled = sym counted.spoiled i;
       } in
-      ap (λ closed. batch_by e closed (batch_totals f b.name)) told.closed
+      ap (λ closed. batch_by e closed (batch_totals f b.name)) agrees.closed
       ∙ ap (batch_by e b.closed) (totals_are f b.name)
-      ∙ ap (λ states. batch_by e b.closed (totals_by states (session_states f b.name))) told.its_records
-      ∙ ap (λ states. batch_by e b.closed (totals_by (record_states_of t b) states)) told.its_sessions
+      ∙ ap (λ states. batch_by e b.closed (totals_by states (session_states f b.name))) agrees.its_records
+      ∙ ap (λ states. batch_by e b.closed (totals_by (record_states_of t b) states)) agrees.its_sessions
       ∙ rows
 
   batches_same : stored_batches f ≡ t.batches
   unfolding stored_batches
   batches_same =
-      ap (map (stored_batch f)) tells.batches
+      ap (map (stored_batch f)) rows_agree.batches
       ∙ made_again (stored_batch f) numbered_batch t.batches
-      (λ k d within. batch_again (get_or t.batches k d) (tells.each_batch k d within) (audited.each_batch k d within))
+      (λ k d within. batch_again (get_or t.batches k d) (rows_agree.each_batch k d within) (audited.each_batch k d within))
 
   -- ---- what is made of each record of the files, in file order
 
-  of_files : {Y : Type 0} (rows : ℕ × Batch → List Y) (of_file : StoredBatch → List Y) → ((b : StoredBatch) → IsToldBatch t b → rows (numbered_batch b) ≡ of_file b)
+  of_files : {Y : Type 0} (rows : ℕ × Batch → List Y) (of_file : StoredBatch → List Y) → ((b : StoredBatch) → BatchAgrees t b → rows (numbered_batch b) ≡ of_file b)
       → flat_map rows (batches_by_id f) ≡ flat_map of_file t.batches
   of_files rows of_file same =
-      ap (flat_map rows) tells.batches ∙ flat_map-map rows numbered_batch t.batches
+      ap (flat_map rows) rows_agree.batches ∙ flat_map-map rows numbered_batch t.batches
       ∙ flat_map_same (λ b. rows (numbered_batch b)) of_file t.batches
-      (All-weaker (IsToldBatch t) (λ b. rows (numbered_batch b) ≡ of_file b) same t.batches tells.each_batch)
+      (All-weaker (BatchAgrees t) (λ b. rows (numbered_batch b) ≡ of_file b) same t.batches rows_agree.each_batch)
 
   abbrev record_by : ℕ × (ℕ × List ℕ) → StoredRecord
   record_by key = stored_record f (key.0, under_name (batch_name t key.0)) key.1
 
-  records_of_file : (b : StoredBatch) → IsToldBatch t b → records_in f (numbered_batch b) ≡ map record_by (file_keys t b)
-  records_of_file b told =
+  records_of_file : (b : StoredBatch) → BatchAgrees t b → records_in f (numbered_batch b) ≡ map record_by (file_keys t b)
+  records_of_file b agrees =
       let file : List (ℕ × List ℕ) = enumerate_from 0 (file_records t b) in
       let keyed : ℕ × List ℕ → ℕ × (ℕ × List ℕ) = λ e. (b.id, e) in
-      ap (λ n. map (stored_record f (b.id, under_name n)) file) (sym told.name) ∙ sym (map-map record_by keyed file)
+      ap (λ n. map (stored_record f (b.id, under_name n)) file) (sym agrees.name) ∙ sym (map-map record_by keyed file)
 
-  record_again : (r : StoredRecord) → IsToldRecord t r → record_by (key_of r) ≡ r
-  record_again r told =
-      λ i. record { batch = r.batch; place = r.place; name = r.name; state = told.state i; spoiled = told.spoiled i; remakes = told.remakes i }
+  record_again : (r : StoredRecord) → RecordAgrees t r → record_by (key_of r) ≡ r
+  record_again r agrees =
+      λ i. record { batch = r.batch; place = r.place; name = r.name; state = agrees.state i; spoiled = agrees.spoiled i; remakes = agrees.remakes i }
 
   records_same : stored_records f ≡ t.records
   unfolding stored_records
@@ -109,21 +109,21 @@ module _ (t : Tables) (audited : IsAudited t) (tells : Tells t) where
       ∙ map_joined record_by (file_keys t) t.batches
       ∙ ap (map record_by) (sym audited.records)
       ∙ made_again record_by key_of t.records
-      (All-weaker (IsToldRecord t) (λ r. record_by (key_of r) ≡ r) record_again t.records tells.each_record)
+      (All-weaker (RecordAgrees t) (λ r. record_by (key_of r) ≡ r) record_again t.records rows_agree.each_record)
 
   abbrev remakes_by : ℕ × (ℕ × List ℕ) → List StoredRemake
   remakes_by key = remakes_at f (key.0, under_name (batch_name t key.0)) key.1
 
-  remakes_of_file : (b : StoredBatch) → IsToldBatch t b → remakes_in f (numbered_batch b) ≡ flat_map remakes_by (file_keys t b)
-  remakes_of_file b told =
+  remakes_of_file : (b : StoredBatch) → BatchAgrees t b → remakes_in f (numbered_batch b) ≡ flat_map remakes_by (file_keys t b)
+  remakes_of_file b agrees =
       let file : List (ℕ × List ℕ) = enumerate_from 0 (file_records t b) in
       let keyed : ℕ × List ℕ → ℕ × (ℕ × List ℕ) = λ e. (b.id, e) in
-      ap (λ n. flat_map (remakes_at f (b.id, under_name n)) file) (sym told.name) ∙ sym (flat_map-map remakes_by keyed file)
+      ap (λ n. flat_map (remakes_at f (b.id, under_name n)) file) (sym agrees.name) ∙ sym (flat_map-map remakes_by keyed file)
 
-  turns_again : (r : StoredRecord) → IsToldRecord t r → remakes_by (key_of r) ≡ turns_of r
-  turns_again r told =
+  turns_again : (r : StoredRecord) → RecordAgrees t r → remakes_by (key_of r) ≡ turns_of r
+  turns_again r agrees =
       ap (λ n. map (λ turn. let row : StoredRemake = record { batch = r.batch; place = r.place; turn = turn } in row)
-      (range_with_len 1 n)) told.remakes
+      (range_with_len 1 n)) agrees.remakes
 
   remakes_same : stored_remakes f ≡ t.remakes
   unfolding stored_remakes
@@ -133,40 +133,40 @@ module _ (t : Tables) (audited : IsAudited t) (tells : Tells t) where
       ∙ ap (flat_map remakes_by) (sym audited.records)
       ∙ flat_map-map remakes_by key_of t.records
       ∙ flat_map_same (λ r. remakes_by (key_of r)) turns_of t.records
-      (All-weaker (IsToldRecord t) (λ r. remakes_by (key_of r) ≡ turns_of r) turns_again t.records tells.each_record)
+      (All-weaker (RecordAgrees t) (λ r. remakes_by (key_of r) ≡ turns_of r) turns_again t.records rows_agree.each_record)
       ∙ sym audited.remakes
 
   -- ---- groupings
 
   groupings_same : stored_groupings f ≡ t.groupings
   unfolding stored_groupings
-  groupings_same = of_files (groupings_in f) (file_groupings t) (λ b told. refl) ∙ sym audited.groupings
+  groupings_same = of_files (groupings_in f) (file_groupings t) (λ b agrees. refl) ∙ sym audited.groupings
 
   -- ---- sessions and words
 
-  session_again : (s : StoredSession) → IsToldSession t s → IsAuditedSession t s → stored_session f (numbered_session t s) ≡ s
-  session_again s told is = λ i. record {
+  session_again : (s : StoredSession) → SessionAgrees t s → IsAuditedSession t s → stored_session f (numbered_session t s) ≡ s
+  session_again s agrees is = λ i. record {
     id = s.id;
     machine = s.machine;
-    batch = told.batch i;
-    place = told.place i;
+    batch = agrees.batch i;
+    place = agrees.place i;
     serial = s.serial;
-    state = told.state i;
+    state = agrees.state i;
     ended = s.ended;
     words = sym is.count i;
-    cursor = told.cursor i;
+    cursor = agrees.cursor i;
   }
 
   sessions_same : stored_sessions f ≡ t.sessions
   unfolding stored_sessions
   sessions_same =
-      ap (map (stored_session f)) tells.sessions
+      ap (map (stored_session f)) rows_agree.sessions
       ∙ made_again (stored_session f) (numbered_session t) t.sessions
-      (λ k d within. session_again (get_or t.sessions k d) (tells.each_session k d within) (audited.each_session k d within))
+      (λ k d within. session_again (get_or t.sessions k d) (rows_agree.each_session k d within) (audited.each_session k d within))
 
   words_same : stored_words f ≡ t.words
   unfolding stored_words
-  words_same = ap (flat_map words_in) tells.sessions ∙ flat_map-map words_in (numbered_session t) t.sessions ∙ sym audited.words
+  words_same = ap (flat_map words_in) rows_agree.sessions ∙ flat_map-map words_in (numbered_session t) t.sessions ∙ sym audited.words
 
   -- ---- blanks
 

@@ -7,11 +7,11 @@ pub mod AuditedSessions
 pub mod AuditedCounts
 pub mod AuditedBlanks
 pub mod AuditedImage
-pub mod Tells
+pub mod Agreeing
 pub mod SoundLists
 pub mod SoundNames
 pub mod SoundSessions
-pub mod SoundTold
+pub mod SoundRows
 pub mod SoundFacts
 pub mod SoundRecords
 pub mod ImageLists

@@ -20,10 +20,10 @@ use Rattle.image_laws.specs.Decided.{batch_name, batch_of_row, discarded_rows, f
 use Rattle.table_rows.specs.Keys.{is_running_on}
 use Rattle.row_laws.proofs.Finding.{once_from_count}
 use Rattle.audit_laws.specs.Audited.{IsAudited, IsAuditedBlank, IsAuditedSession, file_records, key_of, named_session, opened_rows, words_of}
-use Rattle.audit_laws.proofs.Tells.{IsToldSession}
+use Rattle.audit_laws.proofs.Agreeing.{SessionAgrees}
 use Rattle.audit_laws.proofs.SoundLists.{differs, equal, same_number}
 use Rattle.audit_laws.proofs.SoundNames.{IsPlaced, are_batches, key_found, name_found, named_found, of_batch}
-use Rattle.audit_laws.proofs.SoundSessions.{batch_is, batch_there, commands_are, rec_is, rec_placed, sessions_are, told_sessions}
+use Rattle.audit_laws.proofs.SoundSessions.{batch_is, batch_there, commands_are, rec_is, rec_placed, sessions_agree, sessions_are}
 
 -- a name is among those where it stands
 named_among : (names : List (List ℕ)) (k : ℕ) (n : List ℕ) → slice_get names k ≡ Some n → list_any (bytes_eq n) names ≡ true
@@ -83,14 +83,14 @@ module _ (t : Tables) (audited : IsAudited t) where
   machines : (machine : List ℕ) → count_by (runs_on f machine) f.sessions ≤ 1
   machines machine =
       let named : StoredSession → Session = named_session t in
-      let runs : (s : StoredSession) → IsToldSession t s → runs_on f machine (named s) ≡ is_running_on machine s =
-      λ s told. ap (λ state. bytes_eq s.machine machine && is_running state) told.state in
+      let runs : (s : StoredSession) → SessionAgrees t s → runs_on f machine (named s) ≡ is_running_on machine s =
+      λ s agrees. ap (λ state. bytes_eq s.machine machine && is_running state) agrees.state in
       let same : count_by (runs_on f machine) f.sessions ≡ count_by (is_running_on machine) t.sessions =
       ap (count_by (runs_on f machine)) (sessions_are t audited)
       ∙ sum_by-map (λ x. cond {A = ℕ} (runs_on f machine x) 1 0) named t.sessions
       ∙ count_same (λ s. runs_on f machine (named s)) (is_running_on machine) t.sessions
-      (All-weaker (IsToldSession t) (λ s. runs_on f machine (named s) ≡ is_running_on machine s) runs t.sessions
-      (told_sessions t audited)) in
+      (All-weaker (SessionAgrees t) (λ s. runs_on f machine (named s) ≡ is_running_on machine s) runs t.sessions
+      (sessions_agree t audited)) in
       omega (arith, same, audited.machines machine)
 
   -- ---- charged blanks

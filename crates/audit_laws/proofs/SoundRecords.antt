@@ -1,4 +1,4 @@
--- What was told of records and batches is sound in the contents of audited rows; and so these are
+-- What is known of records and batches is sound in the contents of audited rows; and so these are
 -- sound.
 use Rattle.std.proofs.Common.{◌≡◌, ℕ, ◌==◌, ◌&&◌, Bool, true, false, cond, List, [], map, get_or, All, Option, Some, None, refl, sym, ap, subst, ◌∙◌, arith}
 use Rattle.std.specs.Prelude.{AllPairs, IsSome, IsTrue, bytes_eq, count_by, find}
@@ -14,7 +14,7 @@ use Rattle.store_data.proofs.PieceLemmas.{sum_by-flat_map, sum_by-map}
 use Rattle.job_facts.specs.Accounts.{record_states}
 use Rattle.job_facts.specs.Contents.{AreSound}
 use Rattle.job_facts.specs.Facts.{Batch, Facts, RecordName, Session}
-use Rattle.job_facts.specs.Sound.{AreTold, IsRecord, IsSoundRecord}
+use Rattle.job_facts.specs.Sound.{AreStates, IsRecord, IsSoundRecord}
 use Rattle.job_facts.specs.States.{batch_named, is_batch_finished, is_finished, is_record, is_withdrawn as is_gone, record_state, records_named, remakes_of, states_of}
 use Rattle.job_facts.proofs.Lists.{find-All, find-None}
 use Rattle.step_laws.proofs.BlankSums.{bytes_eq_either}
@@ -25,12 +25,12 @@ use Rattle.image_laws.specs.Decided.{batch_name, batch_of_row, closed_rows, cont
 use Rattle.table_rows.specs.Keys.{is_record_at}
 use Rattle.row_laws.proofs.Finding.{AllPairs-from_map, AllPairs-map}
 use Rattle.audit_laws.specs.Audited.{IsAudited, IsAuditedBatch, IsAuditedRecord, IsAuditedSession, is_withdrawn, record_states_of, states_at, turns_of}
-use Rattle.audit_laws.proofs.Tells.{IsToldBatch, IsToldRecord}
+use Rattle.audit_laws.proofs.Agreeing.{BatchAgrees, RecordAgrees}
 use Rattle.audit_laws.proofs.SoundLists.{count_alike, equal, sum_none}
 use Rattle.audit_laws.proofs.SoundNames.{key_found, named_found, of_record, record_found, record_name_found, record_once, records_placed, same_names}
 use Rattle.audit_laws.proofs.SoundSessions.{kept_states, rec_is}
 use Rattle.audit_laws.proofs.SoundFacts.{are_named, are_sessions, record_there}
-use Rattle.audit_laws.proofs.SoundTold.{told_batches, told_records}
+use Rattle.audit_laws.proofs.SoundRows.{batches_agree, records_agree}
 
 -- where there is no session, no remake and no withdrawal
 without_any : IsSoundRecord [] false 0
@@ -59,12 +59,12 @@ module _ (t : Tables) (audited : IsAudited t) where
     abbrev IsSoundFor : List ℕ → List ℕ → Type 0
     IsSoundFor c q = IsSoundRecord (states_of f c q) (is_gone f c q) (remakes_of f c q)
 
-    own_sound : (q : StoredRecord) → IsToldRecord t q → IsAuditedRecord t q → IsSoundFor (batch_name t q.batch) q.name
-    own_sound q told is =
+    own_sound : (q : StoredRecord) → RecordAgrees t q → IsAuditedRecord t q → IsSoundFor (batch_name t q.batch) q.name
+    own_sound q agrees is =
         let c : List ℕ = batch_name t q.batch in
-        subst (λ states. IsSoundRecord states (is_gone f c q.name) (remakes_of f c q.name)) (sym told.states)
-        (subst (λ gone. IsSoundRecord (states_at t q) gone (remakes_of f c q.name)) (sym told.withdrawn)
-        (subst (IsSoundRecord (states_at t q) (is_withdrawn q)) (sym told.remakes) is.sound))
+        subst (λ states. IsSoundRecord states (is_gone f c q.name) (remakes_of f c q.name)) (sym agrees.states)
+        (subst (λ gone. IsSoundRecord (states_at t q) gone (remakes_of f c q.name)) (sym agrees.withdrawn)
+        (subst (IsSoundRecord (states_at t q) (is_withdrawn q)) (sym agrees.remakes) is.sound))
 
     -- ---- a name of no record
 
@@ -128,7 +128,7 @@ module _ (t : Tables) (audited : IsAudited t) where
         by_found (Some q) found =
             let parts = and_parts (bytes_eq (batch_name t q.batch) b) (bytes_eq q.name r) (find_passes passes t.records q found) in
             let sound =
-            own_sound q (find-All passes (IsToldRecord t) t.records q (told_records t audited) found)
+            own_sound q (find-All passes (RecordAgrees t) t.records q (records_agree t audited) found)
             (find-All passes (IsAuditedRecord t) t.records q audited.each_record found) in
             subst (λ c. IsSoundFor c r) (same-bytes_eq (batch_name t q.batch) b parts.0)
             (subst (IsSoundFor (batch_name t q.batch)) (same-bytes_eq q.name r parts.1) sound)
@@ -203,21 +203,21 @@ module _ (t : Tables) (audited : IsAudited t) where
       (All-weaker (λ (b : StoredBatch). batch_named f.batches b.name ≡ Some (batch_of_row b)) (λ b. IsSome (batch_named f.batches b.name))
       (λ b found. subst (λ o. IsSome o) (sym found) refl) t.batches (named_found t audited)))
 
-  batch_finished : (b : StoredBatch) → b.closed ≡ true → IsToldBatch t b → IsAuditedBatch t b → is_batch_finished f b.name ≡ true
+  batch_finished : (b : StoredBatch) → b.closed ≡ true → BatchAgrees t b → IsAuditedBatch t b → is_batch_finished f b.name ≡ true
   unfolding is_batch_finished record_states
-  batch_finished b hit told is =
-      sym (list_all-map is_finished (record_state f b.name) (records_named f b.name)) ∙ ap (list_all is_finished) told.its_records
+  batch_finished b hit agrees is =
+      sym (list_all-map is_finished (record_state f b.name) (records_named f b.name)) ∙ ap (list_all is_finished) agrees.its_records
       ∙ list_all-from_AllPass is_finished (record_states_of t b) (is.closed hit)
 
   closed : All (λ b. IsTrue (is_batch_finished f b)) f.closed
   closed =
       All-map (λ b. IsTrue (is_batch_finished f b)) name (closed_rows t.batches)
       (λ k d within. batch_finished (get_or (closed_rows t.batches) k d) (filter_passes is_closed_row t.batches k d within)
-      (All-filter is_closed_row (IsToldBatch t) t.batches (told_batches t audited) k d within)
+      (All-filter is_closed_row (BatchAgrees t) t.batches (batches_agree t audited) k d within)
       (All-filter is_closed_row (IsAuditedBatch t) t.batches audited.each_batch k d within))
 
-  are_told : AreTold f
-  are_told = record {
+  are_states : AreStates f
+  are_states = record {
     records = record_sound;
     remade = remade;
     withdrawn = withdrawn;
@@ -229,7 +229,7 @@ module _ (t : Tables) (audited : IsAudited t) where
 
   pub contents_sound : AreSound (contents_of t)
   contents_sound = record {
-    facts = record { named = are_named t audited; sessions = are_sessions t audited; told = are_told };
+    facts = record { named = are_named t audited; sessions = are_sessions t audited; states = are_states };
     kept = audited.kept;
     kept_once = audited.kept_once;
     marks = audited.marks;

@@ -22,7 +22,7 @@ use Rattle.image_laws.proofs.Back.{found_from_is}
 use Rattle.table_rows.specs.Keys.{is_batch, is_session}
 use Rattle.row_laws.proofs.Finding.{filter_all, find-filter, find-map, kept_joined, number_found}
 use Rattle.audit_laws.specs.Audited.{IsAudited, IsAuditedSession, file_records, file_rows, key_of, named_session, placed_words, words_of}
-use Rattle.audit_laws.proofs.Tells.{IsToldSession}
+use Rattle.audit_laws.proofs.Agreeing.{SessionAgrees}
 use Rattle.audit_laws.proofs.SoundLists.{equal, found_at, found_each, ids_once, numbered_by}
 use Rattle.audit_laws.proofs.SoundNames.{IsPlaced, id_found, key_found, name_found, named_found, of_batch, of_record, own_ids, own_place, record_name_found, records_placed}
 
@@ -156,8 +156,8 @@ module _ (t : Tables) (audited : IsAudited t) where
         ap (λ names. place_in names (record_name t s.batch s.place)) records_are ∙ ap (place_in (file_records t is.batch)) rec_is
         ∙ ap (λ b. place_in (file_records t b) is.rec.name) (sym same_batch) ∙ own_place t (key_of is.rec) rec_placed ∙ rec_key.1
 
-    pub told_session : IsToldSession t s
-    told_session = record {
+    pub session_agrees : SessionAgrees t s
+    session_agrees = record {
       batch = ap (batch_id f.batches) batch_is ∙ of_batch t audited (λ b. batch_id f.batches b.name ≡ b.id) s.batch is.batch
           (own_ids t audited) is.batch_is ∙ id_found t audited s.batch is.batch is.batch_is;
       place = place_is;
@@ -165,8 +165,8 @@ module _ (t : Tables) (audited : IsAudited t) where
       cursor = cursor_is;
     }
 
-  pub told_sessions : All (IsToldSession t) t.sessions
-  told_sessions k d within = told_session (get_or t.sessions k d) (audited.each_session k d within)
+  pub sessions_agree : All (SessionAgrees t) t.sessions
+  sessions_agree k d within = session_agrees (get_or t.sessions k d) (audited.each_session k d within)
 
   -- the states of those that are kept
   pub kept_states : (p : Session → Bool) (q : StoredSession → Bool) → All (λ (s : StoredSession). p (named_session t s) ≡ q s) t.sessions
@@ -179,4 +179,4 @@ module _ (t : Tables) (audited : IsAudited t) where
       ∙ ap (map (λ (s : StoredSession). session_state f (named s))) (filter_alike (λ s. p (named s)) q t.sessions alike)
       ∙ map_same (λ s. session_state f (named s)) (λ s. s.state) (filter q t.sessions)
       (All-filter q (λ s. session_state f (named s) ≡ s.state) t.sessions
-      (All-weaker (IsToldSession t) (λ s. session_state f (named s) ≡ s.state) (λ s told. told.state) t.sessions told_sessions))
+      (All-weaker (SessionAgrees t) (λ s. session_state f (named s) ≡ s.state) (λ s agrees. agrees.state) t.sessions sessions_agree))

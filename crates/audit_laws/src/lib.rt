@@ -1,4 +1,4 @@
-//! The audit's laws: when the rows of tables are those of sound contents, told row by row.
+//! The audit's laws: when the rows of tables are those of sound contents, given row by row.
 #![tactic(auto)]
 
 mod laws;

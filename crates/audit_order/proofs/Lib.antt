@@ -1,4 +1,4 @@
-pub mod Told
+pub mod Tested
 pub mod SameLists
 pub mod Pieces
 pub mod RangeLemmas

@@ -46,7 +46,7 @@ once_kept replies pairs =
     AllPairs-map is_other number_of replies
     (pairs_weaker (λ (d e : Entry). is_of_number d e ≡ false) (λ (d e : Entry). is_other (number_of d) (number_of e)) (λ d e other. sym (turned d e) ∙ other) replies pairs)
 
--- ---- a client's mark
+-- ---- a client's release mark
 
 place-map : (n : List ℕ) (marks : List Mark) → position_or_len (bytes_eq n) (map (λ (m : Mark). m.client) marks) ≡ position_or_len (has_mark n) marks
 place-map n [] = refl

@@ -6,9 +6,9 @@ use Rattle.table_rows.specs.Tables.{Tables}
 use Rattle.audit_rows.specs.declared.rule.Rule.{Rule}
 use Rattle.audit_rows.specs.Rules.{AllHold, FailsFirst, Holds, IsFirstFailing, rules}
 
--- what a failed test tells
+-- what a failed test gives
 pub broken : {P : Type 0} {r : Bool} → r ≡ false → (r ≡ true → P) × (P → r ≡ true) → ¬ P
-broken is told = λ p. false≢true (sym is ∙ told.1 p)
+broken is tested = λ p. false≢true (sym is ∙ tested.1 p)
 
 module _ (t : Tables) where
   pub all_hold : (some more : List Rule) → AllHold some t → AllHold more t → AllHold (some ++ more) t
@@ -55,22 +55,22 @@ module _ (t : Tables) where
     fails = first.fails;
   }
 
-  pub first_after_told : {E : Type 0} (some more : List Rule) (r : Result (Option Rule) E) → AllHold some t → IfOk r (IsFirstFailing more t) → IfOk r (IsFirstFailing (some ++ more) t)
-  first_after_told some more (Ok o) held first = first_after some more o held first
-  first_after_told some more (Err e) held first = tt
+  pub first_found_after : {E : Type 0} (some more : List Rule) (r : Result (Option Rule) E) → AllHold some t → IfOk r (IsFirstFailing more t) → IfOk r (IsFirstFailing (some ++ more) t)
+  first_found_after some more (Ok o) held first = first_after some more o held first
+  first_found_after some more (Err e) held first = tt
 
   -- ---- of all rules
 
-  pub none_told : {E B : Type 0} (r : Result (Option Rule) E) → (AllHold rules t → B) → (B → AllHold rules t) → IfOk r (IsFirstFailing rules t)
+  pub none_found : {E B : Type 0} (r : Result (Option Rule) E) → (AllHold rules t → B) → (B → AllHold rules t) → IfOk r (IsFirstFailing rules t)
       → IfOk r (λ found. (is_some found ≡ false → B) × (B → is_some found ≡ false))
-  none_told (Ok o) to back first = (λ none. to (where_none rules o none first), λ b. none_fails rules o (back b) first)
-  none_told (Err e) to back first = tt
+  none_found (Ok o) to back first = (λ none. to (where_none rules o none first), λ b. none_fails rules o (back b) first)
+  none_found (Err e) to back first = tt
 
-  pub first_told : {E : Type 0} (r : Result (Option Rule) E) → IfOk r (IsFirstFailing rules t) → IfOk r (λ found. IfSome found (FailsFirst rules t))
-  first_told (Ok (Some rule)) first = first
-  first_told (Ok None) first = tt
-  first_told (Err e) first = tt
+  pub first_found : {E : Type 0} (r : Result (Option Rule) E) → IfOk r (IsFirstFailing rules t) → IfOk r (λ found. IfSome found (FailsFirst rules t))
+  first_found (Ok (Some rule)) first = first
+  first_found (Ok None) first = tt
+  first_found (Err e) first = tt
 
-pub each_told : {X E P : Type 0} (r : Result X E) → P → IfOk r (λ x. P)
-each_told (Ok x) p = p
-each_told (Err e) p = tt
+pub each_ok : {X E P : Type 0} (r : Result X E) → P → IfOk r (λ x. P)
+each_ok (Ok x) p = p
+each_ok (Err e) p = tt

@@ -130,7 +130,7 @@ fn mark_of(marks: &[StoredMark], clients: &IndexSet<Name>, client: &Name) -> u64
     }
 }
 
-// Whether a reply's number is above its client's mark.
+// Whether a reply's number is above its client's release mark.
 fn is_above(marks: &[StoredMark], clients: &IndexSet<Name>, reply: &StoredReply) -> bool
     requires clients { clients.now.keys ≡ map (λ (m : Mark). m.client) marks.now }
     requires named { IsName reply.now.client }
@@ -139,7 +139,7 @@ fn is_above(marks: &[StoredMark], clients: &IndexSet<Name>, reply: &StoredReply)
     mark_of(marks, clients, &asker_of(reply)) < reply.number
 }
 
-// Whether each number is above its client's mark.
+// Whether each number is above its client's release mark.
 fn are_above(marks: &[StoredMark], clients: &IndexSet<Name>, replies: &[StoredReply]) -> bool
     requires clients { clients.now.keys ≡ map (λ (m : Mark). m.client) marks.now }
     requires replies { All IsEntry replies.now }
@@ -204,7 +204,7 @@ fn clients_in(alloc: Global, tables: &Tables) -> Result<Option<IndexSet<Name>>, 
     marked_clients(alloc, &tables.marks)
 }
 
-// Whether the number of each of the tables' replies is above its client's mark.
+// Whether the number of each of the tables' replies is above its client's release mark.
 fn has_above(tables: &Tables, clients: &IndexSet<Name>) -> bool
     requires clients { clients.now.keys ≡ map (λ (m : Mark). m.client) tables.now.marks }
     requires replies { All IsEntry tables.now.replies }

@@ -41,7 +41,7 @@ pub enum Rule {
     Replies,
     /// No client has two marks.
     MarkTwice,
-    /// The number of each kept reply is above its client's mark.
+    /// The number of each kept reply is above its client's release mark.
     ReleasedReplies,
     /// No two replies are kept under one number of one client.
     ReplyTwice,

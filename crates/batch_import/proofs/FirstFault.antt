@@ -1,4 +1,4 @@
--- Rows read one by one tell the first fault: the walk gives what the kinds of the rows say.
+-- Rows read one by one give the first fault: the walk gives what the kinds of the rows say.
 use Rattle.std.proofs.Common.{◌≡◌, ℕ, ◌+◌, Bool, true, false, cond, not, ◌&&◌, ◌||◌, ◌==◌, List, [], ◌∷◌, ◌++◌, length, Option, Some, None, Result, Ok, Err, refl, sym, ap, ◌∙◌, arith}
 use Rattle.std.specs.Prelude.{is_none, is_some, nat_le, nat_lt}
 use Rattle.std.specs.List.{before_first, cons_option, filter_map, find}
@@ -17,11 +17,11 @@ use Rattle.batch_import.specs.Kinds.{row_kinds}
 use Rattle.batch_import.specs.Records.{records_of}
 use Rattle.batch_import.specs.Rows.{row_then}
 use Rattle.batch_import.specs.RowByRow.{Before, after_header, as_record, data_rows, file_rows, first_then, header_of, or_fault, row_of, typed_of, with_row, within_limits}
-use Rattle.batch_import.specs.RowFaults.{PlacedRow, breaks_check, first_fault, header_fault, is_header, or_else, placed, record_names, row_fault, row_has, told_at}
+use Rattle.batch_import.specs.RowFaults.{PlacedRow, breaks_check, fault_of_row, first_fault, header_fault, is_header, or_else, placed, record_names, row_fault, row_has}
 
 -- ---- one row
 
--- a row is told with the least kind that it has, or has none and is the row of its values
+-- a row is reported with the least kind that it has, or has none and is the row of its values
 abbrev Agrees : Result Row Kind → Option Kind → Values → Type 0
 Agrees (Ok row) least values = (least ≡ None) × (row_of_values values ≡ Some row) × (values.name ≡ Some row.rec)
 Agrees (Err k) least values = least ≡ Some k
@@ -151,17 +151,17 @@ rows_agree check rows (fields ∷ rest) = go (row_of check (so_far rows) fields)
         ≡ coming_of_rows check (here check rows fields ∷ placed three_marks (rows ++ fields ∷ []) rest)
     go (Err k) faulty later =
         sym (faulty_first check (here check rows fields) (placed three_marks (rows ++ fields ∷ []) rest) (record { row = length rows + 2; kind = k })
-        (ap (told_at (length rows + 2)) faulty))
+        (ap (fault_of_row (length rows + 2)) faulty))
     go (Ok row) sound later =
         ap (λ before. row_then row (data_rows check before rest)) (one_more rows fields row sound.2) ∙ ap (row_then row) later
-        ∙ sym (sound_first check (here check rows fields) (placed three_marks (rows ++ fields ∷ []) rest) row (ap (told_at (length rows + 2)) sound.0) sound.1)
+        ∙ sym (sound_first check (here check rows fields) (placed three_marks (rows ++ fields ∷ []) rest) row (ap (fault_of_row (length rows + 2)) sound.0) sound.1)
 
 module _ (check : Bool) (first : List (List ℕ)) (rest : List (List (List ℕ))) where
   header_agrees : unless_faulty (header_fault first) (coming_of_rows check (placed three_marks [] rest)) ≡ after_header check (header_of first) rest
   unfolding header_of
   header_agrees = at (length first == 6) (is_header first)
     where
-      at : (six titled : Bool) → unless_faulty (told_at 1 (cond (not six) (Some kind.NotSixFields) (cond (not titled) (Some kind.Header) None)))
+      at : (six titled : Bool) → unless_faulty (fault_of_row 1 (cond (not six) (Some kind.NotSixFields) (cond (not titled) (Some kind.Header) None)))
           (coming_of_rows check (placed three_marks [] rest))
           ≡ after_header check (cond (not six) (Err kind.NotSixFields) (cond titled (Ok tt) (Err kind.Header))) rest
       at false titled = refl

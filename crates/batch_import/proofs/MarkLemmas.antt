@@ -14,7 +14,7 @@ use Rattle.batch_import.specs.Batch.{batch_of, batch_under, batch_with, coming_o
 use Rattle.batch_import.specs.Fields.{Extends, Marks, Values, aid_of_text, field, grouping_of_text, name_of_text, rank_of_text, three_marks, tol_of_text, two_marks}
 use Rattle.batch_import.specs.Kinds.{row_kinds}
 use Rattle.batch_import.specs.Records.{records_of}
-use Rattle.batch_import.specs.RowFaults.{PlacedRow, first_fault, header_fault, or_else, placed, row_fault, row_has, told_at}
+use Rattle.batch_import.specs.RowFaults.{PlacedRow, fault_of_row, first_fault, header_fault, or_else, placed, row_fault, row_has}
 
 -- ---- a row without fault has a mark
 
@@ -22,11 +22,11 @@ or_else-none : {A : Type 0} (o more : Option A) → or_else o more ≡ None → 
 or_else-none None more e = (refl, e)
 or_else-none (Some x) more e = absurd (none-some x (sym e))
 
-pub told-none : (n : ℕ) (o : Option Kind) → told_at n o ≡ None → o ≡ None
-told-none n None e = refl
-told-none n (Some k) e = absurd (cc)
+pub given-none : (n : ℕ) (o : Option Kind) → fault_of_row n o ≡ None → o ≡ None
+given-none n None e = refl
+given-none n (Some k) e = absurd (cc)
 
--- no kind is told: the first of them does not hold, and none of the others is told
+-- no kind is reported: the first of them does not hold, and none of the others is reported
 passed : (faulty : Bool) (k : Kind) (least : Option Kind) → cond faulty (Some k) least ≡ None → (faulty ≡ false) × (least ≡ None)
 passed true k least e = absurd (none-some k (sym e))
 passed false k least e = (refl, e)
@@ -39,14 +39,14 @@ there : {A : Type 0} (o : Option A) → is_none o ≡ false → (x : A) × (o �
 there None e = absurd (cc)
 there (Some x) e = (x, refl)
 
--- none of these kinds is told, so none of them holds
+-- none of these kinds is reported, so none of them holds
 pub none_holds : (has : Kind → Bool) (before after : List Kind) (k : Kind) → find has (before ++ k ∷ after) ≡ None → has k ≡ false
 none_holds has [] after k e = (passed (has k) k (find has after) e).0
 none_holds has (x ∷ before) after k e = none_holds has before after k (passed (has x) x (find has (before ++ k ∷ after)) e).1
 
 mark_there : (check : Bool) (row : PlacedRow) → row_fault check row ≡ None → (e : Enc) × (row.values.enc ≡ Some e)
 mark_there check row sound =
-    let none = told-none (length row.before + 2) (find (row_has check row) row_kinds) sound in
+    let none = given-none (length row.before + 2) (find (row_has check row) row_kinds) sound in
     let before = kind.NotSixFields ∷ kind.Header ∷ kind.RecordName ∷ kind.Aid ∷ kind.Rank ∷ [] in
     let after = kind.Grouping ∷ kind.NotARecord ∷ kind.TooManyRows ∷ kind.TooManyRecords ∷ [] in
     there row.values.enc (neither (is_none row.values.enc) (is_none row.values.tol) (none_holds (row_has check row) before after kind.Mark none))

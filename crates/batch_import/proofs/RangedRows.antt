@@ -23,11 +23,11 @@ use Rattle.batch_import.specs.declared.fault.RowFault.{RowFault}
 use Rattle.batch_import.specs.Batch.{batch_of, coming_of, coming_of_records, coming_of_rows, first_number, first_record_fault, group_fault, ok_unless, planned_rows, records_of_rows, unless_faulty}
 use Rattle.batch_import.specs.Fields.{Marks, aid_of_bytes, aid_of_text, coded_of, decimal, field, name_of_text, rank_of_text, row_of_values, row_with, values_of}
 use Rattle.batch_import.specs.Outlines.{AreBatchRows}
-use Rattle.batch_import.specs.RowFaults.{PlacedRow, first_fault, header_fault, or_else, placed, row_fault, row_has, told_at}
+use Rattle.batch_import.specs.RowFaults.{PlacedRow, fault_of_row, first_fault, header_fault, or_else, placed, row_fault, row_has}
 use Rattle.batch_import.specs.Kinds.{row_kinds}
 use Rattle.batch_import.specs.Records.{records_of}
 use Rattle.batch_import.proofs.WalkLemmas.{coming_of-few, planned_some}
-use Rattle.batch_import.proofs.MarkLemmas.{none_holds, told-none}
+use Rattle.batch_import.proofs.MarkLemmas.{given-none, none_holds}
 
 -- a row as it is read: with a name, and with bytes
 pub record IsTyped (row : Row) : Type 0 where
@@ -192,16 +192,16 @@ batch_typed p raw rows is = at (coming_of p.check raw).fault is
 
 -- ---- the row of a fault
 
-told_row : (n : ℕ) (o : Option Kind) (fault : RowFault) → told_at n o ≡ Some fault → fault.row ≡ n
-told_row n None fault is = absurd (none-some fault is)
-told_row n (Some k) fault is = sym (ap (λ (f : RowFault). f.row) (same_Some _ fault is))
+fault_row : (n : ℕ) (o : Option Kind) (fault : RowFault) → fault_of_row n o ≡ Some fault → fault.row ≡ n
+fault_row n None fault is = absurd (none-some fault is)
+fault_row n (Some k) fault is = sym (ap (λ (f : RowFault). f.row) (same_Some _ fault is))
 
 -- behind a row without a fault there is room for another
 room : (check : Bool) (row : PlacedRow) → row_fault check row ≡ None → length row.before < 4096
 room check row none =
     let before = kind.NotSixFields ∷ kind.Header ∷ kind.RecordName ∷ kind.Aid ∷ kind.Rank ∷ kind.Mark ∷ kind.Grouping ∷ kind.NotARecord ∷ [] in
     leb-false 4096 (length row.before)
-    (none_holds (row_has check row) before (kind.TooManyRecords ∷ []) kind.TooManyRows (told-none (length row.before + 2) (find (row_has check row) row_kinds) none))
+    (none_holds (row_has check row) before (kind.TooManyRecords ∷ []) kind.TooManyRows (given-none (length row.before + 2) (find (row_has check row) row_kinds) none))
 
 placed_fault : (marks : Marks) (check : Bool) (before rest : List (List (List ℕ))) (fault : RowFault) → length before ≤ 4096
     → first_fault (row_fault check) (placed marks before rest) ≡ Some fault → fault.row ≤ 4098
@@ -214,18 +214,18 @@ placed_fault marks check before (fields ∷ rest) fault few is =
     first : (o more : Option RowFault) → row_fault check (record { before = before; fields = fields; values = values_of marks fields }) ≡ o → or_else o more ≡ Some fault
         → (o ≡ None → more ≡ Some fault → fault.row ≤ 4098) → fault.row ≤ 4098
     first None more own is later = later refl is
-    first (Some x) more own is later = omega (arith, few, told_row (length before + 2) _ fault (own ∙ is))
+    first (Some x) more own is later = omega (arith, few, fault_row (length before + 2) _ fault (own ∙ is))
 
 coming_fault : (marks : Marks) (check : Bool) (records : List (List (List ℕ))) (fault : RowFault) → (coming_of_records marks check records).fault ≡ Some fault → fault.row ≤ 4098
 unfolding coming_of_records coming_of_rows
-coming_fault marks check [] fault is = omega (arith, told_row 1 (Some kind.Header) fault is)
+coming_fault marks check [] fault is = omega (arith, fault_row 1 (Some kind.Header) fault is)
 coming_fault marks check (first ∷ rest) fault is = at (header_fault first) refl is
   where
     at : (o : Option RowFault) → header_fault first ≡ o → (unless_faulty o (coming_of_rows check (placed marks [] rest))).fault ≡ Some fault → fault.row ≤ 4098
-    at (Some x) own is = omega (arith, told_row 1 _ fault (own ∙ is))
+    at (Some x) own is = omega (arith, fault_row 1 _ fault (own ∙ is))
     at None own is = placed_fault marks check [] rest fault (omega arith) is
 
--- the fault of a record is told with a row of it
+-- the fault of a record is reported with a row of it
 group_row : (m : ℕ) (groups : List (List (ℕ × Row))) (fault : RowFault) → All (λ group. first_number group ≤ 4098) groups
     → first_fault (group_fault m) groups ≡ Some fault → fault.row ≤ 4098
 group_row m [] fault each is = absurd (none-some fault is)
@@ -234,7 +234,7 @@ group_row m (group ∷ groups) fault each is =
   where
     first : (o more : Option RowFault) → group_fault m group ≡ o → or_else o more ≡ Some fault → (more ≡ Some fault → fault.row ≤ 4098) → fault.row ≤ 4098
     first None more own is later = later is
-    first (Some x) more own is later = omega (arith, All-head (λ group. first_number group ≤ 4098) group groups each, told_row (first_number group) _ fault (own ∙ is))
+    first (Some x) more own is later = omega (arith, All-head (λ group. first_number group ≤ 4098) group groups each, fault_row (first_number group) _ fault (own ∙ is))
 
 numbers_small : (rows : List Row) → length rows ≤ 4096 → All (λ group. first_number group ≤ 4098) (records_of_rows rows)
 numbers_small rows few =
@@ -256,7 +256,7 @@ planned_fault m (row ∷ more) fault few is = at (first_fault (group_fault m) (r
     at None own is = absurd (cc)
     at (Some x) own is = let same : x ≡ fault = cc in group_row m (records_of_rows (row ∷ more)) fault (numbers_small (row ∷ more) few) (own ∙ ap Some same)
 
--- a fault is told with one of the first 4,098 rows
+-- a fault is reported with one of the first 4,098 rows
 pub batch_fault_row : (p : Product) (raw : List ℕ) (fault : RowFault) → batch_of p raw ≡ Err fault → fault.row ≤ 4098
 unfolding batch_of
 batch_fault_row p raw fault is = at (coming_of p.check raw).fault refl is

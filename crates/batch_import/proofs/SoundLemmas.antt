@@ -15,7 +15,7 @@ use Rattle.store_data.specs.declared.row.Row.{Row}
 use Rattle.store_data.proofs.FaultLemmas.{All-from_map}
 use Rattle.store_data.proofs.GroupLemmas.{list_any-first_appearances, same-bytes_eq, with_the_key-none}
 use Rattle.batch_import.proofs.OutlineLemmas.{keys_of_numbered}
-use Rattle.batch_import.specs.Batch.{batch_of, first_record_fault, group_fault, kind_of_plan, coming_of, ok_unless, or_else, planned_rows, records_of_rows, told_at}
+use Rattle.batch_import.specs.Batch.{batch_of, first_record_fault, group_fault, kind_of_plan, coming_of, ok_unless, or_else, planned_rows, records_of_rows, fault_of_row}
 use Rattle.batch_import.specs.SoundRecords.{AreSoundRecords}
 use Rattle.batch_import.specs.declared.fault.RowFault.{RowFault}
 
@@ -38,16 +38,16 @@ fault_by_tests false true blocks e = cc
 fault_by_tests false false true e = cc
 fault_by_tests false false false e = cc
 
-told-None : (n : ℕ) (o : Option PlanFault) → (o ≡ Some Memory → ⊥) → told_at n (option_and_then kind_of_plan o) ≡ None → o ≡ None
-told-None n None never none = refl
-told-None n (Some Memory) never none = absurd (never refl)
-told-None n (Some MarksDiffer) never none = absurd (cc)
-told-None n (Some IdentifierTwice) never none = absurd (cc)
-told-None n (Some TooManyBlocks) never none = absurd (cc)
+given-None : (n : ℕ) (o : Option PlanFault) → (o ≡ Some Memory → ⊥) → fault_of_row n (option_and_then kind_of_plan o) ≡ None → o ≡ None
+given-None n None never none = refl
+given-None n (Some Memory) never none = absurd (never refl)
+given-None n (Some MarksDiffer) never none = absurd (cc)
+given-None n (Some IdentifierTwice) never none = absurd (cc)
+given-None n (Some TooManyBlocks) never none = absurd (cc)
 
-group_sound : (m n : ℕ) (rows : List Row) → told_at n (option_and_then kind_of_plan (record_fault m rows)) ≡ None → record_fault m rows ≡ None
+group_sound : (m n : ℕ) (rows : List Row) → fault_of_row n (option_and_then kind_of_plan (record_fault m rows)) ≡ None → record_fault m rows ≡ None
 unfolding record_fault summaries_fault
-group_sound m n rows none = told-None n (record_fault m rows) (fault_by_tests _ _ _) none
+group_sound m n rows none = given-None n (record_fault m rows) (fault_by_tests _ _ _) none
 
 planned : (m : ℕ) (rows found : List Row) → planned_rows m rows ≡ Ok found → (found ≡ rows) × (first_record_fault m (records_of_rows rows) ≡ None)
 planned m [] found e = absurd (cc)

@@ -14,7 +14,7 @@ use Rattle.csv.specs.declared.parser.State.TheVariants as st
 use Rattle.batch_import.specs.Records.{records_of}
 use Rattle.batch_import.specs.RecordsLeft.{records_after}
 use Rattle.batch_import.specs.RowByRow.{Before, data_rows, file_rows, header_of, row_of}
-use Rattle.batch_import.specs.Rows.{Records, TellsFault}
+use Rattle.batch_import.specs.Rows.{HasFault, Records}
 use Rattle.batch_import.specs.WideRows.{HasWideAt, IsWideAt, ends_of, found_after, wide_after}
 use Rattle.batch_import.specs.declared.fault.ImportFault.{ImportFault}
 use Rattle.batch_import.specs.declared.fault.ImportFault.TheVariants as fault
@@ -197,19 +197,19 @@ wide-on before (Some n) left rest fields fewer wide is =
 
 -- the fault of a record that has too many fields
 pub wide-row : (check : Bool) (before : Before) (left : Option Records) (e : ImportFault) → HasWideAt left 0
-    → e ≡ fault.At (record { row = before.count + 2; kind = kind.NotSixFields }) → TellsFault (data_rows check before) left e
+    → e ≡ fault.At (record { row = before.count + 2; kind = kind.NotSixFields }) → HasFault (data_rows check before) left e
 unfolding data_rows row_of
-wide-row check before left e ([], there, (found, at, long)) told = absurd (none-some found at)
-wide-row check before left e (fields ∷ rest, there, (found, at, long)) told =
+wide-row check before left e ([], there, (found, at, long)) given = absurd (none-some found at)
+wide-row check before left e (fields ∷ rest, there, (found, at, long)) given =
     let same : fields ≡ found = cc in
     let many : (length fields == 6) ≡ false = ne_eqb (length fields) 6 (λ six. absurd (omega (arith, six, long, ap length same))) in
-    rw told (fields ∷ rest, there, rw many refl)
+    rw given (fields ∷ rest, there, rw many refl)
 
 pub wide-header : (check : Bool) (left : Option Records) (e : ImportFault) → HasWideAt left 0
-    → e ≡ fault.At (record { row = 1; kind = kind.NotSixFields }) → TellsFault (file_rows check) left e
+    → e ≡ fault.At (record { row = 1; kind = kind.NotSixFields }) → HasFault (file_rows check) left e
 unfolding header_of
-wide-header check left e ([], there, (found, at, long)) told = absurd (none-some found at)
-wide-header check left e (fields ∷ rest, there, (found, at, long)) told =
+wide-header check left e ([], there, (found, at, long)) given = absurd (none-some found at)
+wide-header check left e (fields ∷ rest, there, (found, at, long)) given =
     let same : fields ≡ found = cc in
     let many : (length fields == 6) ≡ false = ne_eqb (length fields) 6 (λ six. absurd (omega (arith, six, long, ap length same))) in
-    rw told (fields ∷ rest, there, rw many refl)
+    rw given (fields ∷ rest, there, rw many refl)

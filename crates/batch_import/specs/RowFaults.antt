@@ -81,14 +81,14 @@ row_has check row kind = false
 
 -- ---- the first fault
 
--- a fault told with a row
-abbrev pub told_at : ℕ → Option Kind → Option RowFault
-told_at n None = None
-told_at n (Some k) = Some (record { row = n; kind = k })
+-- a fault reported with a row
+abbrev pub fault_of_row : ℕ → Option Kind → Option RowFault
+fault_of_row n None = None
+fault_of_row n (Some k) = Some (record { row = n; kind = k })
 
--- the least kind that a row has, told with its number
+-- the least kind that a row has, reported with its number
 abbrev pub least_fault : ℕ → (Kind → Bool) → Option RowFault
-least_fault number has = told_at number (find has row_kinds)
+least_fault number has = fault_of_row number (find has row_kinds)
 
 -- the fault of row 1
 abbrev pub header_fault : List (List ℕ) → Option RowFault

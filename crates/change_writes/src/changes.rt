@@ -17,7 +17,7 @@ use sqlite::{Alter, Error, Transaction};
 use std::alloc::Global;
 use table_rows::Writing;
 
-/// Writes all but the reply, and tells how many rows its last statement touched. After an error
+/// Writes all but the reply, and returns how many rows its last statement touched. After an error
 /// the caller drops the transaction.
 pub(crate) fn write_change<S: Alter>(
     tx: &mut Transaction<'_, S>,

@@ -10,7 +10,7 @@ ghost use Rattle.table_rows.specs.Kept.{kept_reply};
 ghost use Rattle.change_writes.specs.Writable.{IsWritable};
 
 use crate::changes::write_change;
-use crate::writable::{LIMIT, is_writable};
+use crate::writable::is_writable;
 use row_writes::add_reply;
 use sql_base::laws;
 use sqlite::{Alter, Connection, Error, Transaction};
@@ -24,7 +24,7 @@ fn write_all<S: Alter>(
     entry: &Entry<'_>,
     writing: &Writing<'_>,
 ) -> Result<usize, Error>
-    requires number { entry.now.number < 2 ^ 63 }
+    requires most { entry.now.number < 10 ^ 18 }
     requires writing { IsWritable writing.now }
     ensures same_reference { tx.new.conn.ghost_name ≡ tx.old.conn.ghost_name }
     ensures wrote { WritesRows (rows_written writing.now (kept_reply entry.now))
@@ -36,15 +36,16 @@ fn write_all<S: Alter>(
     add_reply(tx, entry)
 }
 
-/// Writes a change or a release, and keeps its reply, or does neither: nothing is written of a
-/// number that SQL has not. A crash leaves what it could leave before, or all of it.
+/// Writes a change or a release, and keeps its reply, or does neither: nothing is written where a
+/// number of the change is beyond SQL's. A crash leaves what it could leave before, or all of it.
 pub fn commit<S: Alter>(
     conn: &mut Connection<S>,
     alloc: Global,
     entry: &Entry<'_>,
     writing: &Writing<'_>,
 ) -> Result<(), Error>
-    requires { conn.old.in_transaction ≡ false }
+    requires most { entry.now.number < 10 ^ 18 }
+    requires idle { conn.old.in_transaction ≡ false }
     ensures ok { HasCleanDisk (state S.Store conn.new) → OnOk result
         (Ends (Moves (rows_written writing.now (kept_reply entry.now))) (state S.Store conn.old)
         (state S.Store conn.new)) }
@@ -55,7 +56,7 @@ pub fn commit<S: Alter>(
         (IsLeft (Moves (rows_written writing.now (kept_reply entry.now)))
         (state S.Store conn.old)) }
 {
-    if entry.number >= LIMIT || !is_writable(writing) {
+    if !is_writable(writing) {
         return Err(Error::InvalidQuery);
     }
     laws::is_committed(conn);

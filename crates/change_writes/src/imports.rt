@@ -64,7 +64,7 @@ fn write_bare<S: Alter>(
     add_rows(tx, alloc, number, product, batch.raw)
 }
 
-// What is told of a file that is not taken.
+// What is reported of a file that is not taken.
 fn refused(fault: ImportFault) -> Error
     ensures { result ≡ refused fault }
 {

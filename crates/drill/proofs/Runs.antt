@@ -10,7 +10,7 @@ use Rattle.job_facts.specs.Store.{State}
 use Rattle.job_facts.specs.declared.store.StoreFault.{StoreFault}
 use Rattle.job_facts.specs.declared.store.StoreFault.TheVariants as fault
 use Rattle.text_io.proofs.Pieces.{begun}
-use Rattle.text_io.specs.Inputs.{Tells}
+use Rattle.text_io.specs.Inputs.{Agrees}
 use Rattle.text_io.specs.Written.{AppendsBeginning}
 use Rattle.text_io.specs.declared.reading.ReadFault.{ReadFault}
 use Rattle.text_io.specs.declared.reading.ReadFault.TheVariants as read
@@ -144,9 +144,9 @@ line_unopened state usable s served fl count l behind did a b fault.Full step wr
 
 -- ---- a script
 
-tells_some : (known : Option (List ℕ)) → Tells known (unwrap_or known [])
-tells_some None = tt
-tells_some (Some all) = refl
+agrees_some : (known : Option (List ℕ)) → Agrees known (unwrap_or known [])
+agrees_some None = tt
+agrees_some (Some all) = refl
 
 never_unread : {S : Type 0} (state : S → State) (s : S) (fl : Floor) (count : ℕ) (left : List (List ℕ)) (ended_in : Option Did) → EndsAt state s fl count left ended_in (Err stop.ReadFailed) → ⊥
 never_unread state s fl count left None ends = ends
@@ -156,7 +156,7 @@ pub all_run : {S : Type 0} (state : S → State) (usable : S → Type 0) (s : S)
 all_run state usable s known a b (Ok u) run = run
 all_run state usable s known a b (Err (stop.BadLine n)) run = run
 all_run state usable s known a b (Err stop.Storage) run = run
-all_run state usable s known a b (Err stop.ReadFailed) (raw, told, run) = absurd (never_unread state run.last run.floor _ run.left run.ended_in run.ends)
+all_run state usable s known a b (Err stop.ReadFailed) (raw, with_reply, run) = absurd (never_unread state run.last run.floor _ run.left run.ended_in run.ends)
 all_run state usable s known a b (Err stop.WriteFailed) run = run
 all_run state usable s known a b (Err stop.Memory) run = run
 
@@ -164,4 +164,4 @@ all_run state usable s known a b (Err stop.Memory) run = run
 pub unread_all : {S : Type 0} (state : S → State) (usable : S → Type 0) (s : S) (known a : Option (List ℕ)) (r : Result (Unit {0}) DrillStop) (why : DrillStop) (fault : ReadFault) → r ≡ Err why → why ≡ unread fault
     → DrillsOver state usable s known a a r
 unread_all state usable s known a r why read.Failed is of = rw (is, of) (Keeps-refl a)
-unread_all state usable s known a r why read.Memory is of = rw (is, of) (unwrap_or known [], tells_some known, line_unmade state usable s empty_floor _ _ a)
+unread_all state usable s known a r why read.Memory is of = rw (is, of) (unwrap_or known [], agrees_some known, line_unmade state usable s empty_floor _ _ a)

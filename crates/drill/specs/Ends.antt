@@ -6,7 +6,7 @@ use Rattle.std.specs.Io.KnownBytes.{Appends, Keeps}
 use Rattle.job_facts.specs.Store.{State}
 use Rattle.job_facts.specs.declared.store.StoreFault.{StoreFault}
 use Rattle.job_facts.specs.declared.store.StoreFault.TheVariants as fault
-use Rattle.text_io.specs.Inputs.{Tells}
+use Rattle.text_io.specs.Inputs.{Agrees}
 use Rattle.text_io.specs.Written.{AppendsBeginning}
 use Rattle.text_io.specs.declared.reading.ReadFault.{ReadFault}
 use Rattle.text_io.specs.declared.reading.ReadFault.TheVariants as read
@@ -23,8 +23,8 @@ pub record Done (S : Type 0) : Type 0 where
   pub served : S
   pub store : S
 
--- a server that stops is opened over again: its store has told no fault yet, and holds what it held
--- unless a fault had shut it
+-- a server that stops is opened over again: its store has reported no fault yet, and holds what it
+-- held unless a fault had shut it
 abbrev pub GoesOn : {S : Type 0} → (S → State) → (S → Type 0) → S → S → Bool → Type 0
 GoesOn state usable served store true = IsAnew (state store) × (usable served → Reopens (state served) (state store))
 GoesOn state usable served store false = store ≡ served
@@ -95,7 +95,7 @@ pub record Runs {S : Type 0} (state : S → State) (usable : S → Type 0) (s : 
 -- all lines of a script, from an empty shop floor; what the reader gives is the script
 abbrev pub RunsAll : {S : Type 0} → (S → State) → (S → Type 0) → S → Option (List ℕ) → Option (List ℕ) → Option (List ℕ) → Result (Unit {0}) DrillStop → Type 0
 RunsAll state usable s known before after result =
-    (raw : List ℕ) × Tells known raw × Runs state usable s empty_floor (length (lines raw)) (lines raw) before after result
+    (raw : List ℕ) × Agrees known raw × Runs state usable s empty_floor (length (lines raw)) (lines raw) before after result
 
 -- nothing was printed where the reader failed
 abbrev pub DrillsOver : {S : Type 0} → (S → State) → (S → Type 0) → S → Option (List ℕ) → Option (List ℕ) → Option (List ℕ) → Result (Unit {0}) DrillStop → Type 0
@@ -106,7 +106,7 @@ DrillsOver state usable s known before after (Err stop.WriteFailed) = RunsAll st
 DrillsOver state usable s known before after (Err stop.Memory) = RunsAll state usable s known before after (Err stop.Memory)
 DrillsOver state usable s known before after (Err stop.Storage) = RunsAll state usable s known before after (Err stop.Storage)
 
--- the words of an end that is told
+-- the words of an end that is printed
 abbrev pub stop_text : DrillStop → List ℕ
 stop_text (stop.BadLine n) = codes "bad line " ++ decimal n
 stop_text stop.Storage = codes "the store did not open"

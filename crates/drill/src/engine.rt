@@ -21,7 +21,7 @@ use text_io::{lines_of, read_whole, write_text};
 /// It reads the script whole at first, and leaves it to the caller to flush. Errors: the first line
 /// of another form, or that names what isn't there, before which all is done and printed; a read or
 /// a write that fails; a store that does not open over again; refused memory. A request for which
-/// memory was refused is told as 503.
+/// memory was refused is answered 503.
 pub fn drill_over<S: Reopen + Drop, R: Read, W: Write>(
     alloc: Global,
     store: S,
@@ -58,7 +58,7 @@ fn do_lines<S: Reopen + Drop, W: Write>(
     Ok(())
 }
 
-// Does the line of this number, and tells the store behind it and how many lines were its file.
+// Does the line of this number, and returns the store behind it and how many lines were its file.
 fn do_line<S: Reopen + Drop, W: Write>(
     alloc: Global,
     floor: &mut Floor,

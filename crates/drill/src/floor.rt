@@ -53,7 +53,7 @@ impl Floor {
         }
     }
 
-    /// Does what a line says, and tells the line that is printed. `None` where it names a machine
+    /// Does what a line says, and returns the line that is printed. `None` where it names a machine
     /// or a reply that isn't there. It fails only where memory is refused.
     pub fn turn(&mut self, alloc: Global, turn: Turn) -> Result<Option<Vec<u8>>, AllocError>
         requires { IsTurn turn }
@@ -155,7 +155,7 @@ impl Floor {
         Ok(Some(packet_line(alloc, self.packets.len())?))
     }
 
-    // A card gives a word.
+    // A card gives a status word.
     fn card(
         &mut self,
         alloc: Global,
@@ -217,7 +217,7 @@ impl Floor {
         self.packets.get((packet - 1) as usize)
     }
 
-    /// Keeps the reply to a packet of this machine and this number, and tells how many there are.
+    /// Keeps the reply to a packet of this machine and this number, and returns how many there are.
     /// It fails only where memory is refused.
     pub fn keep(&mut self, machine: Name, number: u64, bytes: Bytes) -> Result<usize, AllocError>
         ensures { IfOk result (λ count. (self.new ≡ with_reply machine number bytes self.old)

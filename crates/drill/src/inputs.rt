@@ -9,8 +9,9 @@ use list_store::ListStore;
 use server::{MemoryConnections, NextFault, serve_all};
 use std::alloc::Global;
 
-/// Serves so many of these inputs, in order, from an empty store of lists; each comes in pieces of at most so many bytes. Errors:
-/// `Device` where there are fewer inputs, and refused memory as `Memory`.
+/// Serves so many of these inputs, in order, from an empty store of lists; each comes in pieces of
+/// at most so many bytes. Errors: `Device` where there are fewer inputs, and refused memory as
+/// `Memory`.
 pub fn serve_inputs(
     alloc: Global,
     inputs: Vec<Vec<u8>>,

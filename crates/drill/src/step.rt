@@ -94,7 +94,7 @@ fn ask<S: JobStore>(
         return Ok(None);
     };
     let reply = serve(alloc, store, message)?;
-    let text = told(Vec::new(alloc), reply.as_slice())?;
+    let text = with_reply(Vec::new(alloc), reply.as_slice())?;
     Ok(Some(Did {
         taken,
         text,
@@ -149,7 +149,7 @@ fn answer<S: JobStore>(
     let reply = serve(alloc, store, message)?;
     let kept = Bytes::from_vec(reply.to_vec(alloc)?);
     let count = floor.keep(machine, number, kept)?;
-    let text = told(numbered(alloc, count)?, reply.as_slice())?;
+    let text = with_reply(numbered(alloc, count)?, reply.as_slice())?;
     Ok(Did {
         taken: 0,
         text,
@@ -195,7 +195,7 @@ fn numbered(alloc: Global, count: usize) -> Result<Vec<u8>, AllocError>
 }
 
 // A text with a reply's status, a space and its body behind it, which ends the line.
-fn told(mut text: Vec<u8>, reply: &[u8]) -> Result<Vec<u8>, AllocError>
+fn with_reply(mut text: Vec<u8>, reply: &[u8]) -> Result<Vec<u8>, AllocError>
     ensures { IfOk result (λ t. t.items ≡ text.items ++ reply_line reply.now) }
 {
     put_line(&mut text, reply)?;

@@ -32,7 +32,7 @@ pub enum Turn {
     Send {
         machine: Name,
     },
-    /// A card gives a word.
+    /// A card gives a status word.
     Card {
         machine: Name,
         sw: u16,

@@ -44,7 +44,8 @@ impl EventLine {
     /// The line with bytes more, between quotes. What is no printable character of ASCII, and each
     /// quote and backslash, is written as `\x` and two digits.
     pub fn quoted(self, key: &str, bytes: &[u8]) -> Result<EventLine, AllocError>
-        ensures { IfOk result (λ line. text_of line ≡ text_of self ++ quoted_pair key.now bytes.now) }
+        ensures { IfOk result
+            (λ line. text_of line ≡ text_of self ++ quoted_pair key.now bytes.now) }
     {
         let EventLine { alloc, mut text } = self;
         push_key(&mut text, key)?;

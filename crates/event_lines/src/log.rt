@@ -34,7 +34,7 @@ impl<W: Write + Drop> EventLog<W> {
     }
 
     /// Writes a line, if any are written. Where a write fails or memory is refused a beginning of
-    /// it is written, and nothing is told of that: a line that can't be written stops nothing.
+    /// it is written, and nothing is reported of that: a line that can't be written stops nothing.
     pub fn note(&mut self, line: Result<EventLine, AllocError>)
         ensures level { self.new.level ≡ self.old.level }
         ensures noted { (text : List ℕ) → IfOk line (λ made. text_of made ≡ text)

@@ -25,7 +25,7 @@ state s = state_of (contents s.lists) s.device
 
 -- ---- when a planned fault strikes
 
--- in a turn; one after a write waits for the end of that
+-- in a step; one after a write waits for the end of that
 abbrev pub in_turn : Fault → Option Fault
 in_turn Failed = Some Failed
 in_turn FailedAfterWrite = None
@@ -40,7 +40,7 @@ abbrev pub struck : Option Plan → Option Fault
 struck None = None
 struck (Some plan) = strikes plan.turns plan.fault
 
--- whether the device answers a turn in which this strikes; one that lies does
+-- whether the device answers a step in which this strikes; one that lies does
 abbrev pub IsAnswered : Option Fault → Type 0
 IsAnswered None = ⊤
 IsAnswered (Some Failed) = ⊥
@@ -48,7 +48,7 @@ IsAnswered (Some FailedAfterWrite) = ⊥
 IsAnswered (Some Full) = ⊥
 IsAnswered (Some Lies) = ⊤
 
--- what is planned behind that turn
+-- what is planned behind that step
 abbrev pub waits : Fault → Option Plan
 waits Failed = None
 waits FailedAfterWrite = Some (record { turns = 0; fault = FailedAfterWrite })

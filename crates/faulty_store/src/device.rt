@@ -21,14 +21,15 @@ pub enum Fault {
     Lies,
 }
 
-/// A fault that strikes once, after so many turns.
+/// A fault that strikes once, after so many steps.
 #[derive(Clone, Copy)]
 pub struct Plan {
     pub turns: u64,
     pub fault: Fault,
 }
 
-/// What is planned, how often a fault was told or a lie, and whether a fault has shut the store.
+/// What is planned, how often a fault was reported or a lie, and whether a fault has shut the
+/// store.
 #[derive(Clone, Copy)]
 pub struct Device {
     pub plan: Option<Plan>,
@@ -39,7 +40,7 @@ pub struct Device {
 }
 
 impl Device {
-    /// The fault that strikes in this turn, if one does. One after a write waits for a write.
+    /// The fault that strikes in this step, if one does. One after a write waits for a write.
     pub(crate) fn strike(&mut self) -> Option<Fault>
         ensures plan { self.new ≡ record self.old { plan = self.new.plan } }
         ensures shut { self.old.is_shut ≡ true → result ≡ Some Failed }
@@ -74,8 +75,9 @@ impl Device {
 
     /// It fails, and the store shuts.
     pub(crate) fn fail(&mut self) -> StoreFault
-        ensures told { result ≡ DeviceFault }
-        ensures counted { self.new ≡ record self.old { failed = one_more self.old.failed; is_shut = true } }
+        ensures fault { result ≡ DeviceFault }
+        ensures counted { self.new
+            ≡ record self.old { failed = one_more self.old.failed; is_shut = true } }
     {
         self.failed = self.failed.saturating_add(1);
         self.is_shut = true;
@@ -84,7 +86,7 @@ impl Device {
 
     /// It is full.
     pub(crate) fn refuse(&mut self) -> StoreFault
-        ensures told { result ≡ FullFault }
+        ensures fault { result ≡ FullFault }
         ensures counted { self.new ≡ record self.old { full = one_more self.old.full } }
     {
         self.full = self.full.saturating_add(1);

@@ -8,7 +8,7 @@ use list_store::ListStore;
 use std::alloc::Global;
 use store_data::{Name, Product};
 
-/// Lists behind a device. Each call takes a turn of the device first.
+/// Lists behind a device. Each call takes a step of the device first.
 #[derive(Drop)]
 pub struct FaultyStore {
     alloc: Global,
@@ -69,7 +69,7 @@ impl FaultyStore {
         self.device
     }
 
-    // A turn of the device.
+    // A step of the device.
     fn turn(&mut self) -> Result<(), StoreFault>
         ensures stays { Stays (state self.old) (state self.new) }
         ensures faults { CountsFaults (state self.old) (state self.new) result }
@@ -253,7 +253,7 @@ impl JobStore for FaultyStore {
     }
 }
 
-// To close it takes a turn of the device, as any call does.
+// To close it takes a step of the device, as any call does.
 impl ServerStore for FaultyStore {
     ghost use Rattle.std.specs.Prelude.{◌≡◌, false};
     ghost use Rattle.faulty_store.specs.Faulty.{IsAnswered, struck};

@@ -23,9 +23,9 @@ use Rattle.step_laws.proofs.Growth.{later_same, step_later, step_words}
 use Rattle.step_laws.proofs.ReplyFacts.{step_may, step_says}
 use Rattle.step_laws.proofs.ReplyRanges.{step_in_range}
 use Rattle.step_laws.proofs.SoundSteps.{step_sound}
-use Rattle.arrivals.specs.Told.{Told, reused, status_of, told_of}
+use Rattle.arrivals.specs.HttpReplies.{HttpReply, http_reply_of, reused, status_of}
 use Rattle.arrivals.specs.Laws.{AreAbove}
-use Rattle.arrivals.specs.Meaning.{Arrived, contents_with, facts_by, mark_by, marks_by, reply_by, reply_to, told_by}
+use Rattle.arrivals.specs.Meaning.{Arrived, contents_with, facts_by, http_reply_by, mark_by, marks_by, reply_by, reply_to}
 use Rattle.arrivals.proofs.MeaningLemmas.{decided_by, entry_is, kept_with, mark_below, mark_set, marks_grow, with_above}
 use Rattle.wire.specs.ReplyText.{IsReply}
 use Rattle.wire.specs.Sending.{ask_of}
@@ -36,7 +36,7 @@ use Rattle.feeder.specs.World.{Answered, Packet, World, arrival_of, decides, is_
 use Rattle.step_laws.proofs.Blanks.{uncharged}
 use Rattle.feeder.proofs.Replies.{OpensFree, answer_later, answer_says, good_later, open_later, open_says, opens_free, reply_ranged}
 use Rattle.feeder.specs.ShopFloor.{IsRangedCall, IsCountedGood, sequence_of}
-use Rattle.feeder.proofs.Fine.{Cards, Machines, Fine, Fits, Fresh, HasCard, HasDone, Holds, IsDecidedFine, IsFineCard, IsFineEntry, IsFinePacket, IsKeptFine, IsTold, OpensFresh, got}
+use Rattle.feeder.proofs.Fine.{Cards, Machines, Fine, Fits, Fresh, HasCard, HasDone, Holds, IsDecidedFine, IsFineCard, IsFineEntry, IsFinePacket, IsKeptFine, IsAnswered, OpensFresh, got}
 use Rattle.feeder.proofs.Going.{all_at, name_same}
 
 -- ---- later facts
@@ -88,9 +88,9 @@ fits_later f g marks now m (Job (request.Answer s k sw)) r later grow is = answe
 fits_later f g marks now m (Release upto) r later grow is = λ ok. omega (arith, is ok, grow m)
 fits_later f g marks now m _ r later grow is = tt
 
-told_later : (f g : Facts) (marks now : List Mark) (cards : Cards) (machines : Machines) (packets : List Packet) (client : List ℕ) (number : ℕ) (told : Told)
-    → Later f g → ((n : List ℕ) → mark_of marks n ≤ mark_of now n) → IsTold f marks cards machines packets client number told → IsTold g now cards machines packets client number told
-told_later f g marks now cards machines packets client number told later grow is = record {
+answered_later : (f g : Facts) (marks now : List Mark) (cards : Cards) (machines : Machines) (packets : List Packet) (client : List ℕ) (number : ℕ) (http_reply : HttpReply)
+    → Later f g → ((n : List ℕ) → mark_of marks n ≤ mark_of now n) → IsAnswered f marks cards machines packets client number http_reply → IsAnswered g now cards machines packets client number http_reply
+answered_later f g marks now cards machines packets client number http_reply later grow is = record {
   packet = is.packet;
   at = is.at;
   there = is.there;
@@ -105,7 +105,7 @@ told_later f g marks now cards machines packets client number told later grow is
 
 -- ---- contents in place of others
 
--- what is owed of contents that come next, and of what was told
+-- what is owed of contents that come next, and of what was answered
 pub record Leads (names : List (List ℕ)) (w : World) (d : Contents) (g : Answered) : Type 0 where
   pub sound : IsSound d.facts
   pub above : AreAbove d
@@ -118,15 +118,15 @@ pub record Leads (names : List (List ℕ)) (w : World) (d : Contents) (g : Answe
 
 entry_later : (names : List (List ℕ)) (f g : Facts) (marks now : List Mark) (cards : Cards) (machines : Machines) (packets : List Packet)
     → Later f g → ((n : List ℕ) → mark_of marks n ≤ mark_of now n) → (e : Entry) → IsKeptFine names f marks cards machines packets e → IsKeptFine names g now cards machines packets e
-unfolding told_later
+unfolding answered_later
 entry_later names f g marks now cards machines packets later grow e is listed =
-    let one = is listed in record { told = told_later f g marks now cards machines packets e.client e.number (record { status = e.status; body = e.body }) later grow one.told; ask = one.ask }
+    let one = is listed in record { http_reply = answered_later f g marks now cards machines packets e.client e.number (record { status = e.status; body = e.body }) later grow one.http_reply; ask = one.ask }
 
 answer_was : (names : List (List ℕ)) (f g : Facts) (marks now : List Mark) (cards : Cards) (machines : Machines) (packets : List Packet)
     → Later f g → ((n : List ℕ) → mark_of marks n ≤ mark_of now n) → (a : Answered) → IsDecidedFine names f marks cards machines packets a → IsDecidedFine names g now cards machines packets a
-unfolding told_later
+unfolding answered_later
 answer_was names f g marks now cards machines packets later grow a is listed =
-    let one = is listed in record { told = told_later f g marks now cards machines packets a.arrival.client a.arrival.number a.told later grow one.told; call = one.call }
+    let one = is listed in record { http_reply = answered_later f g marks now cards machines packets a.arrival.client a.arrival.number a.http_reply later grow one.http_reply; call = one.call }
 
 pub leads_fine : (names : List (List ℕ)) (w : World) (d : Contents) (g : Answered) → Leads names w d g → Fine names w
     → Fine names (record w { contents = d; decided = w.decided ++ g ∷ [] })
@@ -239,17 +239,17 @@ first_reply f marks client number (Release upto) sound ranged low =
 -- what is kept under the number of a machine's packet is of that packet's call
 pub entry_for : (names : List (List ℕ)) (w : World) → Fine names w → (p : Packet) (i : ℕ) (e : Entry) → is_name_of names p.machine ≡ true → slice_get w.packets i ≡ Some p
     → entry_of w.contents.kept p.machine (number_at p.boot p.place) ≡ Some e
-    → (one : IsFineEntry w.contents.facts w.contents.marks w.cards w.machines w.packets e) × (one.told.packet.call ≡ p.call)
+    → (one : IsFineEntry w.contents.facts w.contents.marks w.cards w.machines w.packets e) × (one.http_reply.packet.call ≡ p.call)
 entry_for names w fine p i e listed there some =
     let c = w.contents in
     let number = number_at p.boot p.place in
     let is = entry_is c.kept p.machine number e some in
     let kept = find-All (λ (x : Entry). bytes_eq x.client p.machine && (x.number == number)) (IsKeptFine names c.facts c.marks w.cards w.machines w.packets) c.kept e fine.kept some in
     let one = kept (ap (is_name_of names) is.0 ∙ listed) in
-    let q = one.told.packet in
+    let q = one.http_reply.packet in
     let most : (r : Packet) (at : ℕ) → slice_get w.packets at ≡ Some r → r.place ≤ 9999999 = λ r at is. (all_at (IsFinePacket c.facts w.cards w.machines w.boots) w.packets at r fine.packets is).sent.most in
-    let places = number_apart q.boot q.place p.boot p.place (most q one.told.at one.told.there) (most p i there) (one.told.number_is ∙ is.1) in
-    (one, fine.agree one.told.at i q p one.told.there there (one.told.client_is ∙ is.0) places.0 places.1)
+    let places = number_apart q.boot q.place p.boot p.place (most q one.http_reply.at one.http_reply.there) (most p i there) (one.http_reply.number_is ∙ is.1) in
+    (one, fine.agree one.http_reply.at i q p one.http_reply.there there (one.http_reply.client_is ∙ is.0) places.0 places.1)
 
 -- ---- an arrival
 
@@ -257,8 +257,8 @@ module _ (names : List (List ℕ)) (w : World) (a : Arrived) (comes : Comes name
   abbrev c : Contents
   c = w.contents
 
-  same_leads : (told : Told) → IsDecidedFine names c.facts c.marks w.cards w.machines w.packets (record { arrival = a; told = told }) → Leads names w c (record { arrival = a; told = told })
-  same_leads told new = record {
+  same_leads : (http_reply : HttpReply) → IsDecidedFine names c.facts c.marks w.cards w.machines w.packets (record { arrival = a; http_reply = http_reply }) → Leads names w c (record { arrival = a; http_reply = http_reply })
+  same_leads http_reply new = record {
     sound = fine.sound;
     above = fine.above;
     marks = fine.marks;
@@ -269,11 +269,11 @@ module _ (names : List (List ℕ)) (w : World) (a : Arrived) (comes : Comes name
     new = new;
   }
 
-  gone_leads : Leads names w c (record { arrival = a; told = told_of (reply.NumberReleased (mark_of c.marks a.client)) })
-  gone_leads = same_leads (told_of (reply.NumberReleased (mark_of c.marks a.client))) (λ listed.
+  gone_leads : Leads names w c (record { arrival = a; http_reply = http_reply_of (reply.NumberReleased (mark_of c.marks a.client)) })
+  gone_leads = same_leads (http_reply_of (reply.NumberReleased (mark_of c.marks a.client))) (λ listed.
       let p = comes.packet listed in
       record {
-        told = record {
+        http_reply = record {
           packet = p.0;
           at = p.1;
           there = p.2;
@@ -289,36 +289,36 @@ module _ (names : List (List ℕ)) (w : World) (a : Arrived) (comes : Comes name
       })
 
   -- the entry of a machine's number is that of its packet
-  again_leads : (e : Entry) → entry_of c.kept a.client a.number ≡ Some e → Leads names w c (record { arrival = a; told = told_by a.ask e })
-  again_leads e some = same_leads (told_by a.ask e) (λ listed.
+  again_leads : (e : Entry) → entry_of c.kept a.client a.number ≡ Some e → Leads names w c (record { arrival = a; http_reply = http_reply_by a.ask e })
+  again_leads e some = same_leads (http_reply_by a.ask e) (λ listed.
       let p = comes.packet listed in
       let is = entry_is c.kept a.client a.number e some in
       let found = entry_for names w fine p.0 p.1 e (ap (λ (b : Arrived). is_name_of names b.client) p.3 ∙ listed) p.2 (subst (λ (b : Arrived). entry_of c.kept b.client b.number ≡ Some e) (sym p.3) some) in
       let one = found.0 in
-      let q = one.told.packet in
+      let q = one.http_reply.packet in
       let call : q.call ≡ p.0.call = found.1 in
       let ask : e.ask ≡ a.ask = one.ask ∙ ap ask_of call ∙ ap (λ (b : Arrived). b.ask) p.3 in
-      let same : told_by a.ask e ≡ record { status = e.status; body = e.body } =
+      let same : http_reply_by a.ask e ≡ record { status = e.status; body = e.body } =
       cond-true (bytes_eq e.ask a.ask) (record { status = e.status; body = e.body }) reused (ap (λ x. bytes_eq x a.ask) ask ∙ name_same a.ask) in
       record {
-        told = record {
+        http_reply = record {
           packet = q;
-          at = one.told.at;
-          there = one.told.there;
-          client_is = one.told.client_is ∙ is.0;
-          number_is = one.told.number_is ∙ is.1;
-          reply = one.told.reply;
-          is = one.told.is;
-          text = one.told.text ∙ sym same;
-          fits = one.told.fits;
-          fresh = one.told.fresh;
+          at = one.http_reply.at;
+          there = one.http_reply.there;
+          client_is = one.http_reply.client_is ∙ is.0;
+          number_is = one.http_reply.number_is ∙ is.1;
+          reply = one.http_reply.reply;
+          is = one.http_reply.is;
+          text = one.http_reply.text ∙ sym same;
+          fits = one.http_reply.fits;
+          fresh = one.http_reply.fresh;
         };
         call = call ∙ ap (λ (b : Arrived). b.request) p.3;
       })
 
-  new_told : (p : Packet) (i : ℕ) → slice_get w.packets i ≡ Some p → arrival_of p ≡ a
-      → IsTold (facts_by c.facts a.client a.request) (marks_by c.marks a.client a.number a.request) w.cards w.machines w.packets a.client a.number (told_of (reply_by c.facts c.marks a.client a.number a.request))
-  new_told p i there same =
+  new_answered : (p : Packet) (i : ℕ) → slice_get w.packets i ≡ Some p → arrival_of p ≡ a
+      → IsAnswered (facts_by c.facts a.client a.request) (marks_by c.marks a.client a.number a.request) w.cards w.machines w.packets a.client a.number (http_reply_of (reply_by c.facts c.marks a.client a.number a.request))
+  new_answered p i there same =
       let f = c.facts in
       let g = facts_by f a.client a.request in
       let now = marks_by c.marks a.client a.number a.request in
@@ -338,8 +338,8 @@ module _ (names : List (List ℕ)) (w : World) (a : Arrived) (comes : Comes name
         fresh = λ pending. subst (λ k. Fresh w.cards k r) (sym call) (first_fresh f c.marks w.cards a.client a.number a.request fine.sound fine.cards);
       }
 
-  new_leads : Leads names w (contents_with c a) (record { arrival = a; told = told_of (reply_to c.facts c.marks a) })
-  unfolding new_told
+  new_leads : Leads names w (contents_with c a) (record { arrival = a; http_reply = http_reply_of (reply_to c.facts c.marks a) })
+  unfolding new_answered
   new_leads =
       let f = c.facts in
       let g = facts_by f a.client a.request in
@@ -355,13 +355,13 @@ module _ (names : List (List ℕ)) (w : World) (a : Arrived) (comes : Comes name
         grow = grow;
         kept = kept_with c a (IsKeptFine names g now w.cards w.machines w.packets)
             (All-weaker (IsKeptFine names f c.marks w.cards w.machines w.packets) (IsKeptFine names g now w.cards w.machines w.packets) (entry_later names f g c.marks now w.cards w.machines w.packets later grow) c.kept fine.kept)
-            (λ listed. let p = comes.packet listed in record { told = new_told p.0 p.1 p.2 p.3; ask = sym (ap (λ (b : Arrived). b.ask) p.3) });
-        new = λ listed. let p = comes.packet listed in record { told = new_told p.0 p.1 p.2 p.3; call = ap (λ (b : Arrived). b.request) p.3 };
+            (λ listed. let p = comes.packet listed in record { http_reply = new_answered p.0 p.1 p.2 p.3; ask = sym (ap (λ (b : Arrived). b.ask) p.3) });
+        new = λ listed. let p = comes.packet listed in record { http_reply = new_answered p.0 p.1 p.2 p.3; call = ap (λ (b : Arrived). b.request) p.3 };
       }
 
   pub decides_fine : Fine names (decides w a)
   decides_fine =
-      decided_by c a (λ d told. Fine names (record w { contents = d; decided = w.decided ++ record { arrival = a; told = told } ∷ [] })) fine.above
-      (λ released. leads_fine names w c (record { arrival = a; told = told_of (reply.NumberReleased (mark_of c.marks a.client)) }) gone_leads fine)
-      (λ e not_released some. leads_fine names w c (record { arrival = a; told = told_by a.ask e }) (again_leads e some) fine)
-      (λ not_released none. leads_fine names w (contents_with c a) (record { arrival = a; told = told_of (reply_to c.facts c.marks a) }) new_leads fine)
+      decided_by c a (λ d http_reply. Fine names (record w { contents = d; decided = w.decided ++ record { arrival = a; http_reply = http_reply } ∷ [] })) fine.above
+      (λ released. leads_fine names w c (record { arrival = a; http_reply = http_reply_of (reply.NumberReleased (mark_of c.marks a.client)) }) gone_leads fine)
+      (λ e not_released some. leads_fine names w c (record { arrival = a; http_reply = http_reply_by a.ask e }) (again_leads e some) fine)
+      (λ not_released none. leads_fine names w (contents_with c a) (record { arrival = a; http_reply = http_reply_of (reply_to c.facts c.marks a) }) new_leads fine)

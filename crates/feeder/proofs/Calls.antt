@@ -108,15 +108,15 @@ module _ (names : List (List ℕ)) (w : World) (name : List ℕ) (x : Machine) (
   open_goes b blank _ asked card fits fresh = no_row_goes
 
   answer_goes : (s k sw : ℕ) (r : Reply) → HasCard f w.cards name x.card s k → Fits f w.contents.marks name (Job (request.Answer s k sw)) r → GoesBy (answer_row r)
-  answer_goes s k sw (reply.Next command index told) has fits =
+  answer_goes s k sw (reply.Next command index named) has fits =
       let one : has.session ≡ fits.2 = same_Some has.session fits.2 (sym has.there ∙ fits.3) in
-      command_goes told index command fits.2 (ap (session_numbered f.sessions) fits.0 ∙ fits.3) fits.4 (has.card_is ∙ ap (λ (z : Session). Some z.blank) one)
+      command_goes named index command fits.2 (ap (session_numbered f.sessions) fits.0 ∙ fits.3) fits.4 (has.card_is ∙ ap (λ (z : Session). Some z.blank) one)
       (ap (λ (z : Session). (w.cards z.blank).received) (sym one) ∙ has.received ∙ ap (λ (z : Session). take (k + 1) (sequence_of f z)) one ∙ ap (λ m. take m (sequence_of f fits.2)) (sym fits.1)) fits.5
-  answer_goes s k sw (reply.Good told) has fits =
+  answer_goes s k sw (reply.Good named) has fits =
       let one : has.session ≡ fits.1 = same_Some has.session fits.1 (sym has.there ∙ fits.2) in
       idle_goes (Eject true) tt (put_good f x.card has.session.blank has.card_is (fits.1, record { number = s; there = fits.2; blank = ap (λ (z : Session). z.blank) (sym one) }, fits.3))
-  answer_goes s k sw (reply.Spoiled told) has fits = idle_goes (Eject false) tt (put_bad f x.card)
-  answer_goes s k sw (reply.Busy told) has fits = idle_goes (Eject false) tt (put_bad f x.card)
+  answer_goes s k sw (reply.Spoiled named) has fits = idle_goes (Eject false) tt (put_bad f x.card)
+  answer_goes s k sw (reply.Busy named) has fits = idle_goes (Eject false) tt (put_bad f x.card)
   answer_goes s k sw (reply.NumberReleased mark) has fits = stale_goes (Eject false) tt (put_bad f x.card)
   answer_goes s k sw (reply.Refused why) has fits = idle_goes (Eject false) tt (put_bad f x.card)
   answer_goes s k sw (reply.Faulty fault) has fits = idle_goes (Eject false) tt (put_bad f x.card)
@@ -140,7 +140,7 @@ module _ (names : List (List ℕ)) (w : World) (name : List ℕ) (x : Machine) (
       at (Job (request.Withdraw b rec)) fits fresh asked holds = no_row_goes
       at (Job (request.Close b)) fits fresh asked holds = no_row_goes
 
-  -- a card's word
+  -- a card's status word
   pub card_goes : (sw : ℕ) → sw < 2 ^ 16 → GoesBy (card_row x.feeder.place x.feeder.stand sw)
   card_goes sw small = at x.feeder.stand feeder_is.stand (fine.machines name x is).holds
     where

@@ -15,8 +15,8 @@ use Rattle.job_facts.specs.Sound.{IsName}
 use Rattle.job_facts.specs.Contents.{Mark}
 use Rattle.job_facts.proofs.Lists.{slice_get-append_left}
 use Rattle.job_facts.proofs.SoundFacts.{sound_nothing}
-use Rattle.arrivals.specs.Told.{Told}
-use Rattle.arrivals.specs.Meaning.{Arrived, told_on}
+use Rattle.arrivals.specs.HttpReplies.{HttpReply}
+use Rattle.arrivals.specs.Meaning.{Arrived, http_reply_on}
 use Rattle.feeder.specs.Reading.{ReadsBack}
 use Rattle.feeder.specs.declared.feeder.InsertFault.{InsertFault}
 use Rattle.feeder.specs.declared.feeder.InsertFault.TheVariants.{Exhausted}
@@ -29,7 +29,7 @@ use Rattle.feeder.specs.declared.world.Stop.TheVariants.{No, Before, After}
 use Rattle.feeder.specs.Table.{Done, after_card, FeederState, IsAsked, IsStand, Makes, asked, asked_by, done, heard_by, inserted_by, moved, no_row, number_at, reply_row, started}
 use Rattle.feeder.specs.World.{Answered, Machine, Packet, World, acts, arrival_of, arrived, arrived_as, arrives, at_first, at_name, decides, delivered, happens, heard, inserted, is_name_of, is_of_machines, is_used, powered, put_in, reached, sent, sent_by, worded, worded_in}
 use Rattle.feeder.specs.ShopFloor.{IsEvent, IsRangedCall, sequence_of}
-use Rattle.feeder.proofs.Fine.{Cards, Machines, Fine, Fits, Fresh, HasDone, Holds, IsDecidedFine, IsFinePacket, IsKeptFine, IsPending, IsSent, IsTold}
+use Rattle.feeder.proofs.Fine.{Cards, Machines, Fine, Fits, Fresh, HasDone, Holds, IsDecidedFine, IsFinePacket, IsKeptFine, IsPending, IsSent, IsAnswered}
 use Rattle.feeder.proofs.Going.{all_at, at_same, at_other, goes_fine, name_same}
 use Rattle.feeder.proofs.Rows.{moved_own, moved_sent}
 use Rattle.feeder.proofs.Calls.{card_goes, no_row_goes, reply_goes}
@@ -132,9 +132,9 @@ at_push [] y (suc i) z is = absurd (none_at i z is)
 at_push (x ∷ xs) y zero z is = inl is
 at_push (x ∷ xs) y (suc i) z is = at_push xs y i z is
 
-told_more : (f : Facts) (marks : List Mark) (cards : Cards) (machines : Machines) (packets : List Packet) (p : Packet) (client : List ℕ) (number : ℕ) (told : Told)
-    → IsTold f marks cards machines packets client number told → IsTold f marks cards machines (packets ++ p ∷ []) client number told
-told_more f marks cards machines packets p client number told is = record {
+answered_more : (f : Facts) (marks : List Mark) (cards : Cards) (machines : Machines) (packets : List Packet) (p : Packet) (client : List ℕ) (number : ℕ) (http_reply : HttpReply)
+    → IsAnswered f marks cards machines packets client number http_reply → IsAnswered f marks cards machines (packets ++ p ∷ []) client number http_reply
+answered_more f marks cards machines packets p client number http_reply is = record {
   packet = is.packet;
   at = is.at;
   there = slice_get-append_left packets (p ∷ []) is.at (slice_get_within packets is.at is.packet is.there) ∙ is.there;
@@ -149,7 +149,7 @@ told_more f marks cards machines packets p client number told is = record {
 
 sent_fine : (names : List (List ℕ)) (w : World) (name : List ℕ) (x : Machine) (call : Call) → w.machines name ≡ Some x → x.feeder.stand ≡ Asks call → Fine names w
     → Fine names (sent_by w x.feeder (Some (number_at x.feeder.boot x.feeder.place, call)))
-unfolding told_more
+unfolding answered_more
 sent_fine names w name x call is stand fine =
     let f = w.contents.facts in
     let was = fine.machines name x is in
@@ -193,9 +193,9 @@ sent_fine names w name x call is stand fine =
         ]
       ];
       kept = All-weaker (IsKeptFine names f w.contents.marks w.cards w.machines w.packets) (IsKeptFine names f w.contents.marks w.cards w.machines (w.packets ++ p ∷ []))
-          (λ e one listed. let k = one listed in record { told = told_more f w.contents.marks w.cards w.machines w.packets p e.client e.number (record { status = e.status; body = e.body }) k.told; ask = k.ask }) w.contents.kept fine.kept;
+          (λ e one listed. let k = one listed in record { http_reply = answered_more f w.contents.marks w.cards w.machines w.packets p e.client e.number (record { status = e.status; body = e.body }) k.http_reply; ask = k.ask }) w.contents.kept fine.kept;
       decided = All-weaker (IsDecidedFine names f w.contents.marks w.cards w.machines w.packets) (IsDecidedFine names f w.contents.marks w.cards w.machines (w.packets ++ p ∷ []))
-          (λ g one listed. let k = one listed in record { told = told_more f w.contents.marks w.cards w.machines w.packets p g.arrival.client g.arrival.number g.told k.told; call = k.call }) w.decided fine.decided;
+          (λ g one listed. let k = one listed in record { http_reply = answered_more f w.contents.marks w.cards w.machines w.packets p g.arrival.client g.arrival.number g.http_reply k.http_reply; call = k.call }) w.decided fine.decided;
       given = fine.given;
     }
 
@@ -227,7 +227,7 @@ arrives_fine names w a Before comes fine = fine
 arrives_fine names w a After comes fine = decides_fine names w a comes fine
 arrives_fine names w a No comes fine =
     let is = decides_fine names w a comes fine in
-    let g : Answered = record { arrival = a; told = told_on w.contents a } in
+    let g : Answered = record { arrival = a; http_reply = http_reply_on w.contents a } in
     record {
       sound = is.sound;
       above = is.above;
@@ -263,26 +263,26 @@ office_done f cards _ un = tt
 
 -- ---- a reply
 
-deliver_fine : (names : List (List ℕ)) (reads : Told → Option Reply) (w : World) (j : ℕ) (o : Option Answered) → ReadsBack reads → slice_get w.replies j ≡ o → Fine names w → Fine names (delivered reads w o)
+deliver_fine : (names : List (List ℕ)) (reads : HttpReply → Option Reply) (w : World) (j : ℕ) (o : Option Answered) → ReadsBack reads → slice_get w.replies j ≡ o → Fine names w → Fine names (delivered reads w o)
 deliver_fine names reads w j None back is fine = fine
 deliver_fine names reads w j (Some g) back is fine = machine_at (w.machines g.arrival.client) refl
   where
     name : List ℕ
     name = g.arrival.client
 
-    machine_at : (o : Option Machine) → w.machines g.arrival.client ≡ o → Fine names (reached w g (reads g.told) o)
+    machine_at : (o : Option Machine) → w.machines g.arrival.client ≡ o → Fine names (reached w g (reads g.http_reply) o)
     machine_at None none = fine
     machine_at (Some x) there =
         let f = w.contents.facts in
         let was = fine.machines g.arrival.client x there in
         let given = all_at (λ (a : Answered). (i : ℕ) × (slice_get w.decided i ≡ Some a)) w.replies j g fine.given is in
         let one = all_at (IsDecidedFine names f w.contents.marks w.cards w.machines w.packets) w.decided given.0 g fine.decided given.1 was.listed in
-        let told = one.told in
-        let r = told.reply in
-        let read : reads g.told ≡ Some r = ap reads (sym told.text) ∙ back r told.is in
-        let p = told.packet in
-        let sent = all_at (IsFinePacket f w.cards w.machines w.boots) w.packets told.at p fine.packets told.there in
-        let same_x : sent.sender ≡ x = same_Some sent.sender x (sym sent.there ∙ ap w.machines told.client_is ∙ there) in
+        let http_reply = one.http_reply in
+        let r = http_reply.reply in
+        let read : reads g.http_reply ≡ Some r = ap reads (sym http_reply.text) ∙ back r http_reply.is in
+        let p = http_reply.packet in
+        let sent = all_at (IsFinePacket f w.cards w.machines w.boots) w.packets http_reply.at p fine.packets http_reply.there in
+        let same_x : sent.sender ≡ x = same_Some sent.sender x (sym sent.there ∙ ap w.machines http_reply.client_is ∙ there) in
         let Goal : Done → Type 0 = λ d. Fine names (acts w g.arrival.client x.card d) in
         let quiet : Goal (done x.feeder no_row) = goes_fine names w g.arrival.client (record { feeder = x.feeder; card = x.card }) w.boots w.cards (no_row_goes names w g.arrival.client x there fine) fine in
         let by_stand : (stand : Stand) → x.feeder.stand ≡ stand → Goal (heard_by x.feeder (asked_by x.feeder stand) g.arrival.number r) = λ stand at.
@@ -292,7 +292,7 @@ deliver_fine names reads w j (Some g) back is fine = machine_at (w.machines g.ar
           | Stale ↦ λ at. quiet
           | Asks call ↦ λ at. cond_both {A = Done} (g.arrival.number == number_at x.feeder.boot x.feeder.place) (done x.feeder (reply_row call r)) (done x.feeder no_row) Goal
               (λ hit.
-              let number : number_at p.boot p.place ≡ number_at x.feeder.boot x.feeder.place = told.number_is ∙ eqb-true g.arrival.number (number_at x.feeder.boot x.feeder.place) hit in
+              let number : number_at p.boot p.place ≡ number_at x.feeder.boot x.feeder.place = http_reply.number_is ∙ eqb-true g.arrival.number (number_at x.feeder.boot x.feeder.place) hit in
               let places = number_apart p.boot p.place x.feeder.boot x.feeder.place sent.sent.most was.feeder.place_most number in
               let same_call : p.call ≡ call = sent.sent.mine (places.0 ∙ ap (λ (z : Machine). z.feeder.boot) (sym same_x)) (places.1 ∙ ap (λ (z : Machine). z.feeder.place) (sym same_x)) call (ap (λ (z : Machine). z.feeder.stand) same_x ∙ at) in
               let pending : IsPending w.machines p = record {
@@ -302,8 +302,8 @@ deliver_fine names reads w j (Some g) back is fine = machine_at (w.machines g.ar
                 place = ap (λ (z : Machine). z.feeder.place) same_x ∙ sym places.1;
                 stand = ap (λ (z : Machine). z.feeder.stand) same_x ∙ at ∙ ap (λ c. Asks c) (sym same_call);
               } in
-              let fits : Fits f w.contents.marks g.arrival.client call r = subst (λ c. Fits f w.contents.marks g.arrival.client c r) same_call (subst (λ m. Fits f w.contents.marks m p.call r) told.client_is told.fits) in
-              let fresh : Fresh w.cards call r = subst (λ c. Fresh w.cards c r) same_call (told.fresh pending) in
+              let fits : Fits f w.contents.marks g.arrival.client call r = subst (λ c. Fits f w.contents.marks g.arrival.client c r) same_call (subst (λ m. Fits f w.contents.marks m p.call r) http_reply.client_is http_reply.fits) in
+              let fresh : Fresh w.cards call r = subst (λ c. Fresh w.cards c r) same_call (http_reply.fresh pending) in
               goes_fine names w g.arrival.client _ w.boots _ (reply_goes names w g.arrival.client x there fine call r at fits fresh) fine)
               (λ miss. quiet)
         ] at in
@@ -365,7 +365,7 @@ abbrev pub IsListed : List (List ℕ) → Event → Type 0
 IsListed names (event.Power machine boot) = is_name_of names machine ≡ true
 IsListed names _ = ⊤
 
-pub happens_fine : (names : List (List ℕ)) (reads : Told → Option Reply) (w : World) (e : Event) → ReadsBack reads → IsEvent e → IsListed names e
+pub happens_fine : (names : List (List ℕ)) (reads : HttpReply → Option Reply) (w : World) (e : Event) → ReadsBack reads → IsEvent e → IsListed names e
     → Fine names w → Fine names (happens reads names w e)
 happens_fine names reads w (event.Insert machine batch blank) back is listed fine = insert_fine names w machine batch blank (w.machines machine) refl is.1 is.2 fine
 happens_fine names reads w (event.Send machine) back is listed fine = send_fine names w machine (w.machines machine) refl fine

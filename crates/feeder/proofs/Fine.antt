@@ -12,7 +12,7 @@ use Rattle.job_facts.specs.Sound.{IsSound}
 use Rattle.job_facts.specs.States.{session_numbered}
 use Rattle.job_facts.specs.Contents.{Entry, Mark, mark_of}
 use Rattle.step_laws.specs.Later.{AnswersWithin, WordsWithin}
-use Rattle.arrivals.specs.Told.{Told, status_of, told_of}
+use Rattle.arrivals.specs.HttpReplies.{HttpReply, http_reply_of, status_of}
 use Rattle.arrivals.specs.Laws.{AreAbove}
 use Rattle.wire.specs.ReplyText.{IsReply}
 use Rattle.wire.specs.Sending.{ask_of}
@@ -78,17 +78,17 @@ pub record IsPending (machines : Machines) (p : Packet) : Type 0 where
   pub place : sender.feeder.place ≡ p.place
   pub stand : sender.feeder.stand ≡ Asks p.call
 
--- a card whose opening was told a command received none yet
+-- a card whose opening got a command received none yet
 abbrev pub OpensFresh : Cards → ℕ → Reply → Type 0
-OpensFresh cards blank (reply.Opened batch told command rec s) = (cards blank).received ≡ []
+OpensFresh cards blank (reply.Opened batch http_reply command rec s) = (cards blank).received ≡ []
 OpensFresh cards blank _ = ⊤
 
 abbrev pub Fresh : Cards → Call → Reply → Type 0
 Fresh cards (Job (request.Open b blank)) r = OpensFresh cards blank r
 Fresh cards _ r = ⊤
 
--- what a machine was told under a number: a reply to the packet of that number
-pub record IsTold (f : Facts) (marks : List Mark) (cards : Cards) (machines : Machines) (packets : List Packet) (client : List ℕ) (number : ℕ) (told : Told) : Type 0 where
+-- what a machine got under a number: a reply to the packet of that number
+pub record IsAnswered (f : Facts) (marks : List Mark) (cards : Cards) (machines : Machines) (packets : List Packet) (client : List ℕ) (number : ℕ) (http_reply : HttpReply) : Type 0 where
   pub packet : Packet
   pub at : ℕ
   pub there : slice_get packets at ≡ Some packet
@@ -96,19 +96,19 @@ pub record IsTold (f : Facts) (marks : List Mark) (cards : Cards) (machines : Ma
   pub number_is : number_at packet.boot packet.place ≡ number
   pub reply : Reply
   pub is : IsReply reply
-  pub text : told_of reply ≡ told
+  pub text : http_reply_of reply ≡ http_reply
   pub fits : Fits f marks packet.machine packet.call reply
   pub fresh : IsPending machines packet → Fresh cards packet.call reply
 
 pub record IsFineEntry (f : Facts) (marks : List Mark) (cards : Cards) (machines : Machines) (packets : List Packet) (e : Entry) : Type 0 where
-  pub told : IsTold f marks cards machines packets e.client e.number (record { status = e.status; body = e.body })
-  pub ask : e.ask ≡ ask_of told.packet.call
+  pub http_reply : IsAnswered f marks cards machines packets e.client e.number (record { status = e.status; body = e.body })
+  pub ask : e.ask ≡ ask_of http_reply.packet.call
 
 pub record IsFineAnswer (f : Facts) (marks : List Mark) (cards : Cards) (machines : Machines) (packets : List Packet) (g : Answered) : Type 0 where
-  pub told : IsTold f marks cards machines packets g.arrival.client g.arrival.number g.told
-  pub call : told.packet.call ≡ g.arrival.request
+  pub http_reply : IsAnswered f marks cards machines packets g.arrival.client g.arrival.number g.http_reply
+  pub call : http_reply.packet.call ≡ g.arrival.request
 
--- what is kept for machines is fine, and what machines were told; offices are of no concern
+-- what is kept for machines is fine, and what machines got; offices are of no concern
 abbrev pub IsKeptFine : List (List ℕ) → Facts → List Mark → Cards → Machines → List Packet → Entry → Type 0
 IsKeptFine names f marks cards machines packets e = is_name_of names e.client ≡ true → IsFineEntry f marks cards machines packets e
 

@@ -12,11 +12,11 @@ use Rattle.job_facts.specs.declared.request.Call.TheVariants.{Job}
 use Rattle.job_facts.specs.declared.request.Request.TheVariants as request
 use Rattle.job_facts.specs.Facts.{Facts}
 use Rattle.job_facts.specs.Contents.{Mark}
-use Rattle.arrivals.specs.Told.{Told}
+use Rattle.arrivals.specs.HttpReplies.{HttpReply}
 use Rattle.feeder.specs.declared.feeder.Stand.TheVariants.{Asks}
 use Rattle.feeder.specs.World.{Machine, Packet, World, at_name}
 use Rattle.feeder.specs.ShopFloor.{IsCountedGood}
-use Rattle.feeder.proofs.Fine.{Cards, Machines, Fine, Fits, Fresh, HasDone, Holds, IsFineCard, IsFineMachine, IsFinePacket, IsDecidedFine, IsKeptFine, IsSent, IsTold, got}
+use Rattle.feeder.proofs.Fine.{Cards, Machines, Fine, Fits, Fresh, HasDone, Holds, IsFineCard, IsFineMachine, IsFinePacket, IsDecidedFine, IsKeptFine, IsSent, IsAnswered, got}
 
 -- what holds of each holds of one of them
 pub all_at : {X : Type 0} (P : X → Type 0) (xs : List X) (i : ℕ) (x : X) → All P xs → slice_get xs i ≡ Some x → P x
@@ -101,8 +101,8 @@ module _ (names : List (List ℕ)) (w : World) (name : List ℕ) (y : Machine) (
     }
   ]
 
-  told_at : (client : List ℕ) (number : ℕ) (told : Told) → IsTold f marks w.cards w.machines w.packets client number told → IsTold f marks cards now w.packets client number told
-  told_at client number told is =
+  answered_at : (client : List ℕ) (number : ℕ) (http_reply : HttpReply) → IsAnswered f marks w.cards w.machines w.packets client number http_reply → IsAnswered f marks cards now w.packets client number http_reply
+  answered_at client number http_reply is =
       let p = is.packet in
       let sent = all_at (IsFinePacket f w.cards w.machines w.boots) w.packets is.at p fine.packets is.there in
       record {
@@ -129,7 +129,7 @@ module _ (names : List (List ℕ)) (w : World) (name : List ℕ) (y : Machine) (
       }
 
   pub goes_fine : Fine names (record w { machines = at_name name (Some y) w.machines; boots = boots; cards = cards })
-  unfolding told_at
+  unfolding answered_at
   goes_fine = record {
     sound = fine.sound;
     above = fine.above;
@@ -140,7 +140,7 @@ module _ (names : List (List ℕ)) (w : World) (name : List ℕ) (y : Machine) (
     machines = machine_at;
     packets = All-weaker (IsFinePacket f w.cards w.machines w.boots) (IsFinePacket f cards now boots) packet_at w.packets fine.packets;
     agree = fine.agree;
-    kept = All-weaker (IsKeptFine names f marks w.cards w.machines w.packets) (IsKeptFine names f marks cards now w.packets) (λ e is listed. let one = is listed in record { told = told_at e.client e.number (record { status = e.status; body = e.body }) one.told; ask = one.ask }) w.contents.kept fine.kept;
-    decided = All-weaker (IsDecidedFine names f marks w.cards w.machines w.packets) (IsDecidedFine names f marks cards now w.packets) (λ g is listed. let one = is listed in record { told = told_at g.arrival.client g.arrival.number g.told one.told; call = one.call }) w.decided fine.decided;
+    kept = All-weaker (IsKeptFine names f marks w.cards w.machines w.packets) (IsKeptFine names f marks cards now w.packets) (λ e is listed. let one = is listed in record { http_reply = answered_at e.client e.number (record { status = e.status; body = e.body }) one.http_reply; ask = one.ask }) w.contents.kept fine.kept;
+    decided = All-weaker (IsDecidedFine names f marks w.cards w.machines w.packets) (IsDecidedFine names f marks cards now w.packets) (λ g is listed. let one = is listed in record { http_reply = answered_at g.arrival.client g.arrival.number g.http_reply one.http_reply; call = one.call }) w.decided fine.decided;
     given = fine.given;
   }

@@ -13,16 +13,16 @@ use Rattle.job_facts.specs.Facts.{Facts, Session}
 use Rattle.job_facts.specs.States.{commands_for, session_numbered}
 use Rattle.job_facts.specs.Contents.{Entry, Mark, entry_of, mark_of}
 use Rattle.step_laws.proofs.GoodCards.{good_whole, one_good, one_of_blank}
-use Rattle.arrivals.specs.Told.{Told, reused, status_of}
-use Rattle.arrivals.specs.Meaning.{contents_after, is_released, told_by}
+use Rattle.arrivals.specs.HttpReplies.{HttpReply, reused, status_of}
+use Rattle.arrivals.specs.Meaning.{contents_after, http_reply_by, is_released}
 use Rattle.arrivals.proofs.MeaningLemmas.{contents_released}
-use Rattle.arrivals.proofs.Repeats.{repeat_is_told}
+use Rattle.arrivals.proofs.Repeats.{repeat_gets_reply}
 use Rattle.wire.specs.Sending.{ask_of}
 use Rattle.feeder.specs.declared.world.Stop.{Stop}
 use Rattle.feeder.specs.declared.world.Stop.TheVariants.{No, Before, After}
 use Rattle.feeder.specs.Table.{number_at}
 use Rattle.feeder.specs.World.{Answered, Machine, Packet, World, arrival_of, arrives, is_name_of}
-use Rattle.feeder.specs.ShopFloor.{CardsAreCharged, GetsKept, GoodCardsAreWhole, InFlight, IsFirst, IsSessionOf, OldBootsAreOver, PutOutIsCounted, RecordsHaveOneCard, ReleasesAreKept, sequence_of}
+use Rattle.feeder.specs.ShopFloor.{CardsAreCharged, GetsKept, GoodCardsAreWhole, InFlight, IsFirstArrival, IsSessionOf, OldBootsAreOver, PutOutIsCounted, RecordsHaveOneCard, ReleasesAreKept, sequence_of}
 use Rattle.step_laws.proofs.Blanks.{only_of_blank}
 use Rattle.feeder.proofs.Fine.{Fine, Fits, IsDecidedFine, IsFinePacket, got}
 use Rattle.feeder.proofs.Arriving.{entry_for}
@@ -76,14 +76,14 @@ module _ (names : List (List ℕ)) (w : World) (fine : Fine names w) where
   fits_release marks m call upto r is fits = let P : Call → Type 0 = λ c. Fits f marks m c r in subst P is fits
 
   -- the mark of a machine whose release was accepted has reached it
-  released : (g : Answered) (i upto : ℕ) → slice_get w.decided i ≡ Some g → is_name_of names g.arrival.client ≡ true → g.arrival.request ≡ Release upto → g.told.status ≡ 200
+  released : (g : Answered) (i upto : ℕ) → slice_get w.decided i ≡ Some g → is_name_of names g.arrival.client ≡ true → g.arrival.request ≡ Release upto → g.http_reply.status ≡ 200
       → upto ≤ mark_of w.contents.marks g.arrival.client
   released g i upto there listed request accepted =
       let marks = w.contents.marks in
       let answer = all_at (IsDecidedFine names f marks w.cards w.machines w.packets) w.decided i g fine.decided there listed in
-      let told = answer.told in
-      let ok : status_of told.reply ≡ 200 = ap (λ (t : Told). t.status) told.text ∙ accepted in
-      subst (λ m. upto ≤ mark_of marks m) told.client_is (fits_release marks told.packet.machine told.packet.call upto told.reply (answer.call ∙ request) told.fits ok)
+      let http_reply = answer.http_reply in
+      let ok : status_of http_reply.reply ≡ 200 = ap (λ (t : HttpReply). t.status) http_reply.text ∙ accepted in
+      subst (λ m. upto ≤ mark_of marks m) http_reply.client_is (fits_release marks http_reply.packet.machine http_reply.packet.call upto http_reply.reply (answer.call ∙ request) http_reply.fits ok)
 
   pub old_boots : OldBootsAreOver w
   old_boots machine boot is = All-weaker (IsFinePacket f w.cards w.machines w.boots) (λ (p : Packet). p.machine ≡ machine → p.boot < boot → (stop : Stop) → (arrives w (arrival_of p) stop).contents ≡ w.contents)
@@ -116,18 +116,18 @@ module _ (names : List (List ℕ)) (w : World) (fine : Fine names w) where
       ]
     where
       by_entry : (p : Packet) (i : ℕ) → is_name_of names p.machine ≡ true → slice_get w.packets i ≡ Some p → is_released w.contents.marks (arrival_of p) ≡ false
-          → (o : Option Entry) → entry_of w.contents.kept p.machine (number_at p.boot p.place) ≡ o → IsFirst w.contents (arrival_of p) ⊎ GetsKept w.contents (arrival_of p)
+          → (o : Option Entry) → entry_of w.contents.kept p.machine (number_at p.boot p.place) ≡ o → IsFirstArrival w.contents (arrival_of p) ⊎ GetsKept w.contents (arrival_of p)
       by_entry p i listed there live None none = inl (record { live = live; none = none })
       by_entry p i listed there live (Some e) some =
           let found = entry_for names w fine p i e listed there some in
           let a = arrival_of p in
           let ask : e.ask ≡ a.ask = found.0.ask ∙ ap ask_of found.1 in
-          let kept : Told = record { status = e.status; body = e.body } in
-          let told : told_by a.ask e ≡ kept = cond-true (bytes_eq e.ask a.ask) kept reused (ap (λ x. bytes_eq x a.ask) ask ∙ name_same a.ask) in
-          inr (record { entry = e; kept = some; ask = ask; told = repeat_is_told w.contents a kept (λ live. (e, some, told)) live })
+          let kept : HttpReply = record { status = e.status; body = e.body } in
+          let http_reply : http_reply_by a.ask e ≡ kept = cond-true (bytes_eq e.ask a.ask) kept reused (ap (λ x. bytes_eq x a.ask) ask ∙ name_same a.ask) in
+          inr (record { entry = e; kept = some; ask = ask; http_reply = repeat_gets_reply w.contents a kept (λ live. (e, some, http_reply)) live })
 
   pub releases_kept : ReleasesAreKept w
   releases_kept = All-weaker (λ (g : Answered). (i : ℕ) × (slice_get w.decided i ≡ Some g))
-      (λ (g : Answered). (x : Machine) (upto : ℕ) → w.machines g.arrival.client ≡ Some x → g.arrival.request ≡ Release upto → g.told.status ≡ 200 → upto ≤ mark_of w.contents.marks g.arrival.client)
+      (λ (g : Answered). (x : Machine) (upto : ℕ) → w.machines g.arrival.client ≡ Some x → g.arrival.request ≡ Release upto → g.http_reply.status ≡ 200 → upto ≤ mark_of w.contents.marks g.arrival.client)
       (λ g is x upto there request accepted. released g is.0 upto is.1 (fine.machines g.arrival.client x there).listed request accepted)
       w.replies fine.given

@@ -1,5 +1,4 @@
--- What is recorded of arrivals: their meaning, what each was told, and that repeats are told it
--- again.
+-- What is recorded of arrivals: their meaning, what each got, and that repeats get it again.
 use Rattle.std.proofs.Common.{◌≡◌, ◌⊎◌, ◌||◌, ℕ, zero, suc, true, false, List, [], ◌∷◌, ◌++◌, length, take, All, Option, Some, None, Result, Ok, Err, refl, sym, ap, ◌∙◌, inl, inr, arith}
 use Rattle.std.specs.Prelude.{slice_get}
 use Rattle.std.proofs.Math.Seq.{take-append_seam}
@@ -10,12 +9,12 @@ use Rattle.std.proofs.lemmas.Option.{none-some, same_Some, slice_get_within}
 use Rattle.job_facts.specs.declared.reply.Reply.{Reply}
 use Rattle.job_facts.specs.Contents.{Contents, Entry, is_above, no_contents}
 use Rattle.job_facts.proofs.Lists.{slice_get-append_left}
-use Rattle.arrivals.specs.Told.{Told}
-use Rattle.arrivals.specs.Meaning.{Arrived, contents_after, is_released, told_on}
+use Rattle.arrivals.specs.HttpReplies.{HttpReply}
+use Rattle.arrivals.specs.Meaning.{Arrived, contents_after, http_reply_on, is_released}
 use Rattle.arrivals.specs.Laws.{AreAbove}
 use Rattle.arrivals.proofs.MeaningLemmas.{above_after}
 use Rattle.arrivals.proofs.MeaningLists.{contents_after-append}
-use Rattle.arrivals.proofs.Repeats.{IsKeptFor, repeat_is_told, still_told, told_itself}
+use Rattle.arrivals.proofs.Repeats.{IsKeptFor, own_reply_kept, repeat_gets_reply, reply_still_kept}
 use Rattle.feeder.specs.declared.feeder.InsertFault.{InsertFault}
 use Rattle.feeder.specs.declared.world.Event.{Event}
 use Rattle.feeder.specs.declared.world.Event.TheVariants as event
@@ -23,15 +22,15 @@ use Rattle.feeder.specs.declared.world.Stop.{Stop}
 use Rattle.feeder.specs.declared.world.Stop.TheVariants.{No, Before, After}
 use Rattle.feeder.specs.Table.{FeederState, after_insert, asked}
 use Rattle.feeder.specs.World.{Answered, Machine, Packet, World, arrival_of, arrived, arrived_as, arrives, decides, delivered, happens, inserted, is_name_of, is_of_machines, is_used, powered, put_in, reached, run, sent, sent_by, worded, worded_in}
-use Rattle.feeder.specs.ShopFloor.{RepeatsAreTold, arrivals_of}
+use Rattle.feeder.specs.ShopFloor.{RepeatsGetTheirReply, arrivals_of}
 use Rattle.feeder.proofs.Events.{last_at}
 
 pub record Recorded (c : Contents) (decided replies : List Answered) : Type 0 where
   pub above : AreAbove c
   pub meant : c ≡ contents_after no_contents (arrivals_of decided)
-  pub told : (i : ℕ) (g : Answered) → slice_get decided i ≡ Some g → g.told ≡ told_on (contents_after no_contents (arrivals_of (take i decided))) g.arrival
+  pub http_reply : (i : ℕ) (g : Answered) → slice_get decided i ≡ Some g → g.http_reply ≡ http_reply_on (contents_after no_contents (arrivals_of (take i decided))) g.arrival
   pub acknowledged : All (λ (g : Answered). (i : ℕ) × (slice_get decided i ≡ Some g)) replies
-  pub still : All (λ (g : Answered). IsKeptFor c g.arrival g.told) decided
+  pub still : All (λ (g : Answered). IsKeptFor c g.arrival g.http_reply) decided
 
 none_above : AreAbove no_contents
 none_above = All-nil (λ (e : Entry). is_above no_contents.marks e ≡ true)
@@ -40,9 +39,9 @@ pub start_recorded : Recorded no_contents [] []
 start_recorded = record {
   above = none_above;
   meant = refl;
-  told = λ i g is. absurd (none_at i g is);
+  http_reply = λ i g is. absurd (none_at i g is);
   acknowledged = All-nil (λ (g : Answered). (i : ℕ) × (slice_get [] i ≡ Some g));
-  still = All-nil (λ (g : Answered). IsKeptFor no_contents g.arrival g.told);
+  still = All-nil (λ (g : Answered). IsKeptFor no_contents g.arrival g.http_reply);
 }
   where
     none_at : {X : Type 0} (i : ℕ) (x : X) → slice_get [] i ≡ Some x → ⊥
@@ -51,29 +50,29 @@ start_recorded = record {
 
 decides_recorded : (w : World) (a : Arrived) → Recorded w.contents w.decided w.replies → Recorded (decides w a).contents (decides w a).decided w.replies
 decides_recorded w a is =
-    let g : Answered = record { arrival = a; told = told_on w.contents a } in
+    let g : Answered = record { arrival = a; http_reply = http_reply_on w.contents a } in
     let after : contents_after w.contents (a ∷ []) ≡ contents_after no_contents (arrivals_of (w.decided ++ g ∷ [])) =
     ap (λ c. contents_after c (a ∷ [])) is.meant ∙ sym (contents_after-append no_contents (arrivals_of w.decided) (a ∷ []) none_above)
     ∙ ap (contents_after no_contents) (sym (map-append (λ (b : Answered). b.arrival) w.decided (g ∷ []))) in
     record {
       above = above_after w.contents a is.above;
       meant = after;
-      told = λ i h at. elim (at_where w.decided g i h at) [
+      http_reply = λ i h at. elim (at_where w.decided g i h at) [
         | inl old ↦
             let within = slice_get_within w.decided i h old in
-            is.told i h old ∙ ap (λ (ds : List Answered). told_on (contents_after no_contents (arrivals_of ds)) h.arrival) (sym (take-append-le i w.decided (g ∷ []) (omega (arith, within))))
+            is.http_reply i h old ∙ ap (λ (ds : List Answered). http_reply_on (contents_after no_contents (arrivals_of ds)) h.arrival) (sym (take-append-le i w.decided (g ∷ []) (omega (arith, within))))
         | inr new ↦
             let front : take i (w.decided ++ g ∷ []) ≡ w.decided = ap (λ k. take k (w.decided ++ g ∷ [])) new.1 ∙ take-append_seam w.decided (g ∷ []) in
-            ap (λ (b : Answered). b.told) (sym new.0) ∙ ap (λ c. told_on c a) is.meant
-            ∙ ap (λ (ds : List Answered). told_on (contents_after no_contents (arrivals_of ds)) a) (sym front)
-            ∙ ap (λ (b : Answered). told_on (contents_after no_contents (arrivals_of (take i (w.decided ++ g ∷ [])))) b.arrival) new.0
+            ap (λ (b : Answered). b.http_reply) (sym new.0) ∙ ap (λ c. http_reply_on c a) is.meant
+            ∙ ap (λ (ds : List Answered). http_reply_on (contents_after no_contents (arrivals_of ds)) a) (sym front)
+            ∙ ap (λ (b : Answered). http_reply_on (contents_after no_contents (arrivals_of (take i (w.decided ++ g ∷ [])))) b.arrival) new.0
       ];
       acknowledged = All-weaker (λ (b : Answered). (i : ℕ) × (slice_get w.decided i ≡ Some b)) (λ (b : Answered). (i : ℕ) × (slice_get (w.decided ++ g ∷ []) i ≡ Some b))
           (λ b at. (at.0, slice_get-append_left w.decided (g ∷ []) at.0 (slice_get_within w.decided at.0 b at.1) ∙ at.1)) w.replies is.acknowledged;
-      still = All-push (λ (b : Answered). IsKeptFor (contents_after w.contents (a ∷ [])) b.arrival b.told) w.decided g
-          (All-weaker (λ (b : Answered). IsKeptFor w.contents b.arrival b.told) (λ (b : Answered). IsKeptFor (contents_after w.contents (a ∷ [])) b.arrival b.told)
-          (λ b still. still_told w.contents a b.arrival b.told is.above still) w.decided is.still)
-          (told_itself w.contents a is.above);
+      still = All-push (λ (b : Answered). IsKeptFor (contents_after w.contents (a ∷ [])) b.arrival b.http_reply) w.decided g
+          (All-weaker (λ (b : Answered). IsKeptFor w.contents b.arrival b.http_reply) (λ (b : Answered). IsKeptFor (contents_after w.contents (a ∷ [])) b.arrival b.http_reply)
+          (λ b still. reply_still_kept w.contents a b.arrival b.http_reply is.above still) w.decided is.still)
+          (own_reply_kept w.contents a is.above);
     }
   where
     at_where : {X : Type 0} (xs : List X) (y : X) (i : ℕ) (z : X) → slice_get (xs ++ y ∷ []) i ≡ Some z → (slice_get xs i ≡ Some z) ⊎ ((y ≡ z) × (i ≡ length xs))
@@ -94,11 +93,11 @@ arrives_recorded w a Before is = is
 arrives_recorded w a After is = decides_recorded w a is
 arrives_recorded w a No is =
     let now = decides_recorded w a is in
-    let g : Answered = record { arrival = a; told = told_on w.contents a } in
+    let g : Answered = record { arrival = a; http_reply = http_reply_on w.contents a } in
     record {
       above = now.above;
       meant = now.meant;
-      told = now.told;
+      http_reply = now.http_reply;
       still = now.still;
       acknowledged = All-push (λ (b : Answered). (i : ℕ) × (slice_get (decides w a).decided i ≡ Some b)) w.replies g now.acknowledged (length w.decided, last_at w.decided g);
     }
@@ -124,9 +123,9 @@ arrive_recorded : (w : World) (stop : Stop) (o : Option Packet) → RecordedIn w
 arrive_recorded w stop None is = is
 arrive_recorded w stop (Some p) is = arrives_recorded w (arrival_of p) stop is
 
-deliver_recorded : (reads : Told → Option Reply) (w : World) (o : Option Answered) → RecordedIn w → RecordedIn (delivered reads w o)
+deliver_recorded : (reads : HttpReply → Option Reply) (w : World) (o : Option Answered) → RecordedIn w → RecordedIn (delivered reads w o)
 deliver_recorded reads w None is = is
-deliver_recorded reads w (Some g) is = at (w.machines g.arrival.client) (reads g.told)
+deliver_recorded reads w (Some g) is = at (w.machines g.arrival.client) (reads g.http_reply)
   where
     at : (m : Option Machine) (r : Option Reply) → RecordedIn (reached w g r m)
     at None r = is
@@ -141,7 +140,7 @@ card_recorded w name sw (Some x) is = at x.card
     at None = is
     at (Some serial) = is
 
-pub happens_recorded : (reads : Told → Option Reply) (names : List (List ℕ)) (w : World) (e : Event) → RecordedIn w → RecordedIn (happens reads names w e)
+pub happens_recorded : (reads : HttpReply → Option Reply) (names : List (List ℕ)) (w : World) (e : Event) → RecordedIn w → RecordedIn (happens reads names w e)
 happens_recorded reads names w (event.Insert machine batch blank) is = insert_recorded w machine batch blank (w.machines machine) is
 happens_recorded reads names w (event.Send machine) is = send_recorded w (w.machines machine) is
 happens_recorded reads names w (event.Arrive packet stop) is = arrive_recorded w stop (slice_get w.packets packet) is
@@ -151,11 +150,11 @@ happens_recorded reads names w (event.Power machine boot) is = cond_both {A = Wo
 happens_recorded reads names w (event.Office arrival stop) is =
     cond_both {A = World} (is_name_of names arrival.client || is_of_machines arrival.request) w (arrives w (arrived_as arrival) stop) RecordedIn (λ refused. is) (λ may. arrives_recorded w (arrived_as arrival) stop is)
 
-pub run_recorded : (reads : Told → Option Reply) (names : List (List ℕ)) (es : List Event) (w : World) → RecordedIn w → RecordedIn (run reads names es w)
+pub run_recorded : (reads : HttpReply → Option Reply) (names : List (List ℕ)) (es : List Event) (w : World) → RecordedIn w → RecordedIn (run reads names es w)
 run_recorded reads names [] w is = is
 run_recorded reads names (e ∷ es) w is = run_recorded reads names es (happens reads names w e) (happens_recorded reads names w e is)
 
-pub repeats_are_told : (w : World) → RecordedIn w → RepeatsAreTold w
-repeats_are_told w is =
-    All-weaker (λ (g : Answered). IsKeptFor w.contents g.arrival g.told) (λ (g : Answered). is_released w.contents.marks g.arrival ≡ false → told_on w.contents g.arrival ≡ g.told)
-    (λ g still live. repeat_is_told w.contents g.arrival g.told still live) w.decided is.still
+pub repeats_get_their_reply : (w : World) → RecordedIn w → RepeatsGetTheirReply w
+repeats_get_their_reply w is =
+    All-weaker (λ (g : Answered). IsKeptFor w.contents g.arrival g.http_reply) (λ (g : Answered). is_released w.contents.marks g.arrival ≡ false → http_reply_on w.contents g.arrival ≡ g.http_reply)
+    (λ g still live. repeat_gets_reply w.contents g.arrival g.http_reply still live) w.decided is.still

@@ -12,23 +12,23 @@ use Rattle.job_facts.specs.States.{command_at, command_bytes, commands_for, is_c
 use Rattle.job_facts.proofs.Lists.{item_there}
 use Rattle.step_laws.specs.Later.{IsLaterSession, Later}
 use Rattle.step_laws.specs.Ranges.{IsRangedReply}
-use Rattle.step_laws.specs.Replies.{MayBeTold, Says}
+use Rattle.step_laws.specs.Replies.{MayGetReply, Says}
 use Rattle.step_laws.proofs.GoodCards.{running_begun}
 use Rattle.arrivals.specs.Commands.{IsCommand}
 use Rattle.wire.specs.ReplyText.{IsReply}
 
--- an opening that is told a command opened this session of its blank, and the command is its
--- record's first
+-- an opening that got a command opened this session of its blank, and the command is its record's
+-- first
 abbrev pub OpenFits : Facts → List ℕ → ℕ → Reply → Type 0
-OpenFits f client blank (reply.Opened batch told command rec s) = (x : Session) × (session_numbered f.sessions s ≡ Some x) × (x.machine ≡ client) × (x.blank ≡ blank) × IsCommand f x.batch x.rec 0 command
+OpenFits f client blank (reply.Opened batch named command rec s) = (x : Session) × (session_numbered f.sessions s ≡ Some x) × (x.machine ≡ client) × (x.blank ≡ blank) × IsCommand f x.batch x.rec 0 command
 OpenFits f client blank _ = ⊤
 
--- an answer that is told a command is told the next of its session's record, and one that is told
--- good made its session good
+-- an answer that got a command got the next of its session's record, and one that got good made its
+-- session good
 abbrev pub AnswerFits : Facts → List ℕ → ℕ → ℕ → Reply → Type 0
-AnswerFits f client s k (reply.Next command index told) =
-    (told ≡ s) × (index ≡ k + 1) × (x : Session) × (session_numbered f.sessions s ≡ Some x) × (x.machine ≡ client) × IsCommand f x.batch x.rec index command
-AnswerFits f client s k (reply.Good told) = (told ≡ s) × (x : Session) × (session_numbered f.sessions s ≡ Some x) × (session_state f x ≡ session.Good)
+AnswerFits f client s k (reply.Next command index named) =
+    (named ≡ s) × (index ≡ k + 1) × (x : Session) × (session_numbered f.sessions s ≡ Some x) × (x.machine ≡ client) × IsCommand f x.batch x.rec index command
+AnswerFits f client s k (reply.Good named) = (named ≡ s) × (x : Session) × (session_numbered f.sessions s ≡ Some x) × (session_state f x ≡ session.Good)
 AnswerFits f client s k _ = ⊤
 
 -- ---- for good
@@ -48,16 +48,16 @@ good_later f g s x y good =
     running_apart e = cc
 
 pub open_later : (f g : Facts) (client : List ℕ) (blank : ℕ) (r : Reply) → Later f g → OpenFits f client blank r → OpenFits g client blank r
-open_later f g client blank (reply.Opened batch told command rec s) later fits =
+open_later f g client blank (reply.Opened batch named command rec s) later fits =
     let y = later s fits.0 fits.1 in
     (y.now, y.there, y.machine ∙ fits.2, y.blank ∙ fits.3, command_later f g fits.0.batch fits.0.rec y.now.batch y.now.rec 0 command y.batch y.rec y.commands fits.4)
 open_later f g client blank _ later fits = tt
 
 pub answer_later : (f g : Facts) (client : List ℕ) (s k : ℕ) (r : Reply) → Later f g → AnswerFits f client s k r → AnswerFits g client s k r
-answer_later f g client s k (reply.Next command index told) later fits =
+answer_later f g client s k (reply.Next command index named) later fits =
     let y = later s fits.2 fits.3 in
     (fits.0, fits.1, y.now, y.there, y.machine ∙ fits.4, command_later f g fits.2.batch fits.2.rec y.now.batch y.now.rec index command y.batch y.rec y.commands fits.5)
-answer_later f g client s k (reply.Good told) later fits =
+answer_later f g client s k (reply.Good named) later fits =
     let y = later s fits.1 fits.2 in
     (fits.0, y.now, y.there, good_later f g s fits.1 y fits.3)
 answer_later f g client s k _ later fits = tt
@@ -73,44 +73,44 @@ command_is g s k x command sound there runs words is =
     let c = item_there commands k (omega (arith, left, words)) in
     (c.0, c.1, is ∙ ap command_bytes c.1)
 
-pub open_says : (f g : Facts) (client b : List ℕ) (blank : ℕ) (r : Reply) → IsSound g → MayBeTold (request.Open b blank) r → Says f g client r → OpenFits g client blank r
-open_says f g client b blank (reply.Opened batch told command rec s) sound may says =
-    let x : Session = new_session client batch rec told in
+pub open_says : (f g : Facts) (client b : List ℕ) (blank : ℕ) (r : Reply) → IsSound g → MayGetReply (request.Open b blank) r → Says f g client r → OpenFits g client blank r
+open_says f g client b blank (reply.Opened batch named command rec s) sound may says =
+    let x : Session = new_session client batch rec named in
     (x, says.1.there, refl, may.1, command_is g s 0 x command sound says.1.there says.1.stands refl says.3)
 open_says f g client b blank _ sound may says = tt
 
-pub answer_says : (f g : Facts) (client : List ℕ) (s k sw : ℕ) (r : Reply) → IsSound g → MayBeTold (request.Answer s k sw) r → Says f g client r → AnswerFits g client s k r
-answer_says f g client s k sw (reply.Next command index told) sound may says =
+pub answer_says : (f g : Facts) (client : List ℕ) (s k sw : ℕ) (r : Reply) → IsSound g → MayGetReply (request.Answer s k sw) r → Says f g client r → AnswerFits g client s k r
+answer_says f g client s k sw (reply.Next command index named) sound may says =
     let x = says.0 in
     let own = says.1 in
-    (may.0, may.1, x, ap (session_numbered g.sessions) (sym may.0) ∙ own.there, own.own, command_is g told index x command sound own.there own.stands says.2 says.3)
-answer_says f g client s k sw (reply.Good told) sound may says =
+    (may.0, may.1, x, ap (session_numbered g.sessions) (sym may.0) ∙ own.there, own.own, command_is g named index x command sound own.there own.stands says.2 says.3)
+answer_says f g client s k sw (reply.Good named) sound may says =
     let own = says.1 in
     (may, says.0, ap (session_numbered g.sessions) (sym may) ∙ own.there, own.stands)
 answer_says f g client s k sw _ sound may says = tt
 
 -- what is opened had no charge
 abbrev pub OpensFree : Facts → ℕ → Reply → Type 0
-OpensFree f blank (reply.Opened batch told command rec s) = is_charged f blank ≡ false
+OpensFree f blank (reply.Opened batch named command rec s) = is_charged f blank ≡ false
 OpensFree f blank _ = ⊤
 
-pub opens_free : (f g : Facts) (client b : List ℕ) (blank : ℕ) (r : Reply) → MayBeTold (request.Open b blank) r → Says f g client r → OpensFree f blank r
-opens_free f g client b blank (reply.Opened batch told command rec s) may says = ap (is_charged f) (sym may.1) ∙ says.2
+pub opens_free : (f g : Facts) (client b : List ℕ) (blank : ℕ) (r : Reply) → MayGetReply (request.Open b blank) r → Says f g client r → OpensFree f blank r
+opens_free f g client b blank (reply.Opened batch named command rec s) may says = ap (is_charged f) (sym may.1) ∙ says.2
 opens_free f g client b blank _ may says = tt
 
 -- ---- ranges
 
--- no request is told of marks
-never_released : (q : Request) (mark : ℕ) → MayBeTold q (reply.Released mark) → ⊥
+-- no request gets a release mark
+never_released : (q : Request) (mark : ℕ) → MayGetReply q (reply.Released mark) → ⊥
 never_released (request.Product p) mark may = may
 never_released _ mark may = may
 
-never_gone : (q : Request) (mark : ℕ) → MayBeTold q (reply.NumberReleased mark) → ⊥
+never_gone : (q : Request) (mark : ℕ) → MayGetReply q (reply.NumberReleased mark) → ⊥
 never_gone (request.Product p) mark may = may
 never_gone _ mark may = may
 
--- what is told in its ranges can be read back
-pub reply_ranged : (q : Request) (r : Reply) → MayBeTold q r → IsRangedReply r → IsReply r
+-- a reply in its ranges can be read back
+pub reply_ranged : (q : Request) (r : Reply) → MayGetReply q r → IsRangedReply r → IsReply r
 reply_ranged q (reply.Product p made) may is = is
 reply_ranged q (reply.Lot l made) may is = is
 reply_ranged q (reply.Import b records made rows) may is = (is.0, omega (arith, is.1), omega (arith, is.2))

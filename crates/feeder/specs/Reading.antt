@@ -1,16 +1,16 @@
--- How replies are told apart by their texts.
+-- How replies are distinguished by their texts.
 use Rattle.std.specs.Prelude.{◌≡◌, ◌≢◌, ℕ, List, Option, Some, None}
 use Rattle.job_facts.specs.declared.reply.Reply.{Reply}
-use Rattle.arrivals.specs.Told.{Told, told_of}
+use Rattle.arrivals.specs.HttpReplies.{HttpReply, http_reply_of}
 use Rattle.wire.specs.ReplyText.{IsReply, reply_bytes}
 
 -- it finds each reply by its status and its body
-abbrev pub ReadsBack : (Told → Option Reply) → Type 0
-ReadsBack reads = (r : Reply) → IsReply r → reads (told_of r) ≡ Some r
+abbrev pub ReadsBack : (HttpReply → Option Reply) → Type 0
+ReadsBack reads = (r : Reply) → IsReply r → reads (http_reply_of r) ≡ Some r
 
 -- some reading does
 abbrev pub IsReadable : Type 0
-IsReadable = (reads : Told → Option Reply) × ReadsBack reads
+IsReadable = (reads : HttpReply → Option Reply) × ReadsBack reads
 
 -- the reply whose whole text these bytes are, if they are one
 abbrev pub IsRead : List ℕ → Option Reply → Type 0

@@ -10,7 +10,7 @@ use Rattle.job_facts.specs.Sound.{IsName}
 use Rattle.job_facts.specs.States.{commands_for, session_numbered, session_state}
 use Rattle.job_facts.specs.Contents.{Contents, Entry, entry_of, mark_of, no_contents}
 use Rattle.step_laws.specs.Ranges.{IsRanged}
-use Rattle.arrivals.specs.Meaning.{Arrived, contents_after, is_released, told_on}
+use Rattle.arrivals.specs.Meaning.{Arrived, contents_after, http_reply_on, is_released}
 use Rattle.feeder.specs.declared.world.Event.{Event}
 use Rattle.feeder.specs.declared.world.Event.TheVariants as event
 use Rattle.feeder.specs.declared.world.Stop.{Stop}
@@ -68,7 +68,7 @@ PutOutIsCounted w = (serial : ℕ) → (w.cards serial).is_good ≡ true → IsC
 abbrev pub arrivals_of : List Answered → List Arrived
 arrivals_of answered = map (λ (g : Answered). g.arrival) answered
 
--- a machine's release in this boot is accepted: it was decided, and told status 200
+-- a machine's release in this boot is accepted: it was decided, with status 200
 pub record IsAccepted (w : World) (machine : List ℕ) (boot : ℕ) : Type 0 where
   pub at : ℕ
   pub release : Answered
@@ -76,7 +76,7 @@ pub record IsAccepted (w : World) (machine : List ℕ) (boot : ℕ) : Type 0 whe
   pub client : release.arrival.client ≡ machine
   pub number : release.arrival.number ≡ number_at boot 1
   pub request : release.arrival.request ≡ release_of boot
-  pub accepted : release.told.status ≡ 200
+  pub accepted : release.http_reply.status ≡ 200
 
 -- however the packet arrives, the contents stay
 abbrev pub ChangesNothing : World → Packet → Type 0
@@ -93,10 +93,10 @@ OldBootsAreOver w = (machine : List ℕ) (boot : ℕ) → IsAccepted w machine b
 abbrev pub DecidedIsMeant : World → Type 0
 DecidedIsMeant w = w.contents ≡ contents_after no_contents (arrivals_of w.decided)
 
--- each was told what it means after those before it
-abbrev pub DecidedIsTold : World → Type 0
-DecidedIsTold w = (i : ℕ) (g : Answered) → slice_get w.decided i ≡ Some g
-    → g.told ≡ told_on (contents_after no_contents (arrivals_of (take i w.decided))) g.arrival
+-- each got what it means after those before it
+abbrev pub DecidedIsAnswered : World → Type 0
+DecidedIsAnswered w = (i : ℕ) (g : Answered) → slice_get w.decided i ≡ Some g
+    → g.http_reply ≡ http_reply_on (contents_after no_contents (arrivals_of (take i w.decided))) g.arrival
 
 -- every acknowledged arrival is among the decided ones
 abbrev pub AcknowledgedIsDecided : World → Type 0
@@ -104,31 +104,31 @@ AcknowledgedIsDecided w = All (λ (g : Answered). (i : ℕ) × (slice_get w.deci
 
 -- the repeat of a decided arrival, whose reply may be lost, gets its reply again, unless its number
 -- is released
-abbrev pub RepeatsAreTold : World → Type 0
-RepeatsAreTold w = All (λ (g : Answered). is_released w.contents.marks g.arrival ≡ false → told_on w.contents g.arrival ≡ g.told) w.decided
+abbrev pub RepeatsGetTheirReply : World → Type 0
+RepeatsGetTheirReply w = All (λ (g : Answered). is_released w.contents.marks g.arrival ≡ false → http_reply_on w.contents g.arrival ≡ g.http_reply) w.decided
 
 -- nothing is kept under the arrival's number, and the number isn't released
-pub record IsFirst (c : Contents) (a : Arrived) : Type 0 where
+pub record IsFirstArrival (c : Contents) (a : Arrived) : Type 0 where
   pub live : is_released c.marks a ≡ false
   pub none : entry_of c.kept a.client a.number ≡ None
 
--- the arrival is told the reply that is kept under its number, which is one to the same ask
+-- the arrival gets the reply that is kept under its number, which is one to the same ask
 pub record GetsKept (c : Contents) (a : Arrived) : Type 0 where
   pub entry : Entry
   pub kept : entry_of c.kept a.client a.number ≡ Some entry
   pub ask : entry.ask ≡ a.ask
-  pub told : told_on c a ≡ record { status = entry.status; body = entry.body }
+  pub http_reply : http_reply_on c a ≡ record { status = entry.status; body = entry.body }
 
 -- a packet that arrives, for the first time or again, has a released number, or is a first arrival,
 -- or gets the kept reply
 abbrev pub InFlight : World → Type 0
 InFlight w = All (λ (p : Packet).
-    let a = arrival_of p in (is_released w.contents.marks a ≡ true) ⊎ IsFirst w.contents a ⊎ GetsKept w.contents a) w.packets
+    let a = arrival_of p in (is_released w.contents.marks a ≡ true) ⊎ IsFirstArrival w.contents a ⊎ GetsKept w.contents a) w.packets
 
 -- an acknowledged release of a machine is kept: the machine's mark has reached it
 abbrev pub ReleasesAreKept : World → Type 0
 ReleasesAreKept w = All (λ (g : Answered). (x : Machine) (upto : ℕ) → w.machines g.arrival.client ≡ Some x
-    → g.arrival.request ≡ Release upto → g.told.status ≡ 200 → upto ≤ mark_of w.contents.marks g.arrival.client) w.replies
+    → g.arrival.request ≡ Release upto → g.http_reply.status ≡ 200 → upto ≤ mark_of w.contents.marks g.arrival.client) w.replies
 
 -- ---- what callers owe
 

@@ -8,8 +8,8 @@ use Rattle.job_facts.specs.declared.request.Call.TheVariants.{Job, Release}
 use Rattle.job_facts.specs.declared.request.Request.TheVariants as request
 use Rattle.job_facts.specs.declared.reply.Reply.{Reply}
 use Rattle.job_facts.specs.Contents.{Contents, no_contents}
-use Rattle.arrivals.specs.Told.{Told}
-use Rattle.arrivals.specs.Meaning.{Arrived, contents_after, told_on}
+use Rattle.arrivals.specs.HttpReplies.{HttpReply}
+use Rattle.arrivals.specs.Meaning.{Arrived, contents_after, http_reply_on}
 use Rattle.wire.specs.Sending.{ask_of}
 use Rattle.feeder.specs.declared.feeder.InsertFault.{InsertFault}
 use Rattle.feeder.specs.declared.world.Event.{Event}
@@ -40,10 +40,10 @@ pub record Packet : Type 0 where
 abbrev pub arrival_of : Packet → Arrived
 arrival_of p = record { client = p.machine; number = number_at p.boot p.place; ask = ask_of p.call; request = p.call }
 
--- an arrival, with what it was told
+-- an arrival, with what it got
 pub record Answered : Type 0 where
   pub arrival : Arrived
-  pub told : Told
+  pub http_reply : HttpReply
 
 pub record World : Type 0 where
   pub contents : Contents
@@ -136,9 +136,9 @@ abbrev pub sent : World → Option Machine → World
 sent w None = w
 sent w (Some x) = sent_by w x.feeder (asked x.feeder)
 
--- an arrival with what it is told now
+-- an arrival with what it gets now
 abbrev pub answered : World → Arrived → Answered
-answered w a = record { arrival = a; told = told_on w.contents a }
+answered w a = record { arrival = a; http_reply = http_reply_on w.contents a }
 
 -- an arrival is decided, unless the server stops before that; its reply is given, unless it stops
 -- then
@@ -163,9 +163,9 @@ reached w g reply None = w
 reached w g reply (Some x) = heard w g x reply
 
 -- the reply is the one that has this text
-abbrev pub delivered : (Told → Option Reply) → World → Option Answered → World
+abbrev pub delivered : (HttpReply → Option Reply) → World → Option Answered → World
 delivered reads w None = w
-delivered reads w (Some g) = reached w g (reads g.told) (w.machines g.arrival.client)
+delivered reads w (Some g) = reached w g (reads g.http_reply) (w.machines g.arrival.client)
 
 abbrev pub worded_in : World → List ℕ → ℕ → Machine → Option ℕ → World
 worded_in w name sw x None = w
@@ -196,7 +196,7 @@ abbrev pub arrived_as : Arrival → Arrived
 arrived_as a = record { client = a.client; number = a.number; ask = a.ask; request = a.request }
 
 -- names are those that machines ever have
-abbrev pub happens : (Told → Option Reply) → List (List ℕ) → World → Event → World
+abbrev pub happens : (HttpReply → Option Reply) → List (List ℕ) → World → Event → World
 happens reads names w (event.Insert machine batch blank) = inserted w machine batch blank (w.machines machine)
 happens reads names w (event.Send machine) = sent w (w.machines machine)
 happens reads names w (event.Arrive packet stop) = arrived w stop (slice_get w.packets packet)
@@ -208,7 +208,7 @@ happens reads names w (event.Office arrival stop) =
 
 -- ---- whole lists
 
-abbrev pub run : (Told → Option Reply) → List (List ℕ) → List Event → World → World
+abbrev pub run : (HttpReply → Option Reply) → List (List ℕ) → List Event → World → World
 run reads names [] w = w
 run reads names (e ∷ es) w = run reads names es (happens reads names w e)
 
@@ -218,5 +218,5 @@ machines_of [] = []
 machines_of (event.Power machine boot ∷ es) = machine ∷ machines_of es
 machines_of (_ ∷ es) = machines_of es
 
-abbrev pub world_after : (Told → Option Reply) → List Event → World
+abbrev pub world_after : (HttpReply → Option Reply) → List Event → World
 world_after reads events = run reads (machines_of events) events at_first

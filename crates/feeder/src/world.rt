@@ -1,12 +1,12 @@
 //! The shop floor: machines, a network that loses, repeats and delays, and a server that stops.
 ghost use Rattle.std.specs.Prelude.{All, Option};
 ghost use Rattle.job_facts.specs.declared.reply.Reply.{Reply};
-ghost use Rattle.arrivals.specs.Told.{Told};
+ghost use Rattle.arrivals.specs.HttpReplies.{HttpReply};
 ghost use Rattle.feeder.specs.Reading.{IsReadable, ReadsBack};
 ghost use Rattle.feeder.specs.ShopFloor.{AcknowledgedIsDecided, CardsAreCharged, DecidedIsMeant};
-ghost use Rattle.feeder.specs.ShopFloor.{DecidedIsTold, GoodCardsAreWhole, InFlight, IsEvent};
+ghost use Rattle.feeder.specs.ShopFloor.{DecidedIsAnswered, GoodCardsAreWhole, InFlight, IsEvent};
 ghost use Rattle.feeder.specs.ShopFloor.{OldBootsAreOver, PutOutIsCounted, RecordsHaveOneCard};
-ghost use Rattle.feeder.specs.ShopFloor.{ReleasesAreKept, RepeatsAreTold};
+ghost use Rattle.feeder.specs.ShopFloor.{ReleasesAreKept, RepeatsGetTheirReply};
 ghost use Rattle.feeder.specs.World.{world_after};
 
 use job_facts::Arrival;
@@ -71,38 +71,40 @@ pub enum Event {
 pub fn every_world(events: &[Event])
     requires { All IsEvent events.now }
     // A card counted good received exactly its record's sequence, each command once and in order.
-    ensures whole { (reads : Told → Option Reply) → ReadsBack reads
+    ensures whole { (reads : HttpReply → Option Reply) → ReadsBack reads
         → GoodCardsAreWhole (world_after reads events.now) }
     // A card that received any command is charged to one session, and received a beginning of the
     // sequence of that session's record.
-    ensures charged { (reads : Told → Option Reply) → ReadsBack reads
+    ensures charged { (reads : HttpReply → Option Reply) → ReadsBack reads
         → CardsAreCharged (world_after reads events.now) }
     // No record has two cards counted good.
-    ensures one_card { (reads : Told → Option Reply) → ReadsBack reads
+    ensures one_card { (reads : HttpReply → Option Reply) → ReadsBack reads
         → RecordsHaveOneCard (world_after reads events.now) }
     // A card that was put out as good is counted good.
-    ensures put_out { (reads : Told → Option Reply) → ReadsBack reads
+    ensures put_out { (reads : HttpReply → Option Reply) → ReadsBack reads
         → PutOutIsCounted (world_after reads events.now) }
     // Once a machine's release in a boot is accepted, no packet of an earlier boot changes the
     // contents.
-    ensures over { (reads : Told → Option Reply) → ReadsBack reads
+    ensures over { (reads : HttpReply → Option Reply) → ReadsBack reads
         → OldBootsAreOver (world_after reads events.now) }
-    // The contents are the meaning of the decided arrivals, whatever stops there were, and each was
-    // told what it means after those before it.
-    ensures meant { (reads : Told → Option Reply) → DecidedIsMeant (world_after reads events.now) }
-    ensures told { (reads : Told → Option Reply) → DecidedIsTold (world_after reads events.now) }
+    // The contents are the meaning of the decided arrivals, whatever stops there were, and each got
+    // what it means after those before it.
+    ensures meant { (reads : HttpReply → Option Reply)
+        → DecidedIsMeant (world_after reads events.now) }
+    ensures answered { (reads : HttpReply → Option Reply)
+        → DecidedIsAnswered (world_after reads events.now) }
     // Every acknowledged arrival is among these, and a repeat gets its reply again, unless its
     // number is released.
-    ensures acknowledged { (reads : Told → Option Reply)
+    ensures acknowledged { (reads : HttpReply → Option Reply)
         → AcknowledgedIsDecided (world_after reads events.now) }
-    ensures repeats { (reads : Told → Option Reply)
-        → RepeatsAreTold (world_after reads events.now) }
+    ensures repeats { (reads : HttpReply → Option Reply)
+        → RepeatsGetTheirReply (world_after reads events.now) }
     // A packet that arrives, for the first time or again, has a released number, or is a first
     // arrival, or gets the kept reply.
-    ensures in_flight { (reads : Told → Option Reply) → ReadsBack reads
+    ensures in_flight { (reads : HttpReply → Option Reply) → ReadsBack reads
         → InFlight (world_after reads events.now) }
     // An acknowledged release of a machine is kept.
-    ensures releases { (reads : Told → Option Reply) → ReadsBack reads
+    ensures releases { (reads : HttpReply → Option Reply) → ReadsBack reads
         → ReleasesAreKept (world_after reads events.now) }
     // A reading of replies as the clauses want it there is.
     ensures reading { IsReadable }

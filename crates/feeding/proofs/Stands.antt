@@ -71,7 +71,7 @@ move_quiet f Stays was quiet = was
 move_quiet f (Stands stand) was quiet = quiet
 move_quiet f (Makes call) was quiet = tt
 
--- a card's word
+-- a card's status word
 word_quiet : (f : FeederState) (stand : Stand) (sw : ℕ) → f.stand ≡ stand → NoCommand (moved f (card_row f.place stand sw).move).stand
 word_quiet f Idle sw is = subst NoCommand (sym is) tt
 word_quiet f (Asks call) sw is = subst NoCommand (sym is) tt

@@ -1,4 +1,4 @@
--- A whole turn: a try, and what is printed after it.
+-- A whole step: a try, and what is printed after it.
 use Rattle.std.proofs.Common.{◌≡◌, ◌≤◌, ◌<◌, ℕ, List, [], ◌∷◌, ◌++◌, Option, Some, None, Result, Ok, Err, refl, sym, ap, subst, ◌∙◌, append-nil, lit<}
 use Rattle.std.specs.Prelude.{option_map, unwrap_or}
 use Rattle.std.specs.Io.KnownBytes.{Appends}
@@ -6,7 +6,7 @@ use Rattle.std.proofs.KnownBytes.{Appends-nil, Keeps-refl}
 use Rattle.event_lines.specs.declared.log.EventLog.{EventLog}
 use Rattle.job_facts.specs.declared.reply.Reply.{Reply}
 use Rattle.job_facts.specs.declared.request.Call.{Call}
-use Rattle.text_io.specs.Inputs.{Tells}
+use Rattle.text_io.specs.Inputs.{Agrees}
 use Rattle.text_io.specs.declared.reading.ReadFault.{ReadFault}
 use Rattle.text_io.specs.declared.reading.ReadFault.TheVariants.{Failed, Memory}
 use Rattle.wire.specs.Sending.{sending_of}
@@ -14,7 +14,7 @@ use Rattle.feeder.specs.Table.{asked}
 use Rattle.feeding.specs.declared.engine.FeedStop.{FeedStop}
 use Rattle.feeding.specs.declared.engine.FeedStop.TheVariants as stop
 use Rattle.feeding.specs.Feeds.{Feed, hears}
-use Rattle.feeding.specs.Tries.{AreTries, EndsBy, Goes, Heard, IsEnd, IsHeard, IsSent, IsSettled, IsTold, IsTry, Logs, Try, feed_after, printed, try_of, unread}
+use Rattle.feeding.specs.Tries.{AreTries, EndsBy, Goes, Heard, IsEnd, IsHeard, IsPrinted, IsSent, IsSettled, IsTry, Logs, Try, feed_after, printed, try_of, unread}
 use Rattle.feeding.proofs.Going.{hears_few, left_of, less_left}
 use Rattle.feeding.specs.declared.engine.Response.{Response}
 use Rattle.feeding.specs.Events.{FeedEndsWithEvents, GoesWithEvents, IsNoted, IsNotedOf, end_texts, event_texts, lines_under}
@@ -43,16 +43,16 @@ module _ {E : Type 0} (contents : E → Option (List ℕ)) where
       (hs : List Heard) × AreTries first hs × (feed_after first hs ≡ f) × Logs log_before log_after hs × Appends before after (printed first hs) × IsNoted contents old new (event_texts first hs)
 
   pub goes_more : (first f g : Feed) (la lb lc : Option (List Try)) (a b c : Option (List ℕ)) (ea eb ec : EventLog E) (machine : List ℕ) (number : ℕ) (call : Call) (r : Response) → SoFar first f la lb a b ea eb
-      → machine ≡ f.feeder.machine → asked f.feeder ≡ Some (number, call) → f.tries < 10 → IsOne machine number call r lb lc → IsTold (hears f r.reply) g b c (Ok tt)
+      → machine ≡ f.feeder.machine → asked f.feeder ≡ Some (number, call) → f.tries < 10 → IsOne machine number call r lb lc → IsPrinted (hears f r.reply) g b c (Ok tt)
       → IsNotedOf contents eb ec (lines_under f number (came_in r) r.reply) (Ok tt) → SoFar first g la lc a c ea ec
-  goes_more first f g la lb lc a b c ea eb ec machine number call r (hs, all, at, logs, wrote, noted) same asks few one (is, told) more =
+  goes_more first f g la lb lc a b c ea eb ec machine number call r (hs, all, at, logs, wrote, noted) same asks few one (is, prints) more =
       let h = heard_of machine number call r in
       subst (λ x. SoFar first x la lc a c ea ec) (sym is) (
         hs ++ h ∷ [],
         tries_on first f hs h at all (is_try f machine number call r same asks few one.0),
         after_on first f hs h at,
         logs_more la lb lc hs h logs one.1,
-        text_on first f hs h a b c at wrote told,
+        text_on first f hs h a b c at wrote prints,
         subst (IsNoted contents ea ec) (sym (texts_on first f hs h number call at asks)) (noted_then contents ea eb ec (event_texts first hs) (lines_under f number (came_in r) r.reply) noted more),
       )
 
@@ -65,25 +65,25 @@ module _ {E : Type 0} (contents : E → Option (List ℕ)) where
   -- the writer failed, or memory was refused
   pub goes_end : (first f g : Feed) (la lb lc : Option (List Try)) (a b c : Option (List ℕ)) (ea eb ec : EventLog E) (machine : List ℕ) (number : ℕ) (call : Call) (r : Response) (why : FeedStop)
       (result : Result (Unit {0}) FeedStop) → SoFar first f la lb a b ea eb → machine ≡ f.feeder.machine → asked f.feeder ≡ Some (number, call) → f.tries < 10 → IsOne machine number call r lb lc
-      → IsTold (hears f r.reply) g b c (Err why) → IsNotedOf contents eb ec (lines_under f number (came_in r) r.reply) (Err why) → result ≡ Err why
+      → IsPrinted (hears f r.reply) g b c (Err why) → IsNotedOf contents eb ec (lines_under f number (came_in r) r.reply) (Err why) → result ≡ Err why
       → (hs : List Heard) × GoesWithEvents contents first hs la lc a c ea ec result
-  goes_end first f g la lb lc a b c ea eb ec machine number call r stop.WriteFailed result (hs, all, at, logs, wrote, noted) same asks few one told more is =
+  goes_end first f g la lb lc a b c ea eb ec machine number call r stop.WriteFailed result (hs, all, at, logs, wrote, noted) same asks few one prints more is =
       let h = heard_of machine number call r in
       subst (λ x. (hs : List Heard) × GoesWithEvents contents first hs la lc a c ea ec x) (sym is) (ended first (hs ++ h ∷ []) la lc a c ea ec (Err stop.WriteFailed) (
       record {
         tries = tries_on first f hs h at all (is_try f machine number call r same asks few one.0);
         exchanged = logs_more la lb lc hs h logs one.1;
         ends = tt;
-        written = text_begun first f hs h a b c at wrote told;
+        written = text_begun first f hs h a b c at wrote prints;
       }) refl (subst (IsNoted contents ea ec) (sym (texts_on first f hs h number call at asks)) (noted_then contents ea eb ec (event_texts first hs) (lines_under f number (came_in r) r.reply) noted more)))
-  goes_end first f g la lb lc a b c ea eb ec machine number call r stop.Memory result (hs, all, at, logs, wrote, noted) same asks few one told more is =
+  goes_end first f g la lb lc a b c ea eb ec machine number call r stop.Memory result (hs, all, at, logs, wrote, noted) same asks few one prints more is =
       subst (λ x. (hs : List Heard) × GoesWithEvents contents first hs la lc a c ea ec x) (sym is) (ended first hs la lc a c ea ec (Err stop.Memory) (
-      record { tries = all; exchanged = tt; ends = subst (λ x. x.tries < 10) (sym at) few; written = subst (λ x. Appends a x (printed first hs)) (sym told) wrote })
+      record { tries = all; exchanged = tt; ends = subst (λ x. x.tries < 10) (sym at) few; written = subst (λ x. Appends a x (printed first hs)) (sym prints) wrote })
       refl (noted_kept contents ea eb ec (event_texts first hs) noted more))
-  goes_end first f g la lb lc a b c ea eb ec machine number call r stop.BadLine result so_far same asks few one told more is = absurd told
-  goes_end first f g la lb lc a b c ea eb ec machine number call r stop.Stale result so_far same asks few one told more is = absurd told
-  goes_end first f g la lb lc a b c ea eb ec machine number call r stop.NoReply result so_far same asks few one told more is = absurd told
-  goes_end first f g la lb lc a b c ea eb ec machine number call r stop.ReadFailed result so_far same asks few one told more is = absurd told
+  goes_end first f g la lb lc a b c ea eb ec machine number call r stop.BadLine result so_far same asks few one prints more is = absurd prints
+  goes_end first f g la lb lc a b c ea eb ec machine number call r stop.Stale result so_far same asks few one prints more is = absurd prints
+  goes_end first f g la lb lc a b c ea eb ec machine number call r stop.NoReply result so_far same asks few one prints more is = absurd prints
+  goes_end first f g la lb lc a b c ea eb ec machine number call r stop.ReadFailed result so_far same asks few one prints more is = absurd prints
 
   -- nothing is asked any more
   end_noted : (first f : Feed) (hs : List Heard) (ea eb ec : EventLog E) (r : Result (Unit {0}) FeedStop) → feed_after first hs ≡ f → IsNoted contents ea eb (event_texts first hs) → IsNoted contents eb ec (end_texts f r)
@@ -109,24 +109,24 @@ no_memory contents f log a e new =
 
 -- ---- what the loop keeps
 
-pub still_few : (f g : Feed) (b c : Option (List ℕ)) (reply : Option Reply) → f.tries < 10 → IsTold (hears f reply) g b c (Ok tt) → g.tries ≤ 10
-still_few f g b c reply few told = subst (λ x. x.tries ≤ 10) (sym told.0) (hears_few f reply few)
+pub still_few : (f g : Feed) (b c : Option (List ℕ)) (reply : Option Reply) → f.tries < 10 → IsPrinted (hears f reply) g b c (Ok tt) → g.tries ≤ 10
+still_few f g b c reply few prints = subst (λ x. x.tries ≤ 10) (sym prints.0) (hears_few f reply few)
 
-pub still_settled : (f g : Feed) (b c : Option (List ℕ)) (reply : Option Reply) → IsSettled f → IsTold (hears f reply) g b c (Ok tt) → IsSettled g
-still_settled f g b c reply is told = subst IsSettled (sym told.0) (hears_settled f reply is)
+pub still_settled : (f g : Feed) (b c : Option (List ℕ)) (reply : Option Reply) → IsSettled f → IsPrinted (hears f reply) g b c (Ok tt) → IsSettled g
+still_settled f g b c reply is prints = subst IsSettled (sym prints.0) (hears_settled f reply is)
 
 pub still_less : (most : ℕ) (f g : Feed) (b c : Option (List ℕ)) (number : ℕ) (call : Call) (reply : Option Reply) → asked f.feeder ≡ Some (number, call) → f.tries < 10 → number < most
-    → IsTold (hears f reply) g b c (Ok tt) → left_of most g < left_of most f
-still_less most f g b c number call reply asks few fits told =
-    subst (λ x. left_of most x < left_of most f) (sym told.0) (less_left most f (number, call) reply asks few fits)
+    → IsPrinted (hears f reply) g b c (Ok tt) → left_of most g < left_of most f
+still_less most f g b c number call reply asks few fits prints =
+    subst (λ x. left_of most x < left_of most f) (sym prints.0) (less_left most f (number, call) reply asks few fits)
 
 -- ---- the lines could not be read
 
-tells_some : (known : Option (List ℕ)) → Tells known (unwrap_or known [])
-tells_some None = tt
-tells_some (Some all) = refl
+agrees_some : (known : Option (List ℕ)) → Agrees known (unwrap_or known [])
+agrees_some None = tt
+agrees_some (Some all) = refl
 
 pub no_lines : {E : Type 0} (contents : E → Option (List ℕ)) (first : List ℕ → Feed) (known : Option (List ℕ)) (log : Option (List Try)) (a : Option (List ℕ)) (e : EventLog E) (r : Result (Unit {0}) FeedStop) (why : FeedStop)
     (fault : ReadFault) → ((raw : List ℕ) → (first raw).tries ≡ 0) → r ≡ Err why → why ≡ unread fault → FeedEndsWithEvents contents first known log log a a e e r
 no_lines contents first known log a e r why Failed new is of = rw (is, of) (refl, Keeps-refl a, lost contents e e [] refl)
-no_lines contents first known log a e r why Memory new is of = rw (is, of) (unwrap_or known [], tells_some known, (no_memory contents (first (unwrap_or known [])) log a e (new (unwrap_or known []))).0, (no_memory contents (first (unwrap_or known [])) log a e (new (unwrap_or known []))).1)
+no_lines contents first known log a e r why Memory new is of = rw (is, of) (unwrap_or known [], agrees_some known, (no_memory contents (first (unwrap_or known [])) log a e (new (unwrap_or known []))).0, (no_memory contents (first (unwrap_or known [])) log a e (new (unwrap_or known []))).1)

@@ -30,7 +30,7 @@ card_by (first ∷ rest) =
 abbrev pub card_of : List ℕ → Option Card
 card_of text = card_by (words text)
 
--- the word that it gives next: 9000 when its words are used up
+-- the status word that it gives next: 9000 when its words are used up
 abbrev pub next_word : Card → ℕ
 next_word c = unwrap_or (slice_get c.words c.given) 36864
 
@@ -40,11 +40,11 @@ gives c = if nat_lt c.given (length c.words) then record c { given = c.given + 1
 
 -- ---- what is printed
 
--- a serial, a space, and what is told of its card
+-- a serial, a space, and what is printed of its card
 abbrev pub card_line : ℕ → List ℕ → List ℕ
-card_line serial told = line (decimal serial ++ 32 ∷ told)
+card_line serial content = line (decimal serial ++ 32 ∷ content)
 
--- a command that the card received, in upper case hexadecimal, and the word that it gave
+-- a command that the card received, in upper case hexadecimal, and the status word that it gave
 abbrev pub applied_line : ℕ → List ℕ → ℕ → List ℕ
 applied_line serial command sw = card_line serial (encode_upper command ++ 32 ∷ word_text sw)
 

@@ -12,7 +12,7 @@ use Rattle.job_facts.specs.Refusals.{code_of}
 use Rattle.arrivals.specs.Values.{value_of}
 use Rattle.http_requests.specs.Members.{number_at, text_at}
 use Rattle.http_requests.specs.Requests.{with_two}
-use Rattle.text_io.specs.Inputs.{Tells}
+use Rattle.text_io.specs.Inputs.{Agrees}
 use Rattle.feeder.specs.declared.feeder.InsertFault.{InsertFault}
 use Rattle.feeder.specs.declared.feeder.InsertFault.TheVariants.{Exhausted as NoNumbers, NotIdle}
 use Rattle.feeder.specs.Table.{Act, Apply, Done, Eject, Send, Wait, after_card, after_insert, after_reply, asked}
@@ -181,7 +181,7 @@ abbrev pub FeedEndsWithEvents : {E : Type 0} → (E → Option (List ℕ)) → (
     → Result (Unit {0}) FeedStop → Type 0
 FeedEndsWithEvents contents first known log_before log_after before after old new (Err stop.ReadFailed) = (log_after ≡ log_before) × Keeps before after × IsNoted contents old new []
 FeedEndsWithEvents contents first known log_before log_after before after old new result =
-    (raw : List ℕ) × Tells known raw × (hs : List Heard) × GoesWithEvents contents (first raw) hs log_before log_after before after old new result
+    (raw : List ℕ) × Agrees known raw × (hs : List Heard) × GoesWithEvents contents (first raw) hs log_before log_after before after old new result
 
 -- ---- a step on the way
 

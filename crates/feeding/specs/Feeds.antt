@@ -43,7 +43,7 @@ worded f (Apply command) = f
 worded f Send = f
 worded f Wait = f
 
--- the card receives a command, and gives its next word
+-- the card receives a command, and gives its next status word
 abbrev pub applies : Feed → List ℕ → Feed
 applies f command =
     let sw = next_word f.card in

@@ -4,7 +4,7 @@ use Rattle.std.specs.Global.{Global}
 use Rattle.std.specs.Io.KnownBytes.{Appends, Keeps}
 use Rattle.job_facts.specs.declared.reply.Reply.{Reply}
 use Rattle.job_facts.specs.declared.request.Call.{Call}
-use Rattle.text_io.specs.Inputs.{Tells}
+use Rattle.text_io.specs.Inputs.{Agrees}
 use Rattle.text_io.specs.Written.{AppendsBeginning}
 use Rattle.text_io.specs.declared.reading.ReadFault.{ReadFault}
 use Rattle.text_io.specs.declared.reading.ReadFault.TheVariants as read
@@ -105,9 +105,9 @@ pub record Goes (f : Feed) (hs : List Heard) (log_before log_after : Option (Lis
 abbrev pub FeedEnds : (List ℕ → Feed) → Option (List ℕ) → Option (List Try) → Option (List Try) → Option (List ℕ) → Option (List ℕ) → Result (Unit {0}) FeedStop → Type 0
 FeedEnds first known log_before log_after before after (Err stop.ReadFailed) = (log_after ≡ log_before) × Keeps before after
 FeedEnds first known log_before log_after before after result =
-    (raw : List ℕ) × Tells known raw × (hs : List Heard) × Goes (first raw) hs log_before log_after before after result
+    (raw : List ℕ) × Agrees known raw × (hs : List Heard) × Goes (first raw) hs log_before log_after before after result
 
--- the words of an end that is told
+-- the words of an end that is printed
 abbrev pub stop_text : FeedStop → List ℕ
 stop_text stop.BadLine = codes "a line is malformed"
 stop_text stop.Stale = codes "the boot is released"
@@ -141,11 +141,11 @@ IsEnd f (Err stop.Stale) = EndsBy f (Err stop.Stale)
 IsEnd f (Err _) = ⊥
 
 -- what is printed after a try was written, or a beginning of it where the writer failed
-abbrev pub IsTold : Feed → Feed → Option (List ℕ) → Option (List ℕ) → Result (Unit {0}) FeedStop → Type 0
-IsTold heard after old new (Ok u) = (after ≡ heard) × Appends old new heard.text
-IsTold heard after old new (Err stop.WriteFailed) = AppendsBeginning old new heard.text
-IsTold heard after old new (Err stop.Memory) = new ≡ old
-IsTold heard after old new (Err _) = ⊥
+abbrev pub IsPrinted : Feed → Feed → Option (List ℕ) → Option (List ℕ) → Result (Unit {0}) FeedStop → Type 0
+IsPrinted heard after old new (Ok u) = (after ≡ heard) × Appends old new heard.text
+IsPrinted heard after old new (Err stop.WriteFailed) = AppendsBeginning old new heard.text
+IsPrinted heard after old new (Err stop.Memory) = new ≡ old
+IsPrinted heard after old new (Err _) = ⊥
 
 abbrev pub unread : ReadFault → FeedStop
 unread read.Failed = stop.ReadFailed

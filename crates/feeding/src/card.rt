@@ -35,7 +35,7 @@ impl Card {
         }
     }
 
-    /// The word that it gives next: 9000 when its words are used up.
+    /// The status word that it gives next: 9000 when its words are used up.
     pub(crate) fn give(&mut self) -> u16
         ensures word { result ≡ next_word (card_view self.old) }
         ensures given { card_view self.new ≡ gives (card_view self.old) }
@@ -85,7 +85,7 @@ fn status_words(alloc: Global, texts: &[&[u8]]) -> Result<Option<Vec<u16>>, Allo
     Ok(Some(words))
 }
 
-/// Adds the line of a command that the card received, with the word that it gave.
+/// Adds the line of a command that the card received, with the status word that it gave.
 pub(crate) fn push_applied(
     alloc: Global,
     text: &mut Vec<u8>,
@@ -98,10 +98,10 @@ pub(crate) fn push_applied(
 {
     let command = hex::encode_upper(alloc, command)?;
     let word = word_text(alloc, sw)?;
-    let mut told = Vec::from_slice(alloc, command.as_bytes())?;
-    told.push(b' ')?;
-    told.extend_from_slice(word.as_bytes())?;
-    push_line(text, serial, told.as_slice())
+    let mut content = Vec::from_slice(alloc, command.as_bytes())?;
+    content.push(b' ')?;
+    content.extend_from_slice(word.as_bytes())?;
+    push_line(text, serial, content.as_slice())
 }
 
 // Four hexadecimal digits in upper case.
@@ -115,21 +115,21 @@ fn word_text(alloc: Global, sw: u16) -> Result<String, AllocError>
 pub(crate) fn push_end(text: &mut Vec<u8>, serial: u64, good: bool) -> Result<(), AllocError>
     ensures { OnOk result (text.new.items ≡ text.old.items ++ end_line serial good) }
 {
-    let told = if good {
+    let content = if good {
         b"good".as_slice()
     } else {
         b"rejected".as_slice()
     };
-    push_line(text, serial, told)
+    push_line(text, serial, content)
 }
 
-fn push_line(text: &mut Vec<u8>, serial: u64, told: &[u8]) -> Result<(), AllocError>
-    ensures { OnOk result (text.new.items ≡ text.old.items ++ card_line serial told.now) }
+fn push_line(text: &mut Vec<u8>, serial: u64, content: &[u8]) -> Result<(), AllocError>
+    ensures { OnOk result (text.new.items ≡ text.old.items ++ card_line serial content.now) }
 {
     let mut number = Buffer::new();
     text.extend_from_slice(number.format(serial).as_bytes())?;
     text.push(b' ')?;
-    text.extend_from_slice(told)?;
+    text.extend_from_slice(content)?;
     text.push(b'\n')?;
     Ok(())
 }

@@ -6,7 +6,8 @@ ghost use Rattle.feeder.specs.Table.{asked};
 ghost use Rattle.feeding.specs.Events.{FeedEndsWithEvents, GoesWithEvents, IsNoted, IsNotedOf};
 ghost use Rattle.feeding.specs.Events.{end_texts, lines_under};
 ghost use Rattle.feeding.specs.Feeds.{at_first, hears};
-ghost use Rattle.feeding.specs.Tries.{FeedEnds, Heard, IsEnd, IsHeard, IsSettled, IsTold, try_of};
+ghost use Rattle.feeding.specs.Tries.{FeedEnds, Heard, IsEnd, IsHeard, IsPrinted, IsSettled};
+ghost use Rattle.feeding.specs.Tries.{try_of};
 ghost use Rattle.feeding.specs.Views.{AsksUnder, came_in, feed_view};
 
 use crate::events::{Tried, note_flaw};
@@ -197,7 +198,7 @@ fn go_on<W: Write, E: Write + Drop>(
 ) -> Result<(), FeedStop>
     requires few { feed.old.tries < 10 }
     requires asks { AsksUnder number (feed_view feed.old) }
-    ensures printed { IsTold (hears (feed_view feed.old) response.reply) (feed_view feed.new)
+    ensures printed { IsPrinted (hears (feed_view feed.old) response.reply) (feed_view feed.new)
         (W.contents writer.old) (W.contents writer.new) result }
     ensures noted { IsNotedOf E.contents events.old events.new
         (lines_under (feed_view feed.old) number (came_in response) response.reply) result }

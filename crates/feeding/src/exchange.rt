@@ -6,7 +6,7 @@ pub trait Exchange {
     ghost use Rattle.std.specs.Prelude.{◌≡◌, ◌∷◌, ◌++◌, [], IfOk, List, Option, option_map};
     ghost use Rattle.feeding.specs.Tries.{Try, try_of};
 
-    /// What was sent, and what came, the oldest first, where that is told.
+    /// What was sent, and what came, the oldest first, where that is known.
     ghost log: { Self → Option (List Try) };
 
     /// Sends a message on a connection of its own, and brings all bytes that come back on it, or

@@ -21,7 +21,7 @@ use store_data::Name;
 pub(crate) enum Rejection {
     /// A reply said so.
     ByReply,
-    /// The boot had no number left under which to report its word.
+    /// The boot had no number left under which to report its status word.
     Exhausted,
 }
 
@@ -183,7 +183,7 @@ impl<'a> Feed<'a> {
         }
     }
 
-    // The card receives a command, and gives its next word.
+    // The card receives a command, and gives its next status word.
     fn apply(&mut self, alloc: Global, command: &[u8]) -> Result<Option<Rejection>, AllocError>
         ensures feed { OnOk result (feed_view self.new
             ≡ applies (feed_view self.old) command.now) }

@@ -38,7 +38,7 @@ rows_judged v db t (Some (Broken rule)) held judged = (v, (judged.0, any_order v
 
 -- the tables are those of this version
 pub stands_as : (db : Database) (given : Standing) (v : Version) → given ≡ Ours v → Stands db given → Stands db (Ours v)
-stands_as db given v is told = subst (Stands db) is told
+stands_as db given v is value = subst (Stands db) is value
 
 -- of one state, and a state after it that shows the same
 pub read_judged : (old mid : State) → IsKept old mid → (v : Version) → Stands old.now (Ours v) → (found : Option Tables) (t : Tables) → found ≡ Some t

@@ -45,7 +45,7 @@ pub(crate) enum Standing {
 // The tables' version, which their own row says too, or how they differ.
 fn standing_of<S: Alter>(alloc: Global, conn: &mut Connection<S>) -> Result<Standing, Error>
     requires { conn.old.in_transaction ≡ false }
-    ensures told { HasCleanDisk (state S.Store conn.new)
+    ensures value { HasCleanDisk (state S.Store conn.new)
         → IfOk result (Stands (state S.Store conn.old).now) }
     ensures kept { HasCleanDisk (state S.Store conn.new)
         → IsKept (state S.Store conn.old) (state S.Store conn.new) }
@@ -72,7 +72,7 @@ pub fn find_difference<S: Alter>(
     conn: &mut Connection<S>,
 ) -> Result<Option<Difference>, Error>
     requires { conn.old.in_transaction ≡ false }
-    ensures told { HasCleanDisk (state S.Store conn.new) → IfOk result (λ found. MatchOption found
+    ensures value { HasCleanDisk (state S.Store conn.new) → IfOk result (λ found. MatchOption found
         ((v : OfVersion) × IsOfVersion v (state S.Store conn.old).now)
         (SaysHow (state S.Store conn.old).now)) }
     ensures not_ours { HasCleanDisk (state S.Store conn.new) → IfOk result
@@ -111,7 +111,7 @@ pub fn find_damage<S: Alter>(
     conn: &mut Connection<S>,
 ) -> Result<Option<Damage>, Error>
     requires { conn.old.in_transaction ≡ false }
-    ensures told { HasCleanDisk (state S.Store conn.new) → IfOk result (λ found. MatchOption found
+    ensures value { HasCleanDisk (state S.Store conn.new) → IfOk result (λ found. MatchOption found
         (IsUndamaged (state S.Store conn.old).now) (SaysWhat (state S.Store conn.old).now)) }
     ensures kept { HasCleanDisk (state S.Store conn.new)
         → IsKept (state S.Store conn.old) (state S.Store conn.new) }

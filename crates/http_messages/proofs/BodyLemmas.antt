@@ -15,7 +15,7 @@ use Rattle.http_messages.specs.declared.message.Reading.TheVariants as reading
 use Rattle.http_messages.specs.declared.fixed.FixedReply.{FixedReply}
 use Rattle.http_messages.specs.declared.fixed.FixedReply.TheVariants.{HeadTooLarge}
 use Rattle.http_messages.specs.Heads.{HeadParts, IsJudged, ends_head, head_end}
-use Rattle.http_messages.specs.Messages.{Brings, Broken, Heard, IsBody, IsFilled, IsHeardAs, IsHeardBy, IsReading, IsReadingAfter, IsReadingBy, Refused, Tells, after_head, as_parts, end_of_head}
+use Rattle.http_messages.specs.Messages.{Agrees, Brings, Broken, Heard, IsBody, IsFilled, IsHeardAs, IsHeardBy, IsReading, IsReadingAfter, IsReadingBy, Refused, after_head, as_parts, end_of_head}
 use Rattle.http_messages.proofs.AloneLemmas.{heard_as}
 use Rattle.http_messages.proofs.EndLemmas.{least_alike, least_stays, size_kept}
 
@@ -23,7 +23,7 @@ pub refl_length : (xs : List ℕ) → length xs ≡ length xs
 refl_length xs = refl
 
 -- the bytes ended before so many came
-pub ended : (before now : Option (List ℕ)) (buf : List ℕ) (at n : ℕ) → at ≤ length buf → at < n → Consumes before now (take at buf) → IsAtEnd now → (more : List ℕ) × Tells before more × (length more < n)
+pub ended : (before now : Option (List ℕ)) (buf : List ℕ) (at n : ℕ) → at ≤ length buf → at < n → Consumes before now (take at buf) → IsAtEnd now → (more : List ℕ) × Agrees before more × (length more < n)
 ended None now buf at n within less came end = ([], tt, omega (arith, less))
 ended (Some xs) None buf at n within less came end = absurd came
 ended (Some xs) (Some ys) buf at n within less came end =
@@ -32,10 +32,10 @@ ended (Some xs) (Some ys) buf at n within less came end =
     (xs, refl, omega (arith, size, less))
 
 -- what is known of the bytes, by what came and what still comes
-told : (before after : Option (List ℕ)) (front more : List ℕ) → Consumes before after front → Tells after more → Tells before (front ++ more)
-told None after front more came next = tt
-told (Some all) None front more came next = absurd came
-told (Some all) (Some rest) front more came next = came ∙ ap (λ (l : List ℕ). front ++ l) next
+given : (before after : Option (List ℕ)) (front more : List ℕ) → Consumes before after front → Agrees after more → Agrees before (front ++ more)
+given None after front more came next = tt
+given (Some all) None front more came next = absurd came
+given (Some all) (Some rest) front more came next = came ∙ ap (λ (l : List ℕ). front ++ l) next
 
 -- ---- a head among the bytes
 
@@ -54,14 +54,14 @@ end_stays front more end few found =
     ap head_end whole
     ∙ least_stays (ends_head (front ++ t)) (length front) (length (front ++ t)) end (omega (arith, length-append front t)) (sym (least_alike front (front ++ t) (length front) same) ∙ found)
 
-pub heard_broken : (before : Option (List ℕ)) → IfSome before (λ all. (length all < 8192) × (head_end all ≡ None)) → (bytes : List ℕ) × Tells before bytes × IsHeardAs bytes Broken
+pub heard_broken : (before : Option (List ℕ)) → IfSome before (λ all. (length all < 8192) × (head_end all ≡ None)) → (bytes : List ℕ) × Agrees before bytes × IsHeardAs bytes Broken
 heard_broken None early = ([], tt, by_end [] None Broken refl refl)
 heard_broken (Some all) early =
     let same : take 8192 all ≡ all = take_all 8192 all (omega (arith, early.0)) in
     (all, refl, by_end all None Broken (ap head_end same ∙ early.1) (grind (arith, nat_tests, early.0)))
 
 pub heard_large : (before after : Option (List ℕ)) (buf : List ℕ) → length buf ≡ 8192 → Consumes before after buf → head_end buf ≡ None
-    → (bytes : List ℕ) × Tells before bytes × IsHeardAs bytes (Refused HeadTooLarge)
+    → (bytes : List ℕ) × Agrees before bytes × IsHeardAs bytes (Refused HeadTooLarge)
 heard_large None after buf size came none =
     (buf, tt, by_end buf None (Refused HeadTooLarge) (ap head_end (take_all 8192 buf (omega (arith, size))) ∙ none) (grind (arith, nat_tests, size)))
 heard_large (Some all) None buf size came none = absurd came
@@ -87,8 +87,8 @@ read_after bytes head rest end reading.Memory is front back after =
 
 -- the same where the head's bytes and the first of the body's came, and more come
 pub heard_head : (before after : Option (List ℕ)) (buf : List ℕ) (end filled : ℕ) (r : Reading) → length buf ≡ 8192 → end ≤ filled → filled ≤ 8192 → Consumes before after (take filled buf)
-    → head_end (take filled buf) ≡ Some end → ((more : List ℕ) × Tells after more × IsReadingAfter (take end buf) (take (filled - end) (drop end buf) ++ more) r)
-    → (bytes : List ℕ) × Tells before bytes × IsReading bytes r
+    → head_end (take filled buf) ≡ Some end → ((more : List ℕ) × Agrees after more × IsReadingAfter (take end buf) (take (filled - end) (drop end buf) ++ more) r)
+    → (bytes : List ℕ) × Agrees before bytes × IsReading bytes r
 heard_head before after buf end filled r size within few came found read =
     let front = take filled buf in
     let bytes = front ++ read.0 in
@@ -98,7 +98,7 @@ heard_head before after buf end filled r size within few came found read =
     let begun : drop end front ≡ take (filled - end) (drop end buf) = ap (λ (n : ℕ). drop end (take n buf)) all ∙ drop-take end (filled - end) buf in
     let back : drop end bytes ≡ take (filled - end) (drop end buf) ++ read.0 = drop-append-le end front read.0 (omega (arith, long, within)) ∙ ap (λ (l : List ℕ). l ++ read.0) begun in
     let is : IsReading bytes r = read_after bytes (take end buf) (take (filled - end) (drop end buf) ++ read.0) end r (end_stays front read.0 end (omega (arith, long, few)) found) head back read.2 in
-    (bytes, told before after front read.0 came read.1, is)
+    (bytes, given before after front read.0 came read.1, is)
 
 -- ---- a body
 
@@ -123,7 +123,7 @@ filled_end n size body begun piece is front =
     ap (λ (xs : List ℕ). xs ++ (piece ++ post_of n (size - n) body)) front ∙ ap (λ (xs : List ℕ). begun ++ (piece ++ xs)) none ∙ ap (λ (xs : List ℕ). begun ++ xs) (append-nil piece)
 
 -- what still came, in front of what still comes
-rest_of : (before after : Option (List ℕ)) (piece : List ℕ) → Consumes before after piece → (rest : List ℕ) × Tells before (piece ++ rest)
+rest_of : (before after : Option (List ℕ)) (piece : List ℕ) → Consumes before after piece → (rest : List ℕ) × Agrees before (piece ++ rest)
 rest_of None after piece came = ([], tt)
 rest_of (Some all) None piece came = absurd came
 rest_of (Some all) (Some rest) piece came = (rest, came)
@@ -134,8 +134,8 @@ here_few size here all is = length-take-le here all (omega (arith, is, min-le_ri
 
 -- the body came whole, or it did not
 pub body_filled : (before after : Option (List ℕ)) (size here : ℕ) (all piece body : List ℕ) (whole : Bool) → here ≡ min size (length all) → length body ≡ size → take (length (take here all)) body ≡ take here all
-    → length piece ≡ size - length (take here all) → OnTrue whole (Consumes before after piece) → OnFalse whole ((more : List ℕ) × Tells before more × (length more < length piece))
-    → (more : List ℕ) × Tells before more × IsFilled (put_mid (length (take here all)) (size - length (take here all)) body piece) (all ++ more) whole
+    → length piece ≡ size - length (take here all) → OnTrue whole (Consumes before after piece) → OnFalse whole ((more : List ℕ) × Agrees before more × (length more < length piece))
+    → (more : List ℕ) × Agrees before more × IsFilled (put_mid (length (take here all)) (size - length (take here all)) body piece) (all ++ more) whole
 body_filled before after size here all piece body true is fits front count came early =
     let begun = take here all in
     let rest = rest_of before after piece came in
@@ -163,19 +163,19 @@ body_filled before after size here all piece body false is fits front count came
 
 -- ---- what is read behind a head
 
-pub some_bytes : (known : Option (List ℕ)) → (more : List ℕ) × Tells known more
+pub some_bytes : (known : Option (List ℕ)) → (more : List ℕ) × Agrees known more
 some_bytes None = ([], tt)
 some_bytes (Some all) = (all, refl)
 
 pub rest_refused : (known : Option (List ℕ)) (head begun : List ℕ) (judged : Result HeadParts FixedReply) (why : FixedReply) → IsJudged head judged → judged ≡ Err why
-    → (more : List ℕ) × Tells known more × IsReadingAfter head (begun ++ more) (reading.Refused why)
+    → (more : List ℕ) × Agrees known more × IsReadingAfter head (begun ++ more) (reading.Refused why)
 rest_refused known head begun judged why is refused =
     let some = some_bytes known in
     (some.0, some.1, (Err why, subst (IsJudged head) refused is, refl))
 
 pub rest_read : {E : Type 0} (known : Option (List ℕ)) (head begun : List ℕ) (size : ℕ) (judged : Result HeadParts FixedReply) (read : Result (Option (List ℕ)) E) (body : Option (List ℕ)) (out : Reading)
-    → IsJudged head judged → read ≡ Ok body → ((more : List ℕ) × Tells known more × IfOk read (IsBody size (begun ++ more))) → ((rest : List ℕ) → IsBody size rest body → IsReadingBy judged rest out)
-    → (more : List ℕ) × Tells known more × IsReadingAfter head (begun ++ more) out
+    → IsJudged head judged → read ≡ Ok body → ((more : List ℕ) × Agrees known more × IfOk read (IsBody size (begun ++ more))) → ((rest : List ℕ) → IsBody size rest body → IsReadingBy judged rest out)
+    → (more : List ℕ) × Agrees known more × IsReadingAfter head (begun ++ more) out
 rest_read {E = E} known head begun size judged read body out is here begins next =
     let more = begins.0 in
     (more, begins.1, (judged, is, next (begun ++ more) (subst (λ (r : Result (Option (List ℕ)) E). IfOk r (IsBody size (begun ++ more))) here begins.2)))

@@ -61,7 +61,7 @@ size_text text =
     else if nat_le (digits_value 10 text) most_input then Ok (digits_value 10 text)
     else Err TooLarge
 
--- by the values of the fields that tell it
+-- by the values of the fields that give it
 abbrev pub size_in : List Pair → Result ℕ FixedReply
 size_in [] = Ok 0
 size_in (f ∷ []) = size_text f.1

@@ -1,7 +1,7 @@
 -- Messages: HTTP/1.1 (RFC 9112), as this project's profile takes them, by the whole bytes of a
 -- connection.
 use Rattle.std.specs.Prelude.{◌≡◌, ◌<◌, ◌≤◌, ℕ, nat_lt, Bool, true, false, if◌then◌else◌, List, length, take, drop, Option, Some, None, Result, Ok, Err}
-pub use Rattle.text_io.specs.Inputs.{Tells}
+pub use Rattle.text_io.specs.Inputs.{Agrees}
 use Rattle.http_messages.specs.declared.message.Message.{Message}
 use Rattle.http_messages.specs.declared.message.Reading.{Reading}
 use Rattle.http_messages.specs.declared.message.Reading.TheVariants as reading

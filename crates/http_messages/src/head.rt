@@ -117,7 +117,7 @@ fn body_size(head: &[u8], headers: &[HeaderSpan]) -> Result<usize, FixedReply>
     }
 }
 
-// The size that these values tell.
+// The size that these values give.
 fn size_by(found: Found<'_>) -> Result<usize, FixedReply>
     ensures { result ≡ size_by (found_of found.entry) }
 {

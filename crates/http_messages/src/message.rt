@@ -3,7 +3,7 @@ ghost use Rattle.std.specs.Prelude.{◌≡◌, ◌++◌, ℕ, List, IfOk, Ok, le
 ghost use Rattle.http_messages.specs.HeadTests.{parts};
 ghost use Rattle.http_messages.specs.Messages.{IsBody, IsFilled, IsReading, IsReadingAfter};
 ghost use Rattle.http_messages.specs.Messages.{IsReadingBy};
-ghost use Rattle.http_messages.specs.Messages.{Tells, as_parts};
+ghost use Rattle.http_messages.specs.Messages.{Agrees, as_parts};
 
 use crate::fixed::FixedReply;
 use crate::head::{HeadParts, judge};
@@ -39,7 +39,7 @@ pub enum Reading {
 /// Reads one message, however its bytes are cut. Bytes behind it are ignored. Until a head passes
 /// its tests no memory is taken.
 pub fn read_message<I: ByteSource>(alloc: Global, incoming: &mut I) -> Reading
-    ensures { (bytes : List ℕ) × Tells (I.brings incoming.old) bytes × IsReading bytes result }
+    ensures { (bytes : List ℕ) × Agrees (I.brings incoming.old) bytes × IsReading bytes result }
 {
     let mut buf = [0; 8192];
     match read_head(incoming, &mut buf) {
@@ -51,7 +51,7 @@ pub fn read_message<I: ByteSource>(alloc: Global, incoming: &mut I) -> Reading
 
 // Reads what follows a head, the first bytes of which came with it.
 fn read_rest<I: ByteSource>(alloc: Global, incoming: &mut I, head: &[u8], begun: &[u8]) -> Reading
-    ensures { (more : List ℕ) × Tells (I.brings incoming.old) more
+    ensures { (more : List ℕ) × Agrees (I.brings incoming.old) more
         × IsReadingAfter head.now (begun.now ++ more) result }
 {
     match judge(head) {
@@ -102,7 +102,7 @@ fn read_body<I: ByteSource>(
     size: usize,
     begun: &[u8],
 ) -> Result<Option<Bytes>, AllocError>
-    ensures { (more : List ℕ) × Tells (I.brings incoming.old) more
+    ensures { (more : List ℕ) × Agrees (I.brings incoming.old) more
         × IfOk result (IsBody size (begun.now ++ more)) }
 {
     let mut body = vec![in alloc; 0; size]?;
@@ -116,7 +116,7 @@ fn read_body<I: ByteSource>(
 // Fills a body, the first bytes of which came already; not if too few come.
 fn bring_body<I: ByteSource>(incoming: &mut I, begun: &[u8], body: &mut [u8]) -> bool
     ensures size { length body.new ≡ length body.old }
-    ensures filled { (more : List ℕ) × Tells (I.brings incoming.old) more
+    ensures filled { (more : List ℕ) × Agrees (I.brings incoming.old) more
         × IsFilled body.new (begun.now ++ more) result }
 {
     let begun = &begun[..body.len().min(begun.len())];

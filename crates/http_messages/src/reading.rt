@@ -2,7 +2,7 @@
 ghost use Rattle.std.specs.Prelude.{◌≡◌, ◌+◌, ◌<◌, ◌≤◌, ℕ, IfSome, List, None, length};
 ghost use Rattle.std.specs.Bool.{OnFalse, OnTrue};
 ghost use Rattle.std.specs.Io.KnownBytes.{Consumes};
-ghost use Rattle.http_messages.specs.Messages.{Tells};
+ghost use Rattle.http_messages.specs.Messages.{Agrees};
 ghost use Rattle.http_messages.specs.Heads.{ends_head, head_end, least};
 ghost use Rattle.http_messages.specs.HeadEnd.{Reaches};
 
@@ -58,7 +58,7 @@ pub(crate) fn find_end(bytes: &[u8], from: usize) -> Option<usize>
 pub(crate) fn fill<I: ByteSource>(incoming: &mut I, buf: &mut [u8]) -> bool
     ensures full { OnTrue result
         (Consumes (I.brings incoming.old) (I.brings incoming.new) buf.new) }
-    ensures early { OnFalse result ((more : List ℕ) × Tells (I.brings incoming.old) more
+    ensures early { OnFalse result ((more : List ℕ) × Agrees (I.brings incoming.old) more
         × (length more < length buf.new)) }
 {
     let mut at = 0;

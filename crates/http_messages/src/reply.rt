@@ -25,7 +25,7 @@ pub enum Method {
 }
 
 /// Puts all of a reply before its body at the front, and answers its length. A status that no reply
-/// has is told as 503. It takes no memory.
+/// has is answered 503. It takes no memory.
 pub fn reply_head(status: u16, kind: Content, size: usize, out: &mut [u8; 256]) -> usize
     ensures head { take result out.new ≡ head_text status kind size }
     ensures room { result ≤ 256 }

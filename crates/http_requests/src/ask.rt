@@ -90,8 +90,8 @@ impl From<AllocError> for AskFault {
     }
 }
 
-/// What a message asks for, by its target, its method and its body; else the first test that it fails: `NoRoute`, `OnlyMethod`,
-/// `Malformed`. Errors: these, and refused memory as `Memory`.
+/// What a message asks for, by its target, its method and its body; else the first test that it
+/// fails: `NoRoute`, `OnlyMethod`, `Malformed`. Errors: these, and refused memory as `Memory`.
 pub fn to_ask(alloc: Global, message: Message) -> Result<Asked, AskFault>
     ensures asked { IsAsked (asked_of (as_parts message)) result }
     ensures ranged { IfOk result IsInRange }

@@ -1,6 +1,6 @@
 //! What the bytes of a connection mean.
 ghost use Rattle.std.specs.Prelude.{ℕ, List};
-ghost use Rattle.http_messages.specs.Messages.{Tells, as_parts};
+ghost use Rattle.http_messages.specs.Messages.{Agrees, as_parts};
 ghost use Rattle.http_requests.specs.Asks.{asked_of};
 ghost use Rattle.http_requests.specs.Meant.{IsMeant, IsMeantBy, meant_by};
 
@@ -24,7 +24,7 @@ pub enum Meaning {
 
 /// Reads one message, and what it asks. Bytes behind it are ignored.
 pub fn read_meaning<I: ByteSource>(routes: &mut Routes, alloc: Global, incoming: &mut I) -> Meaning
-    ensures { (bytes : List ℕ) × Tells (I.brings incoming.old) bytes × IsMeant bytes result }
+    ensures { (bytes : List ℕ) × Agrees (I.brings incoming.old) bytes × IsMeant bytes result }
 {
     match read_message(alloc, incoming) {
         Reading::Message(message) => meaning_of(routes, alloc, message),

@@ -163,20 +163,20 @@ module _ (f : Facts) (new : Batch) (sound : IsSound f) (after : IsSound (with_ba
       ∙ ap (map (session_state f)) (filter_none (is_for new.name r) f.sessions
       (All-weaker (λ (s : Session). bytes_eq s.batch new.name ≡ false) (λ s. is_for new.name r s ≡ false) (λ s other. and_left (bytes_eq s.batch new.name) (bytes_eq s.rec r) other) f.sessions other_sessions))
 
-  not_told : (r : List ℕ) (names : List RecordName) → All (λ (n : RecordName). IsRecord f n.batch n.rec) names → list_any (is_record new.name r) names ≡ false
-  not_told r names each =
+  not_named : (r : List ℕ) (names : List RecordName) → All (λ (n : RecordName). IsRecord f n.batch n.rec) names → list_any (is_record new.name r) names ≡ false
+  not_named r names each =
       list_any_none (is_record new.name r) names
       (All-weaker (λ (n : RecordName). IsRecord f n.batch n.rec) (λ n. is_record new.name r n ≡ false)
       (λ n is. and_left (bytes_eq n.batch new.name) (bytes_eq n.rec r) (other_record n.batch n.rec is)) names each)
 
   no_remakes : (r : List ℕ) → remakes_of g new.name r ≡ 0
-  no_remakes r = count_by_none (is_record new.name r) f.remakes (not_told r f.remakes sound.told.remade)
+  no_remakes r = count_by_none (is_record new.name r) f.remakes (not_named r f.remakes sound.states.remade)
 
   waits : (r : List ℕ) → record_state g new.name r ≡ rec.Waiting
   unfolding record_state
   waits r =
       ap (λ states. state_by states (is_withdrawn g new.name r) (remakes_of g new.name r)) (no_states r)
-      ∙ ap (λ w. state_by [] w (remakes_of g new.name r)) (not_told r f.withdrawn sound.told.withdrawn)
+      ∙ ap (λ w. state_by [] w (remakes_of g new.name r)) (not_named r f.withdrawn sound.states.withdrawn)
       ∙ ap (state_by [] false) (no_remakes r)
 
   record_new : (id : ℕ) (r : ℕ × List ℕ) → stored_record g (id, new) r ≡ new_record id r
@@ -246,7 +246,7 @@ module _ (f : Facts) (new : Batch) (sound : IsSound f) (after : IsSound (with_ba
     open_then =
         list_any_none (bytes_eq new.name) f.closed
         (All-weaker (λ b. IsSome (batch_named f.batches b)) (λ b. bytes_eq new.name b ≡ false)
-        (λ b there. let batch = some_there (batch_named f.batches b) there in turned b new.name (other_there b batch.0 batch.1)) f.closed sound.told.closed_there)
+        (λ b there. let batch = some_there (batch_named f.batches b) there in turned b new.name (other_there b batch.0 batch.1)) f.closed sound.states.closed_there)
 
     batch_new : stored_batch g (last, new) ≡ new_batch last new.name new.product new.raw (length names)
     batch_new =

@@ -86,10 +86,10 @@ module _ (f : Facts) (sessions : List Session) (remakes withdrawn : List RecordN
 
     row_stays : (e : ℕ × Batch) (q : ℕ × List ℕ) → is_record e.1.name q.1 (named b r) ≡ false → stored_record next_facts e q ≡ stored_record f e q
     row_stays e q other =
-        let as_told = others e.1.name q.1 other in
-        let states = as_told.states in
-        let remade = as_told.remakes in
-        let state = as_told.stands in
+        let as_before = others e.1.name q.1 other in
+        let states = as_before.states in
+        let remade = as_before.remakes in
+        let state = as_before.stands in
         rw (states, remade, state) refl
 
     module _ (state : RecordState) (spoiled remade : ℕ) (state_is : record_state next_facts b r ≡ state)

@@ -26,7 +26,7 @@ use Rattle.job_facts.proofs.Lists.{count_by-at}
 use Rattle.job_facts.proofs.PlanLemmas.{plan_there}
 use Rattle.job_facts.proofs.SoundFacts.{is_for, states_are}
 use Rattle.step_laws.specs.Records.{StandsSame}
-use Rattle.step_laws.proofs.ChangeStands.{others_same, told_state, touched_stands}
+use Rattle.step_laws.proofs.ChangeStands.{others_same, state_of_named, touched_stands}
 use Rattle.step_laws.proofs.GoodCards.{for_own}
 use Rattle.step_laws.proofs.RecordStands.{named, states_around}
 use Rattle.step_laws.proofs.ReplyFacts.{new_runs}
@@ -136,15 +136,15 @@ rows_after_opening c s b r p sound keeps is =
     let g : Facts = changed f opens in
     let new : Session = new_session machine b r blank in
     let sessions : List Session = f.sessions ++ new ∷ [] in
-    let told : IsRecord f b r × (record_state f b r ≡ rec.Waiting) = told_state f b r rec.Waiting keeps.before.0 in
-    let runs = new_runs f machine b blank r sound told.0 told.1 in
+    let given : IsRecord f b r × (record_state f b r ≡ rec.Waiting) = state_of_named f b r rec.Waiting keeps.before.0 in
+    let runs = new_runs f machine b blank r sound given.0 given.1 in
     let others : (d q : List ℕ) → is_record d q (named b r) ≡ false → StandsSame f g d q = others_same f opens sound keeps.before in
     let now : record_state g b r ≡ rec.Running = touched_stands f opens sound keeps.before keeps.after (named b r) rec.Running refl refl in
     let spoiled = spoiled_stay f machine b r blank runs in
     let totals : batch_totals g b ≡ one_opened (more rec.Running (less rec.Waiting (batch_totals f b))) =
     totals_are g b ∙ ap (totals_by (record_states g b)) (sessions_of_batch f machine b r blank runs) ∙ session_opened (record_states g b) (session_states f b) []
     ∙ ap (λ ss. one_opened (totals_by (record_states g b) ss)) (append-nil (session_states f b))
-    ∙ ap one_opened (totals_pass f sessions f.remakes f.withdrawn b r sound others told.0 rec.Waiting rec.Running told.1 now (session_states f b))
+    ∙ ap one_opened (totals_pass f sessions f.remakes f.withdrawn b r sound others given.0 rec.Waiting rec.Running given.1 now (session_states f b))
     ∙ ap (λ n. one_opened (more rec.Running (less rec.Waiting n))) (sym (totals_are f b)) in
     let blank_row : stored_blank f false blank ≡ record { serial = blank; lot = s.lot; discarded = false } =
     ap (λ n. record { serial = blank; lot = n; discarded = false }) (ap name_of keeps.before.1.1 ∙ keeps.before.1.2) in
@@ -160,7 +160,7 @@ rows_after_opening c s b r p sound keeps is =
       groupings = unmoved _ _ (groupings_stay f f.remakes f.withdrawn sessions);
       sessions = subst (λ ss. IsPermutation ss (after.new_session (length f.sessions + 1) at machine blank ∷ stored_sessions f)) (sym (sessions_more f machine b r blank))
           (subst (λ row. IsPermutation (stored_sessions f ++ row ∷ []) (after.new_session (length f.sessions + 1) at machine blank ∷ stored_sessions f))
-          (sym (new_row f machine b r blank sound told.0 told.1)) (pushed (stored_sessions f) (after.new_session (length f.sessions + 1) at machine blank)));
+          (sym (new_row f machine b r blank sound given.0 given.1)) (pushed (stored_sessions f) (after.new_session (length f.sessions + 1) at machine blank)));
       words = unmoved _ _ (words_stay f machine b r blank);
       blanks = subst (λ row. IsPermutation (stored_blanks g) (row ∷ stored_blanks f)) blank_row (blank_more f machine b r blank);
       remakes = unmoved _ _ (remakes_stay f f.remakes f.withdrawn sessions refl);

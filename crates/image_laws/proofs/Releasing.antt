@@ -24,7 +24,7 @@ module _ (client : List ℕ) (upto : ℕ) where
   abbrev other_marks : List Mark → List Mark
   other_marks marks = filter (λ (m : Mark). not (has_mark client m)) marks
 
-  -- the client's mark is the new one, and each other client's is what it was
+  -- the client's release mark is the new one, and each other client's is what it was
   mark_after : (marks : List Mark) (n : List ℕ) → mark_of (with_mark marks client upto) n ≡ cond (bytes_eq client n) upto (mark_of marks n)
   mark_after [] n = elim (bytes_eq client n) as (λ b. upto_of (cond b (Some new) None) ≡ cond b upto 0) [ true ↦ refl | false ↦ refl ]
   mark_after (m ∷ marks) n =

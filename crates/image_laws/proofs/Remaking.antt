@@ -16,7 +16,7 @@ use Rattle.job_facts.specs.Facts.{Batch, Facts, RecordName, with_remake}
 use Rattle.job_facts.specs.Sound.{IsRecord, IsSound, IsSoundChange, changed}
 use Rattle.job_facts.specs.States.{batch_named, is_record, is_spoiled, plan_for, record_state, records_named, records_of, records_under, remakes_of, session_state, states_of}
 use Rattle.step_laws.specs.Records.{StandsSame}
-use Rattle.step_laws.proofs.ChangeStands.{others_same, told_state, touched_stands}
+use Rattle.step_laws.proofs.ChangeStands.{others_same, state_of_named, touched_stands}
 use Rattle.step_laws.proofs.RecordStands.{named, same_states}
 use Rattle.table_rows.specs.After.{less, more, rows_after}
 use Rattle.table_rows.specs.Tables.{HaveSameRows, StoredRemake}
@@ -46,14 +46,14 @@ batch_there products b r (x ∷ batches) there = elim (cases_Bool (has_name b x)
 -- ---- the states that stay
 
 module _ (f : Facts) (remakes withdrawn : List RecordName) where
-  abbrev told_facts : Facts
-  told_facts = record f { remakes = remakes; withdrawn = withdrawn }
+  abbrev changed_facts : Facts
+  changed_facts = record f { remakes = remakes; withdrawn = withdrawn }
 
-  pub session_states_stay : (c : List ℕ) → session_states told_facts c ≡ session_states f c
+  pub session_states_stay : (c : List ℕ) → session_states changed_facts c ≡ session_states f c
   unfolding session_states session_state plan_for
   session_states_stay c = refl
 
-  pub spoiled_stay : (b r : List ℕ) → count_by is_spoiled (states_of told_facts b r) ≡ count_by is_spoiled (states_of f b r)
+  pub spoiled_stay : (b r : List ℕ) → count_by is_spoiled (states_of changed_facts b r) ≡ count_by is_spoiled (states_of f b r)
   spoiled_stay b r = ap (count_by is_spoiled) (same_states f f.discarded remakes withdrawn f.closed b r)
 
 -- ---- one more remake
@@ -132,10 +132,10 @@ rows_after_remake c b r p sound keeps is =
     let f : Facts = c.facts in
     let remake = change.Remakes b r in
     let g : Facts = changed f remake in
-    let told : IsRecord f b r × (record_state f b r ≡ rec.Failed) = told_state f b r rec.Failed keeps.before in
+    let given : IsRecord f b r × (record_state f b r ≡ rec.Failed) = state_of_named f b r rec.Failed keeps.before in
     let others : (d q : List ℕ) → is_record d q (named b r) ≡ false → StandsSame f g d q = others_same f remake sound keeps.before in
     let now : record_state g b r ≡ rec.Waiting = touched_stands f remake sound keeps.before keeps.after (named b r) rec.Waiting refl refl in
-    let totals = counters f g.remakes f.withdrawn b r sound told.0 others rec.Failed rec.Waiting told.1 now in
+    let totals = counters f g.remakes f.withdrawn b r sound given.0 others rec.Failed rec.Waiting given.1 now in
     let at : RecordPlace = place_of f b r in
     subst (λ q. HaveSameRows (image (record c { facts = g })) (rows_after (writing.Remakes q) (image c))) (sym (is_place f b r p is))
     (record {
@@ -143,12 +143,12 @@ rows_after_remake c b r p sound keeps is =
       lots = unmoved _ _ (lots_stay f g.remakes f.withdrawn f.sessions);
       batches = unmoved _ _ (batches_set f f.sessions g.remakes f.withdrawn b r sound others (λ d other. session_states_stay f g.remakes f.withdrawn d) _ totals);
       records = unmoved _ _ (records_set f f.sessions g.remakes f.withdrawn b r sound others rec.Waiting at.spoiled (at.remakes + 1) now
-          (spoiled_stay f g.remakes f.withdrawn b r) (remade f b r sound told.0));
+          (spoiled_stay f g.remakes f.withdrawn b r) (remade f b r sound given.0));
       groupings = unmoved _ _ (groupings_stay f g.remakes f.withdrawn f.sessions);
       sessions = unmoved _ _ (sessions_stay f g.remakes f.withdrawn);
       words = unmoved _ _ (words_stay f g.remakes f.withdrawn);
       blanks = unmoved _ _ (blanks_stay f g.remakes f.withdrawn);
-      remakes = one_remake f b r sound told.0 others;
+      remakes = one_remake f b r sound given.0 others;
       replies = unmoved _ _ refl;
       marks = unmoved _ _ refl;
     })
@@ -159,10 +159,10 @@ rows_after_withdrawal c b r was p sound keeps is =
     let f : Facts = c.facts in
     let withdrawal = change.Withdraws b r was in
     let g : Facts = changed f withdrawal in
-    let told : IsRecord f b r × (record_state f b r ≡ was) = told_state f b r was keeps.before.0 in
+    let given : IsRecord f b r × (record_state f b r ≡ was) = state_of_named f b r was keeps.before.0 in
     let others : (d q : List ℕ) → is_record d q (named b r) ≡ false → StandsSame f g d q = others_same f withdrawal sound keeps.before in
     let now : record_state g b r ≡ rec.Withdrawn = touched_stands f withdrawal sound keeps.before keeps.after (named b r) rec.Withdrawn refl refl in
-    let totals = counters f f.remakes g.withdrawn b r sound told.0 others was rec.Withdrawn told.1 now in
+    let totals = counters f f.remakes g.withdrawn b r sound given.0 others was rec.Withdrawn given.1 now in
     let at : RecordPlace = place_of f b r in
     subst (λ q. HaveSameRows (image (record c { facts = g })) (rows_after (writing.Withdraws was q) (image c))) (sym (is_place f b r p is))
     (record {

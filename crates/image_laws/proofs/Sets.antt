@@ -170,10 +170,10 @@ module _ (c : Contents) (t : Tables) (sound : AreSound c) (same : HaveSameRows t
 
   closed_spread : IsPermutation (spread (λ (e : ℕ × Batch). e.1.name) (λ n. cond (is_closed f n) 1 0) (batches_by_id f)) f.closed
   closed_spread =
-      let told = sound.facts.told in
+      let given = sound.facts.states in
       spreads bytes_eq same-bytes_eq bytes_eq-same (λ (e : ℕ × Batch). e.1.name) (λ n. cond (is_closed f n) 1 0) (batches_by_id f) f.closed
-      (λ n. sym (once_or_none bytes_eq same-bytes_eq bytes_eq-same f.closed told.closed_once n))
-      (All-weaker (λ n. IsSome (batch_named f.batches n)) _ (λ n is. let there = some_there (batch_named f.batches n) is in batch_once f sound.facts n there.0 there.1) f.closed told.closed_there)
+      (λ n. sym (once_or_none bytes_eq same-bytes_eq bytes_eq-same f.closed given.closed_once n))
+      (All-weaker (λ n. IsSome (batch_named f.batches n)) _ (λ n is. let there = some_there (batch_named f.batches n) is in batch_once f sound.facts n there.0 there.1) f.closed given.closed_there)
 
   pub closed_are : IsPermutation (map (λ (b : StoredBatch). b.name) (closed_rows t.batches)) f.closed
   closed_are = let moved = IsPermutation-map (λ (b : StoredBatch). b.name) _ _ (IsPermutation-filter (λ (b : StoredBatch). b.closed) t.batches (stored_batches f) same.batches) in
@@ -192,7 +192,7 @@ module _ (c : Contents) (t : Tables) (sound : AreSound c) (same : HaveSameRows t
 
   withdrawn_so : (b r : List ℕ) → same_record_state rec.Withdrawn (record_state f b r) ≡ is_withdrawn f b r
   unfolding record_state
-  withdrawn_so b r = withdrawn_stands _ (is_withdrawn f b r) (remakes_of f b r) (sound.facts.told.records b r)
+  withdrawn_so b r = withdrawn_stands _ (is_withdrawn f b r) (remakes_of f b r) (sound.facts.states.records b r)
 
   withdrawn_named : (x : Placed) → IsPlaced f x → (same_record_state rec.Withdrawn (record_state f x.0.1.name x.1.1) ≡ gone (name_of_placed x)) × (withdrawn_of_row t (stored_record f x.0 x.1) ≡ name_of_placed x)
   withdrawn_named x at = let named : List ℕ → RecordName = λ b. record { batch = b; rec = x.1.1 } in (withdrawn_so x.0.1.name x.1.1, ap named (batch_named_so x at))
@@ -205,10 +205,10 @@ module _ (c : Contents) (t : Tables) (sound : AreSound c) (same : HaveSameRows t
 
   withdrawn_spread : IsPermutation (spread name_of_placed (λ n. cond (gone n) 1 0) (all_records f)) f.withdrawn
   withdrawn_spread =
-      let told = sound.facts.told in
+      let given = sound.facts.states in
       spreads same_record same_record-exact same_record-itself name_of_placed (λ n. cond (gone n) 1 0) (all_records f) f.withdrawn
-      (λ n. sym (once_or_none same_record same_record-exact same_record-itself f.withdrawn told.withdrawn_once n))
-      (All-weaker (λ (n : RecordName). IsRecord f n.batch n.rec) _ (λ n is. record_once f sound.facts n is) f.withdrawn told.withdrawn)
+      (λ n. sym (once_or_none same_record same_record-exact same_record-itself f.withdrawn given.withdrawn_once n))
+      (All-weaker (λ (n : RecordName). IsRecord f n.batch n.rec) _ (λ n is. record_once f sound.facts n is) f.withdrawn given.withdrawn)
 
   pub withdrawn_are : IsPermutation (map (withdrawn_of_row t) (withdrawn_rows t.records)) f.withdrawn
   withdrawn_are =
@@ -234,7 +234,7 @@ module _ (c : Contents) (t : Tables) (sound : AreSound c) (same : HaveSameRows t
   remakes_spread : IsPermutation (spread name_of_placed times (all_records f)) f.remakes
   remakes_spread =
       spreads same_record same_record-exact same_record-itself name_of_placed times (all_records f) f.remakes (λ n. refl)
-      (All-weaker (λ (n : RecordName). IsRecord f n.batch n.rec) _ (λ n is. record_once f sound.facts n is) f.remakes sound.facts.told.remade)
+      (All-weaker (λ (n : RecordName). IsRecord f n.batch n.rec) _ (λ n is. record_once f sound.facts n is) f.remakes sound.facts.states.remade)
 
   pub remakes_are : IsPermutation (map (remade_of_row t) t.remakes) f.remakes
   remakes_are =

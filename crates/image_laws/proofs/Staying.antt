@@ -1,4 +1,4 @@
--- Rows that stay, where batches, sessions and what is told of records stay.
+-- Rows that stay, where batches, sessions and what is known of records stay.
 use Rattle.std.proofs.Common.{◌≡◌, ℕ, Bool, List, All, map, Option, Some, None, refl, sym, ap, ◌∙◌, IsPermutation}
 use Rattle.std.specs.Prelude.{bytes_eq, filter, length, option_and_then, unwrap_or}
 use Rattle.std.specs.List.{enumerate_from, flat_map, list_any}
@@ -61,14 +61,14 @@ module _ (f g : Facts) (sound : IsSound f) (more : KnowsMore f g) where
       ap (λ (o : Option Plan). unwrap_or (option_and_then (λ (plan : Plan). cursor_at plan (going (commands_of plan) s.words)) o) (select_cursor 0))
       (plan_kept f g more sound s.batch is.batch is.batch_is s.rec)
 
--- ---- where batches stay, and what is told of records
+-- ---- where batches stay, and what is known of records
 
 pub record_kept : (f g : Facts) → ((b r : List ℕ) → StandsSame f g b r) → (e : ℕ × Batch) (r : ℕ × List ℕ) → stored_record g e r ≡ stored_record f e r
 record_kept f g stands e r =
-    let as_told = stands e.1.name r.1 in
-    let states = as_told.states in
-    let remakes = as_told.remakes in
-    let state = as_told.stands in
+    let as_before = stands e.1.name r.1 in
+    let states = as_before.states in
+    let remakes = as_before.remakes in
+    let state = as_before.stands in
     rw (states, remakes, state) refl
 
 module _ (f g : Facts) (sound : IsSound f) (more : KnowsMore f g)

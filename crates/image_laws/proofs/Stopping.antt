@@ -1,4 +1,4 @@
--- How a record and its batch stand once its session runs no more, and what is told of them before.
+-- How a record and its batch stand once its session runs no more, and what is known of them before.
 use Rattle.std.proofs.Common.{◌≡◌, ℕ, ◌+◌, false, List, Some, sym, ap, subst, ◌∙◌, arith}
 use Rattle.std.specs.Prelude.{count_by}
 use Rattle.std.proofs.lemmas.Option.{same_Some}
@@ -8,10 +8,10 @@ use Rattle.job_facts.specs.declared.facts.SessionState.{SessionState}
 use Rattle.job_facts.specs.declared.facts.SessionState.TheVariants as session
 use Rattle.job_facts.specs.Accounts.{batch_totals, record_states, session_states, totals_by}
 use Rattle.job_facts.specs.Facts.{Facts, Session, at_session}
-use Rattle.job_facts.specs.Sound.{IsRecord, IsSound, TellsBefore, changed}
+use Rattle.job_facts.specs.Sound.{HoldsBefore, IsRecord, IsSound, changed}
 use Rattle.job_facts.specs.States.{is_record, is_spoiled, record_state, session_numbered, session_state, states_of}
 use Rattle.job_facts.proofs.Lists.{count_by-at}
-use Rattle.step_laws.specs.Records.{StandsSame, is_told, record_of_session, touches}
+use Rattle.step_laws.specs.Records.{StandsSame, is_that_record, record_of_session, touches}
 use Rattle.step_laws.proofs.ChangeStands.{others_same, record_of_there}
 use Rattle.step_laws.proofs.Numbered.{session_sound}
 use Rattle.step_laws.proofs.RecordStands.{named}
@@ -87,11 +87,11 @@ module _ (f : Facts) (s : ℕ) (x : Session) (change : Session → Session) (the
 
 -- it is the session's record
 module _ (f : Facts) (s : ℕ) (x : Session) (there : session_numbered f.sessions s ≡ Some x) where
-  pub other_records : (change : Change) → touches f change ≡ record_of_session f s → IsSound f → TellsBefore f change
+  pub other_records : (change : Change) → touches f change ≡ record_of_session f s → IsSound f → HoldsBefore f change
       → (c q : List ℕ) → is_record c q (named x.batch x.rec) ≡ false → StandsSame f (changed f change) c q
-  other_records change own sound tells c q other = others_same f change sound tells c q (ap (is_told c q) (own ∙ record_of_there f s x there) ∙ other)
+  other_records change own sound holds_before c q other = others_same f change sound holds_before c q (ap (is_that_record c q) (own ∙ record_of_there f s x there) ∙ other)
 
   pub own_place : (p : RecordPlace) → IsPlaceOfSession f s p → p ≡ place_of f x.batch x.rec
-  own_place p told =
-      let same : told.0 ≡ x = same_Some told.0 x (sym told.1 ∙ there) in
-      is_place f x.batch x.rec p (subst (λ (z : Session). IsPlaceOf f z.batch z.rec p) same told.2)
+  own_place p given =
+      let same : given.0 ≡ x = same_Some given.0 x (sym given.1 ∙ there) in
+      is_place f x.batch x.rec p (subst (λ (z : Session). IsPlaceOf f z.batch z.rec p) same given.2)

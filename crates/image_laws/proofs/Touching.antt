@@ -1,4 +1,4 @@
--- What is told of a record that a change touches, and the rows that no such change moves.
+-- What is known of a record that a change touches, and the rows that no such change moves.
 use Rattle.std.proofs.Common.{◌≡◌, ℕ, List, refl, ap, ◌∙◌}
 use Rattle.std.specs.Prelude.{count_by}
 use Rattle.job_facts.specs.Accounts.{batch_totals}
@@ -8,7 +8,7 @@ use Rattle.table_rows.specs.declared.writing.RecordPlace.{RecordPlace}
 use Rattle.image_laws.specs.WritingOf.{IsPlaceOf}
 use Rattle.image_laws.specs.Image.{batch_id, place_in, stored_blanks, stored_groupings, stored_lots, stored_remakes, stored_sessions, stored_words}
 
--- ---- what is told of the record
+-- ---- what is known of the record
 
 abbrev pub place_of : Facts → List ℕ → List ℕ → RecordPlace
 place_of f b r = record {

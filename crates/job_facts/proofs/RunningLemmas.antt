@@ -120,9 +120,9 @@ module _ (f : Facts) (s sw : ℕ) (x : Session) (plan : Plan) (b r : List ℕ) (
   row_after : session_row_of g s ≡ Some (session_row g y)
   row_after = ap (option_map (session_row g)) (word_after f s sw x is.there)
 
-  makes : (told : reply.the_data) (stands : SessionState) (c : Cursor) → (take_word f s k sw x).1 ≡ told → session_state g y ≡ stands → session_cursor g y ≡ c
-      → Makes f (take_word f s k sw x) told (change.AddsWord (word_at s k sw c) b r stands)
-  makes told stands c same is_state is_cursor = record {
+  makes : (sound_states : reply.the_data) (stands : SessionState) (c : Cursor) → (take_word f s k sw x).1 ≡ sound_states → session_state g y ≡ stands → session_cursor g y ≡ c
+      → Makes f (take_word f s k sw x) sound_states (change.AddsWord (word_at s k sw c) b r stands)
+  makes sound_states stands c same is_state is_cursor = record {
     step_is = ap (λ r. (g, r)) same;
     keeps = record { before = (x, is.there, is.runs, refl, of_batch, of_record); sound = sound_word f s sw x sound is.there is.runs small; after = (session_row g y, row_after, is_state, is_cursor) };
   }

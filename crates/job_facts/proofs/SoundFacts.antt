@@ -23,7 +23,7 @@ use Rattle.job_facts.specs.declared.facts.SessionState.{SessionState}
 use Rattle.job_facts.specs.declared.facts.RecordState.TheVariants.{Failed, Waiting}
 use Rattle.job_facts.specs.Facts.{Batch, Facts, RecordName, Session, no_facts, with_batch, with_close, with_discard, with_lot, with_product, with_remake, with_withdrawal}
 use Rattle.job_facts.specs.States.{any_overlaps, batch_named, commands_for, commands_under, is_batch_finished, is_charged, is_closed, is_finished, is_in, is_record, is_running, is_spoiled, is_withdrawn, lot_named, lot_of, overlaps, plan_for, product_named, record_state, record_state_of, records_named, records_of, records_under, remakes_of, rows_of, rows_of_record, rows_under, session_state, state_by, state_with, states_of}
-use Rattle.job_facts.specs.Sound.{AreApart, AreBatches, AreLots, AreProducts, AreSessions, AreTold, AreWords, IsBatch, IsLot, IsName, IsRecord, IsSession, IsSound, IsSoundRecord, charges, has_card, runs_on}
+use Rattle.job_facts.specs.Sound.{AreApart, AreBatches, AreLots, AreProducts, AreSessions, AreStates, AreWords, IsBatch, IsLot, IsName, IsRecord, IsSession, IsSound, IsSoundRecord, charges, has_card, runs_on}
 use Rattle.job_facts.proofs.Lists.{count_by_same, find-All, find_kept, list_all_same, map_same, named_once_push}
 use Rattle.job_facts.proofs.RecordLemmas.{open_parts}
 
@@ -67,19 +67,19 @@ unfolding states_of
 states_are f b r = refl
 
 -- a record among the sessions that are there
-records_among : (f : Facts) (b r : List ℕ) → AreTold f → IsSoundRecord (states_among f f.sessions b r) (is_withdrawn f b r) (remakes_of f b r)
+records_among : (f : Facts) (b r : List ℕ) → AreStates f → IsSoundRecord (states_among f f.sessions b r) (is_withdrawn f b r) (remakes_of f b r)
 unfolding states_of
-records_among f b r told = told.records b r
+records_among f b r sound_states = sound_states.records b r
 
--- as much is told of the record
-abbrev TellsSame : Facts → Facts → List ℕ → List ℕ → Type 0
-TellsSame f g b r = (states_among f g.sessions b r ≡ states_of f b r) × (is_withdrawn g b r ≡ is_withdrawn f b r) × (remakes_of g b r ≡ remakes_of f b r)
+-- as much is known of the record
+abbrev HasSameStates : Facts → Facts → List ℕ → List ℕ → Type 0
+HasSameStates f g b r = (states_among f g.sessions b r ≡ states_of f b r) × (is_withdrawn g b r ≡ is_withdrawn f b r) × (remakes_of g b r ≡ remakes_of f b r)
 
--- a finished batch, of whose records as much is told
+-- a finished batch, of whose records as much is known
 pub record StaysFinished (f g : Facts) (b : List ℕ) : Type 0 where
   pub there : IsSome (batch_named f.batches b)
   pub finished : IsTrue (is_batch_finished f b)
-  pub same : (r : List ℕ) → TellsSame f g b r
+  pub same : (r : List ℕ) → HasSameStates f g b r
 
 module _ (f g : Facts) (grows : Grows f g) (sound : IsSound f) where
   -- ---- batches
@@ -168,7 +168,7 @@ module _ (f g : Facts) (grows : Grows f g) (sound : IsSound f) where
           (λ blank. IsSome_kept (lot_of f.lots blank) (lot_of g.lots blank) (grows.lots blank)) (charges g) lots;
     }
 
-    -- ---- what is told
+    -- ---- what is known
 
     states_kept : (b r : List ℕ) → states_of g b r ≡ states_among f g.sessions b r
     states_kept b r =
@@ -177,8 +177,8 @@ module _ (f g : Facts) (grows : Grows f g) (sound : IsSound f) where
         (All-filter (is_for b r) (λ s. session_state g s ≡ session_state f s) g.sessions
         (All-weaker (IsSession f) (λ s. session_state g s ≡ session_state f s) state_kept g.sessions each))
 
-    -- a record stands as before, where as much is told of it
-    record_state_kept : (b r : List ℕ) → TellsSame f g b r → record_state g b r ≡ record_state f b r
+    -- a record stands as before, where as much is known of it
+    record_state_kept : (b r : List ℕ) → HasSameStates f g b r → record_state g b r ≡ record_state f b r
     unfolding record_state
     record_state_kept b r same =
         ap (λ states. state_by states (is_withdrawn g b r) (remakes_of g b r)) (states_kept b r ∙ same.0)
@@ -194,14 +194,14 @@ module _ (f g : Facts) (grows : Grows f g) (sound : IsSound f) where
         (λ k d within. ap is_finished (record_state_kept b _ (stays.same _)))
         ∙ stays.finished
 
-    told_after : ((b r : List ℕ) → IsSoundRecord (states_among f g.sessions b r) (is_withdrawn g b r) (remakes_of g b r))
+    are_states_after : ((b r : List ℕ) → IsSoundRecord (states_among f g.sessions b r) (is_withdrawn g b r) (remakes_of g b r))
         → All (λ (n : RecordName). IsRecord f n.batch n.rec) g.remakes
         → All (λ (n : RecordName). IsRecord f n.batch n.rec) g.withdrawn
         → AllPairs (λ (m n : RecordName). is_record n.batch n.rec m ≡ false) g.withdrawn
         → AllPairs (λ b c. bytes_eq c b ≡ false) g.closed
         → All (StaysFinished f g) g.closed
-        → AreTold g
-    told_after records remade withdrawn withdrawn_once closed_once closed = record {
+        → AreStates g
+    are_states_after records remade withdrawn withdrawn_once closed_once closed = record {
       records = λ b r. subst (λ states. IsSoundRecord states (is_withdrawn g b r) (remakes_of g b r)) (sym (states_kept b r)) (records b r);
       remade = named_kept g.remakes remade;
       withdrawn = named_kept g.withdrawn withdrawn;
@@ -227,7 +227,7 @@ sound_nothing = record {
     charged_once = λ i j d before within. absurd (omega arith);
     charged_lots = All-nil (λ blank. IsSome (lot_of [] blank));
   };
-  told = record {
+  states = record {
     records = λ b r. record { one_card = omega arith; remade_least = omega arith; remade_most = omega arith; remade_all = λ card. refl; withdrawn_none = λ withdrawn. refl };
     remade = All-nil (λ (n : RecordName). IsRecord no_facts n.batch n.rec);
     withdrawn = All-nil (λ (n : RecordName). IsRecord no_facts n.batch n.rec);
@@ -248,8 +248,8 @@ module _ (f : Facts) (products : List Product) (lots : List Lot) (batches : List
   sound_grown grows sound are_products are_lots are_batches = record {
     named = record { products = are_products; lots = are_lots; batches = are_batches };
     sessions = sessions_after f grown grows sound sound.sessions.each sound.sessions.machines sound.sessions.charged_once sound.sessions.charged_lots;
-    told = told_after f grown grows sound sound.sessions.each (λ b r. records_among f b r sound.told) sound.told.remade sound.told.withdrawn sound.told.withdrawn_once sound.told.closed_once
-        (λ k d within. record { there = sound.told.closed_there k d within; finished = sound.told.closed k d within; same = λ r. (sym (states_are f _ r), refl, refl) });
+    states = are_states_after f grown grows sound sound.sessions.each (λ b r. records_among f b r sound.states) sound.states.remade sound.states.withdrawn sound.states.withdrawn_once sound.states.closed_once
+        (λ k d within. record { there = sound.states.closed_there k d within; finished = sound.states.closed k d within; same = λ r. (sym (states_are f _ r), refl, refl) });
   }
 
 pub sound_product : (f : Facts) (p : Product) → IsSound f → product_named f.products p.code ≡ None → length f.products < 256 → IsProduct p
@@ -316,7 +316,7 @@ sound_batch f b p rows sound new there read ranged few named =
       each = All-push (IsBatch f.products) f.batches b sound.named.batches.each is;
     })
 
--- ---- more told of the blanks, records and batches that are there
+-- ---- more known of the blanks, records and batches that are there
 
 module _ (f : Facts) (sessions : List Session) (discarded : List ℕ) (remakes withdrawn : List RecordName) (closed : List (List ℕ)) where
   abbrev then : Facts
@@ -340,12 +340,12 @@ module _ (f : Facts) (sessions : List Session) (discarded : List ℕ) (remakes w
       record {
         named = record { products = sound.named.products; lots = sound.named.lots; batches = sound.named.batches };
         sessions = sessions_after f then grows sound each machines once lots;
-        told = told_after f then grows sound each records remade withdrawn withdrawn_once closed_once stay;
+        states = are_states_after f then grows sound each records remade withdrawn withdrawn_once closed_once stay;
       }
 
--- closed batches stay finished, where as much is told of their records
-pub still_finished : (f g : Facts) → AreTold f → All (λ b. (r : List ℕ) → TellsSame f g b r) f.closed → All (StaysFinished f g) f.closed
-still_finished f g told same = λ k d within. record { there = told.closed_there k d within; finished = told.closed k d within; same = same k d within }
+-- closed batches stay finished, where as much is known of their records
+pub still_finished : (f g : Facts) → AreStates f → All (λ b. (r : List ℕ) → HasSameStates f g b r) f.closed → All (StaysFinished f g) f.closed
+still_finished f g sound_states same = λ k d within. record { there = sound_states.closed_there k d within; finished = sound_states.closed k d within; same = same k d within }
 
 -- ---- a blank out of use
 
@@ -368,8 +368,8 @@ sound_discard f blank l sound there new =
     (subst (AllPairs (λ a b. a ≢ b)) (sym one_more) (all_pairs_push (λ a b. a ≢ b) (charges f) blank sound.sessions.charged_once (uncharged f blank new)))
     (All-same (λ b. IsSome (lot_of f.lots b)) (charges g) (charges f ++ blank ∷ []) one_more
     (All-push (λ b. IsSome (lot_of f.lots b)) (charges f) blank sound.sessions.charged_lots (IsSome-Some (lot_of f.lots blank) l there)))
-    (λ b r. records_among f b r sound.told) sound.told.remade sound.told.withdrawn sound.told.withdrawn_once sound.told.closed_once
-    (still_finished f g sound.told (λ k d within r. (sym (states_are f _ r), refl, refl)))
+    (λ b r. records_among f b r sound.states) sound.states.remade sound.states.withdrawn sound.states.withdrawn_once sound.states.closed_once
+    (still_finished f g sound.states (λ k d within r. (sym (states_are f _ r), refl, refl)))
 
 -- ---- a closed batch
 
@@ -377,11 +377,11 @@ pub sound_close : (f : Facts) (b : List ℕ) (batch : Batch) → IsSound f → i
     → is_batch_finished f b ≡ true → IsSound (with_close f b)
 sound_close f b batch sound new there finished =
     let g : Facts = with_close f b in
-    let same : (c r : List ℕ) → TellsSame f g c r = λ c r. (sym (states_are f c r), refl, refl) in
+    let same : (c r : List ℕ) → HasSameStates f g c r = λ c r. (sym (states_are f c r), refl, refl) in
     sound_then f f.sessions f.discarded f.remakes f.withdrawn g.closed sound sound.sessions.each sound.sessions.machines sound.sessions.charged_once sound.sessions.charged_lots
-    (λ b r. records_among f b r sound.told) sound.told.remade sound.told.withdrawn sound.told.withdrawn_once
-    (all_pairs_push (λ c d. bytes_eq d c ≡ false) f.closed b sound.told.closed_once (All-from_list_any (bytes_eq b) f.closed new))
-    (All-push (StaysFinished f g) f.closed b (still_finished f g sound.told (λ k d within. same _))
+    (λ b r. records_among f b r sound.states) sound.states.remade sound.states.withdrawn sound.states.withdrawn_once
+    (all_pairs_push (λ c d. bytes_eq d c ≡ false) f.closed b sound.states.closed_once (All-from_list_any (bytes_eq b) f.closed new))
+    (All-push (StaysFinished f g) f.closed b (still_finished f g sound.states (λ k d within. same _))
     (record { there = IsSome-Some (batch_named f.batches b) batch there; finished = finished; same = same b }))
 
 -- ---- a record remade or withdrawn
@@ -396,9 +396,9 @@ record IsOpen (f : Facts) (b r : List ℕ) (failed : Bool) : Type 0 where
 is_open : (f : Facts) (b r : List ℕ) (failed : Bool) → record_state_of f b r ≡ Some (cond failed Failed Waiting) → IsOpen f b r failed
 unfolding record_state_of record_state
 is_open f b r failed stands =
-    let told = cond_some (list_any (bytes_eq r) (records_named f b)) (record_state f b r) (cond failed Failed Waiting) stands in
-    let parts = open_parts (states_of f b r) (is_withdrawn f b r) (remakes_of f b r) failed told.1 in
-    record { there = told.0; no_card = parts.0; stays = parts.1; more = parts.2 }
+    let sound_states = cond_some (list_any (bytes_eq r) (records_named f b)) (record_state f b r) (cond failed Failed Waiting) stands in
+    let parts = open_parts (states_of f b r) (is_withdrawn f b r) (remakes_of f b r) failed sound_states.1 in
+    record { there = sound_states.0; no_card = parts.0; stays = parts.1; more = parts.2 }
 
 -- one more record among names, as a test of names sees it
 is_record-other : (b r c q : List ℕ) → bytes_eq b c ≡ false → is_record c q (record { batch = b; rec = r }) ≡ false
@@ -433,7 +433,7 @@ module _ (f : Facts) (b r : List ℕ) (sound : IsSound f) (unclosed : is_closed 
 
   remade_record : IsOpen f b r true → IsSoundRecord (states_of f b r) (is_withdrawn f b r) (remakes_of f b r + 1)
   remade_record is =
-      let was = sound.told.records b r in
+      let was = sound.states.records b r in
       let more = ltb-true (remakes_of f b r) (count_by is_spoiled (states_of f b r)) is.more in
       record {
         one_card = was.one_card;
@@ -450,12 +450,12 @@ module _ (f : Facts) (b r : List ℕ) (sound : IsSound f) (unclosed : is_closed 
         subst (IsSoundRecord (states_of f c q) (is_withdrawn f c q)) (sym (remakes-same f b r c q hit))
         (subst (λ m. IsSoundRecord (states_of f m q) (is_withdrawn f m q) (remakes_of f m q + 1)) same.0
         (subst (λ m. IsSoundRecord (states_of f b m) (is_withdrawn f b m) (remakes_of f b m + 1)) same.1 (remade_record is)))
-    | inr miss ↦ subst (IsSoundRecord (states_of f c q) (is_withdrawn f c q)) (sym (remakes-other f b r c q miss)) (sound.told.records c q)
+    | inr miss ↦ subst (IsSoundRecord (states_of f c q) (is_withdrawn f c q)) (sym (remakes-other f b r c q miss)) (sound.states.records c q)
   ]
 
   withdrawn_record : (w : Bool) → list_any has_card (states_of f b r) ≡ false → IsSoundRecord (states_of f b r) w (remakes_of f b r)
   withdrawn_record w none =
-      let was = sound.told.records b r in
+      let was = sound.states.records b r in
       record { one_card = was.one_card; remade_least = was.remade_least; remade_most = was.remade_most; remade_all = was.remade_all; withdrawn_none = λ withdrawn. none }
 
   withdrawal_records : list_any has_card (states_of f b r) ≡ false → (c q : List ℕ)
@@ -466,7 +466,7 @@ module _ (f : Facts) (b r : List ℕ) (sound : IsSound f) (unclosed : is_closed 
         let w : Bool = is_withdrawn (with_withdrawal f b r) c q in
         subst (λ m. IsSoundRecord (states_of f m q) w (remakes_of f m q)) same.0
         (subst (λ m. IsSoundRecord (states_of f b m) w (remakes_of f b m)) same.1 (withdrawn_record w none))
-    | inr miss ↦ subst (λ w. IsSoundRecord (states_of f c q) w (remakes_of f c q)) (sym (withdrawn-other f b r c q miss)) (sound.told.records c q)
+    | inr miss ↦ subst (λ w. IsSoundRecord (states_of f c q) w (remakes_of f c q)) (sym (withdrawn-other f b r c q miss)) (sound.states.records c q)
   ]
 
 pub sound_remake : (f : Facts) (b r : List ℕ) → IsSound f → is_closed f b ≡ false → record_state_of f b r ≡ Some Failed → IsSound (with_remake f b r)
@@ -476,9 +476,9 @@ sound_remake f b r sound unclosed stands =
     let is = is_open f b r true stands in
     sound_then f f.sessions f.discarded g.remakes f.withdrawn f.closed sound sound.sessions.each sound.sessions.machines sound.sessions.charged_once sound.sessions.charged_lots
     (remake_records f b r sound unclosed is)
-    (All-push (λ (n : RecordName). IsRecord f n.batch n.rec) f.remakes (record { batch = b; rec = r }) sound.told.remade is.there)
-    sound.told.withdrawn sound.told.withdrawn_once sound.told.closed_once
-    (still_finished f g sound.told (λ k d within q. (refl, refl, remakes-other f b r _ q (is_record-other b r _ q (closed_other f b r sound unclosed k d within)))))
+    (All-push (λ (n : RecordName). IsRecord f n.batch n.rec) f.remakes (record { batch = b; rec = r }) sound.states.remade is.there)
+    sound.states.withdrawn sound.states.withdrawn_once sound.states.closed_once
+    (still_finished f g sound.states (λ k d within q. (refl, refl, remakes-other f b r _ q (is_record-other b r _ q (closed_other f b r sound unclosed k d within)))))
 
 -- a record that failed, or waits, is withdrawn
 pub sound_withdraw : (f : Facts) (b r : List ℕ) (failed : Bool) → IsSound f → is_closed f b ≡ false
@@ -488,8 +488,8 @@ sound_withdraw f b r failed sound unclosed stands =
     let g : Facts = with_withdrawal f b r in
     let is = is_open f b r failed stands in
     sound_then f f.sessions f.discarded f.remakes g.withdrawn f.closed sound sound.sessions.each sound.sessions.machines sound.sessions.charged_once sound.sessions.charged_lots
-    (withdrawal_records f b r sound unclosed is.no_card) sound.told.remade
-    (All-push (λ (n : RecordName). IsRecord f n.batch n.rec) f.withdrawn (record { batch = b; rec = r }) sound.told.withdrawn is.there)
-    (all_pairs_push (λ (m n : RecordName). is_record n.batch n.rec m ≡ false) f.withdrawn (record { batch = b; rec = r }) sound.told.withdrawn_once (All-from_list_any (is_record b r) f.withdrawn is.stays))
-    sound.told.closed_once
-    (still_finished f g sound.told (λ k d within q. (refl, withdrawn-other f b r _ q (is_record-other b r _ q (closed_other f b r sound unclosed k d within)), refl)))
+    (withdrawal_records f b r sound unclosed is.no_card) sound.states.remade
+    (All-push (λ (n : RecordName). IsRecord f n.batch n.rec) f.withdrawn (record { batch = b; rec = r }) sound.states.withdrawn is.there)
+    (all_pairs_push (λ (m n : RecordName). is_record n.batch n.rec m ≡ false) f.withdrawn (record { batch = b; rec = r }) sound.states.withdrawn_once (All-from_list_any (is_record b r) f.withdrawn is.stays))
+    sound.states.closed_once
+    (still_finished f g sound.states (λ k d within q. (refl, withdrawn-other f b r _ q (is_record-other b r _ q (closed_other f b r sound unclosed k d within)), refl)))

@@ -50,11 +50,11 @@ has_mark client m = bytes_eq m.client client
 abbrev pub mark_of : List Mark → List ℕ → ℕ
 mark_of marks client = unwrap_or (option_map (λ (m : Mark). m.upto) (find (has_mark client) marks)) 0
 
--- the client's mark is this one now
+-- the client's release mark is this one now
 abbrev pub with_mark : List Mark → List ℕ → ℕ → List Mark
 with_mark marks client upto = filter (λ (m : Mark). not (has_mark client m)) marks ++ record { client = client; upto = upto } ∷ []
 
--- its number is above its client's mark
+-- its number is above its client's release mark
 abbrev pub is_above : List Mark → Entry → Bool
 is_above marks e = nat_lt (mark_of marks e.client) e.number
 

@@ -36,7 +36,7 @@ refusals =
 unfoldable pub refusal_of : ℕ → Option Refusal
 refusal_of n = find (λ why. code_of why == n) refusals
 
--- the name that replies tell it by
+-- the name that it has in replies
 abbrev pub name_of : Refusal → List ℕ
 name_of ProductDiffers = codes "product-differs"
 name_of ProductUnknown = codes "product-unknown"

@@ -4,7 +4,7 @@ use Rattle.job_facts.specs.Contents.{Contents}
 use Rattle.job_facts.specs.Store.{State, IsHonest}
 use Rattle.job_facts.specs.declared.server_store.FaultCounts.{FaultCounts}
 
--- it has told no fault yet
+-- it has reported no fault yet
 abbrev pub IsAnew : State → Type 0
 IsAnew new = (new.failed ≡ 0) × (new.full ≡ 0)
 

@@ -60,7 +60,7 @@ abbrev pub full_after : {T : Type 0} → Result T StoreFault → ℕ → ℕ
 full_after (Ok x) n = n
 full_after (Err fault) n = full_by fault n
 
--- a fault of the device is told where its count goes up, and nowhere else
+-- a fault of the device is reported where its count goes up, and nowhere else
 pub record CountsFaults {T : Type 0} (old new : State) (result : Result T StoreFault) : Type 0 where
   pub failed : new.failed ≡ failed_after result old.failed
   pub full : new.full ≡ full_after result old.full

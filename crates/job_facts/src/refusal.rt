@@ -6,10 +6,10 @@ ghost use Rattle.job_facts.specs.declared.refusal.Refusal.{Refusal as RefusalVal
 use std::error::Error;
 use std::fmt;
 
-/// The number of the refusal that tells a machine's running session, machine-busy.
+/// The number of the refusal that names a machine's running session, machine-busy.
 pub const MACHINE_BUSY: u8 = 61;
 
-/// The number of the refusal that tells a client's mark, number-released.
+/// The number of the refusal that names a client's release mark, number-released.
 pub const NUMBER_RELEASED: u8 = 73;
 
 /// Why a request is refused (this project's profile).
@@ -62,8 +62,7 @@ pub enum Refusal {
 }
 
 impl Refusal {
-    /// The refusal's number, 51 to 74 but 61, which tells a session, and 73, which tells a
-    /// mark.
+    /// The refusal's number, 51 to 74 but 61, which names a session, and 73, which names a mark.
     pub fn code(self) -> u8
         ensures { result ≡ code_of self }
     {
@@ -104,7 +103,7 @@ impl Refusal {
         }
     }
 
-    /// The name that replies tell it by (this project's profile).
+    /// The name that it has in replies (this project's profile).
     pub fn name(self) -> &'static str
         ensures { result.now ≡ name_of self }
     {

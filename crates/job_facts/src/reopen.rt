@@ -6,6 +6,7 @@ use std::alloc::Global;
 pub trait Reopen: JobStore {
     ghost use Rattle.std.specs.Prelude.{IfOk};
     ghost use Rattle.job_facts.specs.Reopening.{IsAnew, Reopens};
+    ghost use Rattle.job_facts.specs.Store.{IsHonest};
 
     /// That no fault has shut it.
     ghost usable: { Self → Type 0 };
@@ -15,5 +16,6 @@ pub trait Reopen: JobStore {
     fn reopen(self, alloc: Global) -> Result<Self, StoreFault>
         ensures anew { IfOk result (λ again. IsAnew (Self.state again)) }
         ensures holds { IfOk result
-            (λ again. usable self → Reopens (Self.state self) (Self.state again)) };
+            (λ again. usable self → Reopens (Self.state self) (Self.state again)) }
+        ensures open { IfOk result (λ again. IsHonest (Self.state again) → usable again) };
 }

@@ -245,6 +245,7 @@ pub trait JobStore {
         body: &[u8],
         change: &Change<'_>,
     ) -> Result<(), StoreFault>
+        requires most { number < 10 ^ 18 }
         ensures all_or_nothing { let entry : Entry = record {
           client = client.now;
           number = number;
@@ -256,8 +257,8 @@ pub trait JobStore {
             (λ c. committed c change.now entry) }
         ensures faults { CountsFaults (state self.old) (state self.new) result };
 
-    /// Keeps a reply, sets the client's mark and drops its replies up to the mark together, or
-    /// does nothing.
+    /// Keeps a reply, sets the client's release mark and drops its replies up to the mark together,
+    /// or does nothing.
     fn release(
         &mut self,
         client: &Name,
@@ -267,6 +268,7 @@ pub trait JobStore {
         body: &[u8],
         mark: u64,
     ) -> Result<(), StoreFault>
+        requires most { number < 10 ^ 18 }
         ensures all_or_nothing { let entry : Entry = record {
           client = client.now;
           number = number;

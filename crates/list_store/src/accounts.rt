@@ -204,8 +204,8 @@ fn count_lots(lots: &[Lot], product: &Name) -> u64
     lots.iter().filter(|lot| lot.product == *product).count() as u64
 }
 
-// How many blanks a product's lots have. A sum past 64 bits is told as refused memory: sound facts
-// have none.
+// How many blanks a product's lots have. A sum past 64 bits is reported as refused memory: sound
+// facts have none.
 fn sum_lots(lots: &[Lot], product: &Name) -> Result<u64, StoreFault>
     ensures value { IfOk result
         (λ total. total ≡ sum_by (λ (l : LotValue). l.count) (lots_for lots.now product.now)) }

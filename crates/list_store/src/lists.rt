@@ -27,7 +27,8 @@ impl Model for KnownProduct {
 }
 
 impl KnownProduct {
-    /// A product in its ranges. One out of them is told as refused memory: sound facts have none.
+    /// A product in its ranges. One out of them is reported as refused memory: sound facts have
+    /// none.
     pub(crate) fn new(product: Product) -> Result<KnownProduct, StoreFault>
         ensures value { IfOk result (λ known. known ≡ product) }
         ensures there { IsProduct product → result ≡ Ok product }

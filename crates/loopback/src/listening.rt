@@ -47,7 +47,7 @@ impl<'a, R: Net + Clock> Loopback<'a, R> {
     }
 }
 
-// What is told of an error once it came so often.
+// What is reported of an error once it came so often.
 fn fault_of(error: io::Error) -> NextFault
     ensures { result ≡ fault_of (error_kind error) }
 {

@@ -76,7 +76,8 @@ impl<'a, R: Net + Clock> PeerWriter<'a, R> {
     fn write_and_keep(&mut self, buf: &[u8]) -> io::Result<usize>
         ensures count { WritesAtMost result buf.now }
         ensures start { MatchResult result
-            (λ n. kept_of self.new.start ≡ start_of_reply (kept_of self.old.start ++ take n buf.now))
+            (λ n. kept_of self.new.start
+            ≡ start_of_reply (kept_of self.old.start ++ take n buf.now))
             (λ _. kept_of self.new.start ≡ kept_of self.old.start) }
     {
         let count = self.stream.write_in_time(buf)?;

@@ -1,4 +1,4 @@
--- What is told of a fault of a store, or of a read, for why a file is not taken (this project's
+-- What is reported of a fault of a store, or of a read, for why a file is not taken (this project's
 -- profile).
 use Rattle.std.specs.Prelude.{Option, None, Some, Result, Ok, Err}
 use Rattle.sqlite.specs.declared.error.Error.{Error}
@@ -17,7 +17,7 @@ of_store store.Memory = Memory
 of_store store.Device = Storage
 of_store store.Full = Storage
 
--- once its tables were seen, nothing else than memory and the device is told of it
+-- once its tables were seen, nothing else than memory and the device is reported of it
 abbrev pub of_later : Error → FileFault
 of_later (SqliteFailure code.OutOfMemory) = Memory
 of_later _ = Storage

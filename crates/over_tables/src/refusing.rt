@@ -14,8 +14,8 @@ use schema::OpenFault;
 use sqlite::{Alter, Connection, Error};
 use std::alloc::Global;
 
-// What is told of tables that were not ours, by how they differ now. A device that gives ours now
-// has failed.
+// What is reported of tables that were not ours, by how they differ now. A device that gives ours
+// now has failed.
 fn of_difference(found: Result<Option<Difference>, Error>) -> FileFault
     ensures { result ≡ of_difference found }
 {
@@ -28,7 +28,7 @@ fn of_difference(found: Result<Option<Difference>, Error>) -> FileFault
     }
 }
 
-// What is told of rows that were not those of sound contents, by what is wrong with them now. A
+// What is reported of rows that were not those of sound contents, by what is wrong with them now. A
 // device that gives such rows now has failed.
 fn of_damage(found: Result<Option<Damage>, Error>) -> FileFault
     ensures { result ≡ of_damage found }

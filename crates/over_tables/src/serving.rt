@@ -11,7 +11,7 @@ ghost use Rattle.server.specs.ServerLines.{WritesLines};
 
 use event_lines::EventLog;
 use schema::SqlStore;
-use server::{Connections, Opened, ServeStop, serve_and_tell};
+use server::{Connections, Opened, ServeStop, serve_and_report};
 use sqlite::FileStore;
 use sqlite_disk::Disk;
 use std::alloc::Global;
@@ -41,7 +41,7 @@ pub fn serve_over_tables<D: Disk + Drop, C: Connections, W: Write, E: Write + Dr
         (stands_for over_files s) (is_some (C.queue connections.old)) opened.now es result
         events.old.level (E.contents events.old.writer) (E.contents events.new.writer) }
 {
-    serve_and_tell(
+    serve_and_report(
         alloc,
         store,
         connections,

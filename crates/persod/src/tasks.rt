@@ -100,7 +100,8 @@ impl StoreTask for ReportTask<'_> {
 }
 
 /// Feeds a machine with the cards of standard input, by the server at a port of 127.0.0.1. What is
-/// printed goes to standard output at once, so that a machine that loses power has told its cards.
+/// printed goes to standard output at once, so that a machine that loses power has printed its
+/// cards.
 pub fn feed<E: Write + Drop>(
     rt: &HostRuntime,
     port: u16,

@@ -10,7 +10,7 @@ use Rattle.store_data.specs.declared.row.Row.{Row}
 use Rattle.store_data.proofs.FaultLemmas.{grouped_each}
 use Rattle.store_data.proofs.IsPlanLemmas.{All-grouped}
 use Rattle.batch_import.specs.Outlines.{AreBatchRows}
-use Rattle.text_io.specs.Inputs.{Tells}
+use Rattle.text_io.specs.Inputs.{Agrees}
 
 -- ---- hexadecimal
 
@@ -32,9 +32,9 @@ hex_more start bytes text first second i b high low inside is so_far of_high of_
 
 -- ---- input
 
-pub tells_some : (known : Option (List ℕ)) → Tells known (unwrap_or known [])
-tells_some None = tt
-tells_some (Some all) = refl
+pub agrees_some : (known : Option (List ℕ)) → Agrees known (unwrap_or known [])
+agrees_some None = tt
+agrees_some (Some all) = refl
 
 -- ---- records
 

@@ -3,7 +3,7 @@ ghost use Rattle.std.specs.Prelude.{◌≡◌, ℕ, List, All, None, map, IfOk};
 ghost use Rattle.std.specs.List.{flat_map};
 ghost use Rattle.store_data.specs.RecordFaults.{record_fault};
 ghost use Rattle.store_data.specs.Sequence.{AreRows, IsProduct};
-ghost use Rattle.text_io.specs.Inputs.{Tells};
+ghost use Rattle.text_io.specs.Inputs.{Agrees};
 ghost use Rattle.text_io.specs.Written.{Writes};
 ghost use Rattle.plan_print.specs.PlanEnds.{GroupsBatch, PlanEnds, ReadsInput, within};
 ghost use Rattle.plan_print.specs.Printed.{planned_of, text_of};
@@ -88,7 +88,7 @@ pub fn plan_engine<R: Read, W: Write>(
     writer: &mut W,
 ) -> Result<(), PlanStop>
     requires { IsProduct product.now }
-    ensures { (raw : List ℕ) × Tells (R.remaining reader.old) raw
+    ensures { (raw : List ℕ) × Agrees (R.remaining reader.old) raw
         × PlanEnds product.now raw (W.contents writer.old) (W.contents writer.new) result }
 {
     let raw = input(alloc, reader)?;
@@ -107,7 +107,7 @@ fn within(read: Option<Vec<u8>>) -> Result<Vec<u8>, PlanStop>
 
 // The bytes of a batch.
 fn input<R: Read>(alloc: Global, reader: &mut R) -> Result<Vec<u8>, PlanStop>
-    ensures { (raw : List ℕ) × Tells (R.remaining reader.old) raw × ReadsInput raw result }
+    ensures { (raw : List ℕ) × Agrees (R.remaining reader.old) raw × ReadsInput raw result }
 {
     let read = read_within(alloc, reader, MOST_INPUT)?;
     within(read)

@@ -13,7 +13,7 @@ use Rattle.job_facts.specs.declared.request.Call.TheVariants.{Job, Release}
 use Rattle.job_facts.specs.Contents.{AreSound, Contents, Entry, IsNewEntry, IsOwed, IsOwedRelease, above, committed, entry_of, is_above, mark_of, released}
 use Rattle.job_facts.specs.Facts.{Facts}
 use Rattle.job_facts.specs.Sound.{IsName, changed}
-use Rattle.arrivals.specs.Told.{body_of, status_of}
+use Rattle.arrivals.specs.HttpReplies.{body_of, status_of}
 use Rattle.arrivals.specs.Meaning.{Arrived, contents_after, contents_with, entry_with, is_released, reply_by}
 use Rattle.arrivals.proofs.MeaningLemmas.{contents_new, filter_all}
 use Rattle.reply_store.specs.declared.deciding.Effect.{Effect}

@@ -11,8 +11,8 @@ use Rattle.job_facts.specs.Contents.{AreSound, Contents, Entry, entry_of, mark_o
 use Rattle.job_facts.specs.Steps.{by_option}
 use Rattle.job_facts.specs.Store.{Commits, IsFound, IsHonest, State, Stays}
 use Rattle.arrivals.specs.declared.kept.Kept.{Kept}
-use Rattle.arrivals.specs.Told.{Told, told, told_of}
-use Rattle.arrivals.specs.Meaning.{Arrived, contents_after, entry_with, is_released, reply_to, told_by, told_on}
+use Rattle.arrivals.specs.HttpReplies.{HttpReply, http_reply, http_reply_of}
+use Rattle.arrivals.specs.Meaning.{Arrived, contents_after, entry_with, http_reply_by, http_reply_on, is_released, reply_to}
 use Rattle.arrivals.proofs.MeaningLemmas.{contents_old, contents_released}
 use Rattle.reply_store.specs.declared.deciding.Effect.{Effect}
 use Rattle.reply_store.specs.Effects.{IsOwedBy, after_effect, done}
@@ -37,15 +37,15 @@ on_err {P = P} r p = elim r as (λ r. OnErr r P) [ Ok x ↦ tt | Err e ↦ p ]
 
 -- ---- an arrival that changes nothing
 
--- it is told so on these contents, and is no first
-abbrev pub IsTold : Contents → Arrived → Result Kept StoreFault → Type 0
-IsTold c a result = (contents_after c (a ∷ []) ≡ c) × (IsFirst c a → ⊥) × IfOk result (λ k. told_on c a ≡ told k)
+-- it gets this reply on these contents, and is no first
+abbrev pub IsAnswered : Contents → Arrived → Result Kept StoreFault → Type 0
+IsAnswered c a result = (contents_after c (a ∷ []) ≡ c) × (IsFirst c a → ⊥) × IfOk result (λ k. http_reply_on c a ≡ http_reply k)
 
-pub handles_told : (old new : State) (a : Arrived) (result : Result Kept StoreFault) → Stays old new
-    → (IsHonest new → (c : Contents) → old.holds c → IsTold c a result) → Handles old new a result
-handles_told old new a result stays is = record {
+pub handles_answered : (old new : State) (a : Arrived) (result : Result Kept StoreFault) → Stays old new
+    → (IsHonest new → (c : Contents) → old.holds c → IsAnswered c a result) → Handles old new a result
+handles_answered old new a result stays is = record {
   doubts = stays.doubts;
-  told_is = λ h c held. (is h c held).2;
+  reply_is = λ h c held. (is h c held).2;
   ok = on_ok result (λ h c held. subst new.holds (sym (is h c held).0) (stays.contents h c held));
   err = on_err result stays.contents;
   crash = λ h c d held left. inl (stays.crash h d left);
@@ -56,7 +56,7 @@ handles_told old new a result stays is = record {
 pub handles_stays : (old new : State) (a : Arrived) (fault : StoreFault) → Stays old new → Handles old new a (Err fault)
 handles_stays old new a fault stays = record {
   doubts = stays.doubts;
-  told_is = λ h c held. tt;
+  reply_is = λ h c held. tt;
   ok = tt;
   err = stays.contents;
   crash = λ h c d held left. inl (stays.crash h d left);
@@ -64,27 +64,27 @@ handles_stays old new a fault stays = record {
 }
 
 -- a number that is released
-pub told_released : (c : Contents) (a : Arrived) (k : Kept) → AreSound c → is_released c.marks a ≡ true
-    → told k ≡ told_of (NumberReleased (mark_of c.marks a.client)) → IsTold c a (Ok k)
-told_released c a k sound gone same =
-    let other : Told = by_option (entry_of c.kept a.client a.number) (told_of (reply_to c.facts c.marks a)) (told_by a.ask) in (
+pub answered_released : (c : Contents) (a : Arrived) (k : Kept) → AreSound c → is_released c.marks a ≡ true
+    → http_reply k ≡ http_reply_of (NumberReleased (mark_of c.marks a.client)) → IsAnswered c a (Ok k)
+answered_released c a k sound gone same =
+    let other : HttpReply = by_option (entry_of c.kept a.client a.number) (http_reply_of (reply_to c.facts c.marks a)) (http_reply_by a.ask) in (
       contents_released c a sound.above gone,
       λ first. false≢true (sym first.0 ∙ gone),
-      cond-true (is_released c.marks a) (told_of (NumberReleased (mark_of c.marks a.client))) other gone ∙ sym same,
+      cond-true (is_released c.marks a) (http_reply_of (NumberReleased (mark_of c.marks a.client))) other gone ∙ sym same,
     )
 
 -- a number that is kept
-pub told_kept : (c : Contents) (a : Arrived) (k : Kept) (kept : KeptReply) → AreSound c → is_released c.marks a ≡ false
-    → Some kept ≡ option_map reply_of_entry (entry_of c.kept a.client a.number) → ((e : Entry) → kept ≡ reply_of_entry e → told k ≡ told_by a.ask e) → IsTold c a (Ok k)
-told_kept c a k kept sound live found same = at (entry_of c.kept a.client a.number) refl found
+pub answered_kept : (c : Contents) (a : Arrived) (k : Kept) (kept : KeptReply) → AreSound c → is_released c.marks a ≡ false
+    → Some kept ≡ option_map reply_of_entry (entry_of c.kept a.client a.number) → ((e : Entry) → kept ≡ reply_of_entry e → http_reply k ≡ http_reply_by a.ask e) → IsAnswered c a (Ok k)
+answered_kept c a k kept sound live found same = at (entry_of c.kept a.client a.number) refl found
   where
-    at : (o : Option Entry) → entry_of c.kept a.client a.number ≡ o → Some kept ≡ option_map reply_of_entry o → IsTold c a (Ok k)
+    at : (o : Option Entry) → entry_of c.kept a.client a.number ≡ o → Some kept ≡ option_map reply_of_entry o → IsAnswered c a (Ok k)
     at None none is = absurd (none-some kept (sym is))
     at (Some e) some is = (
       contents_old c a e sound.above live some,
       λ (f : IsFirst c a). none-some e (sym f.1 ∙ some),
-      cond-false (is_released c.marks a) (told_of (NumberReleased (mark_of c.marks a.client))) (by_option (entry_of c.kept a.client a.number) (told_of (reply_to c.facts c.marks a)) (told_by a.ask)) live
-          ∙ ap (λ o. by_option o (told_of (reply_to c.facts c.marks a)) (told_by a.ask)) some ∙ sym (same e (same_Some kept (reply_of_entry e) is)),
+      cond-false (is_released c.marks a) (http_reply_of (NumberReleased (mark_of c.marks a.client))) (by_option (entry_of c.kept a.client a.number) (http_reply_of (reply_to c.facts c.marks a)) (http_reply_by a.ask)) live
+          ∙ ap (λ o. by_option o (http_reply_of (reply_to c.facts c.marks a)) (http_reply_by a.ask)) some ∙ sym (same e (same_Some kept (reply_of_entry e) is)),
     )
 
 pub no_entry : (o : Option Entry) → None ≡ option_map reply_of_entry o → o ≡ None
@@ -96,12 +96,12 @@ no_entry (Some e) is = absurd (none-some (reply_of_entry e) is)
 abbrev pub AreDecided : State → State → Arrived → Reply → Effect → Type 0
 AreDecided old mid a reply effect = IsHonest mid → (c : Contents) → old.holds c → AreSound c × IsDecided c a reply effect
 
--- what a new number is told
-told_first : (c : Contents) (a : Arrived) (reply : Reply) (effect : Effect) → IsDecided c a reply effect → reply_to c.facts c.marks a ≡ reply → told_on c a ≡ told_of reply
-told_first c a reply effect d is =
-    let first : Told = told_of (reply_to c.facts c.marks a) in
-    cond-false (is_released c.marks a) (told_of (NumberReleased (mark_of c.marks a.client))) (by_option (entry_of c.kept a.client a.number) first (told_by a.ask)) d.0
-    ∙ ap (λ o. by_option o first (told_by a.ask)) d.1 ∙ ap told_of is
+-- what a new number gets
+answered_first : (c : Contents) (a : Arrived) (reply : Reply) (effect : Effect) → IsDecided c a reply effect → reply_to c.facts c.marks a ≡ reply → http_reply_on c a ≡ http_reply_of reply
+answered_first c a reply effect d is =
+    let first : HttpReply = http_reply_of (reply_to c.facts c.marks a) in
+    cond-false (is_released c.marks a) (http_reply_of (NumberReleased (mark_of c.marks a.client))) (by_option (entry_of c.kept a.client a.number) first (http_reply_by a.ask)) d.0
+    ∙ ap (λ o. by_option o first (http_reply_by a.ask)) d.1 ∙ ap http_reply_of is
 
 module _ (old mid new : State) (a : Arrived) (reply : Reply) (effect : Effect) (numbered : IsNumbered a) (stays : Stays old mid)
     (is : AreDecided old mid a reply effect) where
@@ -119,11 +119,11 @@ module _ (old mid new : State) (a : Arrived) (reply : Reply) (effect : Effect) (
       let m : IsHonest mid = omega (arith, made.doubts) in
       ⊎_elim (λ before. inl (stays.crash m d before)) (λ e. inr (subst (IsFound d) (after m c held) e)) (made.crash h c d (stays.contents m c held) (owed m c held) left)
 
-  handles_ok : (k : Kept) → told k ≡ told_of reply → Kept_by (Ok tt) → Handles old new a (Ok k)
+  handles_ok : (k : Kept) → http_reply k ≡ http_reply_of reply → Kept_by (Ok tt) → Handles old new a (Ok k)
   handles_ok k same made = record {
     doubts = omega (arith, stays.doubts, made.doubts);
-    told_is = λ h c held. let m : IsHonest mid = omega (arith, made.doubts) in let d = is m c held in
-        told_first c a reply effect d.1 (decided_reply c a.client a.number a.request reply effect d.1.2) ∙ sym same;
+    reply_is = λ h c held. let m : IsHonest mid = omega (arith, made.doubts) in let d = is m c held in
+        answered_first c a reply effect d.1 (decided_reply c a.client a.number a.request reply effect d.1.2) ∙ sym same;
     ok = λ h c held. let m : IsHonest mid = omega (arith, made.doubts) in subst new.holds (after m c held) (made.ok h c (stays.contents m c held) (owed m c held));
     err = tt;
     crash = crashes (Ok tt) made;
@@ -134,14 +134,14 @@ module _ (old mid new : State) (a : Arrived) (reply : Reply) (effect : Effect) (
   handles_err : (fault : StoreFault) → Kept_by (Err fault) → Handles old new a (Err fault)
   handles_err fault made = record {
     doubts = omega (arith, stays.doubts, made.doubts);
-    told_is = λ h c held. tt;
+    reply_is = λ h c held. tt;
     ok = tt;
     err = λ h c held. let m : IsHonest mid = omega (arith, made.doubts) in made.err h c (stays.contents m c held) (owed m c held);
     crash = crashes (Err fault) made;
     settled = tt;
   }
 
-  pub handles_decided : (result : Result Kept StoreFault) → IfOk result (λ k. told k ≡ told_of reply) → Kept_by (done result) → Handles old new a result
+  pub handles_decided : (result : Result Kept StoreFault) → IfOk result (λ k. http_reply k ≡ http_reply_of reply) → Kept_by (done result) → Handles old new a result
   handles_decided (Ok k) same made = handles_ok k same made
   handles_decided (Err fault) same made = handles_err fault made
 

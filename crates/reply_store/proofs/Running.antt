@@ -12,8 +12,8 @@ use Rattle.job_facts.specs.Contents.{AreSound, Contents, Entry, entry_of}
 use Rattle.job_facts.specs.Store.{CountsFaults, IsFound, IsHonest, State, Stays, failed_after, full_after}
 use Rattle.job_facts.proofs.Lists.{each_more}
 use Rattle.arrivals.specs.declared.kept.Kept.{Kept}
-use Rattle.arrivals.specs.Told.{told}
-use Rattle.arrivals.specs.Meaning.{Arrived, contents_after, is_released, reply_to, told_on}
+use Rattle.arrivals.specs.HttpReplies.{http_reply}
+use Rattle.arrivals.specs.Meaning.{Arrived, contents_after, http_reply_on, is_released, reply_to}
 use Rattle.arrivals.specs.Commands.{HandsOutNext}
 use Rattle.arrivals.proofs.Commands.{call_hands_out_next}
 use Rattle.arrivals.proofs.MeaningLemmas.{contents_old, contents_released, same_contents}
@@ -114,10 +114,10 @@ leaves_stays s0 s1 s2 tries run stays = record {
   crash = λ h c d held left. run.crash (omega (arith, stays.doubts)) c d held (stays.crash h d left);
 }
 
--- ---- what is told
+-- ---- what is answered
 
-abbrev ToldAt : Contents → List Served → Served → Type 0
-ToldAt c before s = IfOk s.1 (λ k. told_on (contents_after c (decided (tried before))) s.0 ≡ told k)
+abbrev AnsweredAt : Contents → List Served → Served → Type 0
+AnsweredAt c before s = IfOk s.1 (λ k. http_reply_on (contents_after c (decided (tried before))) s.0 ≡ http_reply k)
 
 abbrev NextAt : Contents → List Served → Served → Type 0
 NextAt c before s =
@@ -135,7 +135,7 @@ full_push [] s n = refl
 full_push (x ∷ served) s n = full_push served s (full_after x.1 n)
 
 pub runs_none : (s : State) → ((c : Contents) → s.holds c → AreSound c) → Runs s s []
-runs_none s sound = record { leaves = leaves_none s sound; told_then = λ h c held i t is. absurd (none-some t is); failed = refl; full = refl }
+runs_none s sound = record { leaves = leaves_none s sound; answered_then = λ h c held i t is. absurd (none-some t is); failed = refl; full = refl }
 
 pub runs_more : (s0 s1 s2 : State) (served : List Served) (a : Arrived) (r : Result Kept StoreFault) → ((c : Contents) → s0.holds c → AreSound c) → ((c : Contents) → s1.holds c → AreSound c)
     → Runs s0 s1 served → Handles s1 s2 a r → CountsFaults s1 s2 r → Runs s0 s2 (served ++ (a, r) ∷ [])
@@ -143,8 +143,8 @@ runs_more s0 s1 s2 served a r sound then run handled faults =
     let pushed : tried served ++ (a, is_ok r) ∷ [] ≡ tried (served ++ (a, r) ∷ []) = sym (map_push (λ (s : Served). (s.0, is_ok s.1)) served (a, r)) in
     record {
       leaves = subst (Leaves s0 s2) pushed (leaves_more s0 s1 s2 (tried served) a r sound then run.leaves handled);
-      told_then = λ h c held. let m : IsHonest s1 = omega (arith, handled.doubts) in
-          each_more (ToldAt c) served (a, r) (run.told_then m c held) (handled.told_is h (contents_after c (decided (tried served))) (run.leaves.contents m c held));
+      answered_then = λ h c held. let m : IsHonest s1 = omega (arith, handled.doubts) in
+          each_more (AnsweredAt c) served (a, r) (run.answered_then m c held) (handled.reply_is h (contents_after c (decided (tried served))) (run.leaves.contents m c held));
       failed = faults.failed ∙ ap (failed_after r) run.failed ∙ sym (failed_push served (a, r) s0.failed);
       full = faults.full ∙ ap (full_after r) run.full ∙ sym (full_push served (a, r) s0.full);
     }
@@ -165,7 +165,7 @@ zip_push [] (s ∷ rs) x r same = absurd (omega arith)
 zip_push (y ∷ xs) [] x r same = absurd (omega arith)
 zip_push (y ∷ xs) (s ∷ rs) x r same = ap (λ (l : List Served). (y, s) ∷ l) (zip_push xs rs x r (omega arith))
 
--- one more turn of the loop
+-- one more step of the loop
 pub zip_more : (arrivals : List Arrival) (i : ℕ) (a : Arrival) (rs new : List (Result Kept StoreFault)) (r : Result Kept StoreFault) → i < length arrivals → a ≡ get_or arrivals i a → i ≡ length rs → new ≡ rs ++ r ∷ []
     → zip (map arrived (take (i + 1) arrivals)) new ≡ zip (map arrived (take i arrivals)) rs ++ (arrived a, r) ∷ []
 zip_more arrivals i a rs new r lt item count pushed =

@@ -4,8 +4,8 @@ use Rattle.job_facts.specs.declared.store.StoreFault.{StoreFault}
 use Rattle.job_facts.specs.Contents.{Contents, entry_of}
 use Rattle.job_facts.specs.Store.{IsFound, IsHonest, State}
 use Rattle.arrivals.specs.declared.kept.Kept.{Kept}
-use Rattle.arrivals.specs.Told.{told}
-use Rattle.arrivals.specs.Meaning.{Arrived, contents_after, is_released, told_on}
+use Rattle.arrivals.specs.HttpReplies.{http_reply}
+use Rattle.arrivals.specs.Meaning.{Arrived, contents_after, http_reply_on, is_released}
 
 -- the arrival's number is not released, and no entry has it
 abbrev pub IsFirst : Contents → Arrived → Type 0
@@ -13,8 +13,8 @@ IsFirst c a = (is_released c.marks a ≡ false) × (entry_of c.kept a.client a.n
 
 pub record Handles (old new : State) (a : Arrived) (result : Result Kept StoreFault) : Type 0 where
   pub doubts : old.doubts ≤ new.doubts
-  -- it is told what it is told on the contents before it
-  pub told_is : IsHonest new → (c : Contents) → old.holds c → IfOk result (λ kept. told_on c a ≡ told kept)
+  -- it gets the reply that it gets on the contents before it
+  pub reply_is : IsHonest new → (c : Contents) → old.holds c → IfOk result (λ kept. http_reply_on c a ≡ http_reply kept)
   pub ok : OnOk result (IsHonest new → (c : Contents) → old.holds c → new.holds (contents_after c (a ∷ [])))
   pub err : OnErr result (IsHonest new → (c : Contents) → old.holds c → new.holds c)
   -- a crash leaves what it could leave before, or the arrival with its kept reply

@@ -5,8 +5,8 @@ use Rattle.job_facts.specs.declared.store.StoreFault.{StoreFault}
 use Rattle.job_facts.specs.Contents.{Contents}
 use Rattle.job_facts.specs.Store.{IsFound, IsHonest, State, Stays, failed_after, full_after}
 use Rattle.arrivals.specs.declared.kept.Kept.{Kept}
-use Rattle.arrivals.specs.Told.{told}
-use Rattle.arrivals.specs.Meaning.{Arrived, contents_after, reply_to, told_on}
+use Rattle.arrivals.specs.HttpReplies.{http_reply}
+use Rattle.arrivals.specs.Meaning.{Arrived, contents_after, http_reply_on, reply_to}
 use Rattle.arrivals.specs.Commands.{HandsOutNext}
 use Rattle.reply_store.specs.Handled.{Handles, IsFirst}
 
@@ -37,8 +37,8 @@ pub record Leaves (old new : State) (tried : List Tried) : Type 0 where
   pub contents : IsHonest new → (c : Contents) → old.holds c → new.holds (contents_after c (decided tried))
   pub crash : IsHonest new → (c : Contents) (d : Option Contents) → old.holds c → new.may_leave d → MayBeLeft old.may_leave c tried d
 
--- what is left is told of one after the other: of none, of one more that is handled, and past what
--- changes nothing
+-- what is left is stated of one after the other: of none, of one more that is handled, and past
+-- what changes nothing
 pub record AreLeftInTurn {S : Type 0} (state : S → State) : Type 0 where
   pub none : (s : S) → Leaves (state s) (state s) []
   pub more : (first before after : S) (tried : List Tried) (a : Arrived) (result : Result Kept StoreFault)
@@ -56,10 +56,9 @@ tried served = map (λ (s : Served). (s.0, is_ok s.1)) served
 abbrev pub contents_before : Contents → List Served → ℕ → Contents
 contents_before c served i = contents_after c (decided (tried (take i served)))
 
--- what each was told, if it was decided, is what it is told on the contents that those before it
--- leave
-abbrev pub AreTold : Contents → List Served → Type 0
-AreTold c served = (i : ℕ) (s : Served) → slice_get served i ≡ Some s → IfOk s.1 (λ k. told_on (contents_before c served i) s.0 ≡ told k)
+-- what each got, if it was decided, is what it gets on the contents that those before it leave
+abbrev pub AreAnswered : Contents → List Served → Type 0
+AreAnswered c served = (i : ℕ) (s : Served) → slice_get served i ≡ Some s → IfOk s.1 (λ k. http_reply_on (contents_before c served i) s.0 ≡ http_reply k)
 
 -- the counts of a device that failed, and of one that was full, after these outcomes
 abbrev pub failed_through : List Served → ℕ → ℕ
@@ -72,8 +71,8 @@ full_through (s ∷ served) n = full_through served (full_after s.1 n)
 
 pub record Runs (old new : State) (served : List Served) : Type 0 where
   pub leaves : Leaves old new (tried served)
-  pub told_then : IsHonest new → (c : Contents) → old.holds c → AreTold c served
-  -- a fault of the device is told where its count goes up, and nowhere else
+  pub answered_then : IsHonest new → (c : Contents) → old.holds c → AreAnswered c served
+  -- a fault of the device is reported where its count goes up, and nowhere else
   pub failed : new.failed ≡ failed_through served old.failed
   pub full : new.full ≡ full_through served old.full
 

@@ -20,8 +20,8 @@ pub(crate) enum Effect<'a> {
     Marks { upto: u64 },
 }
 
-/// What a new number's call is answered, and its effect, by its client's mark. The store is only
-/// read.
+/// What a new number's call is answered, and its effect, by its client's release mark. The store is
+/// only read.
 pub(crate) fn decide_call<'a, S: JobStore>(
     alloc: Global,
     store: &mut S,
@@ -46,7 +46,7 @@ pub(crate) fn decide_call<'a, S: JobStore>(
     }
 }
 
-// A release: its client's mark never falls.
+// A release: its client's release mark never falls.
 fn release(number: u64, upto: u64, mark: u64) -> (Reply, Effect<'static>)
     requires { 1 ≤ upto }
     ensures { (c : Contents) (client : List ℕ) → mark ≡ mark_of c.marks client

@@ -1,12 +1,12 @@
-//! Requests that may come again: the first of each number acts, and each later one is told what is
+//! Requests that may come again: the first of each number acts, and each later one gets what is
 //! kept.
 #![tactic(auto)]
 
 ghost use Rattle.std.specs.Prelude.{◌≡◌, ◌≤◌, ◌<◌, ◌^◌, All, IfOk, OnErr, length, map};
 ghost use Rattle.std.specs.List.{zip};
 ghost use Rattle.arrivals.specs.Commands.{HandsOutNext};
-ghost use Rattle.arrivals.specs.Meaning.{reply_by, told_again};
-ghost use Rattle.arrivals.specs.Told.{told};
+ghost use Rattle.arrivals.specs.Meaning.{http_reply_again, reply_by};
+ghost use Rattle.arrivals.specs.HttpReplies.{http_reply};
 ghost use Rattle.job_facts.specs.Requests.{IsArrival, IsCall};
 ghost use Rattle.job_facts.specs.Contents.{Contents};
 ghost use Rattle.job_facts.specs.Store.{CountsFaults, IsHonest};
@@ -18,7 +18,7 @@ pub mod laws;
 mod settling;
 
 use crate::deciding::decide_call;
-use crate::settling::{settle, told_of};
+use crate::settling::{http_reply_of, settle};
 pub use arrivals::{Kept, body_of, name_text, status_of};
 use job_facts::{Arrival, Call, JobStore, KeptReply, Refusal, Reply, StoreFault};
 use std::alloc::{AllocError, Global};
@@ -28,10 +28,10 @@ use store_data::Name;
 pub type Outcome = Result<Kept, StoreFault>;
 
 #[tactic(auto, using(arrivals::proofs::Commands::call_hands_out_next))]
-/// Handles one arrival. A number up to its client's mark is told `number-released`, and nothing is
-/// kept of it; a kept number is told its reply again, or `number-reused` where the ask is another;
-/// a new one is decided and kept, a refusal too. Errors: the store's faults, and refused memory as
-/// `Memory`; nothing is changed then.
+/// Handles one arrival. A number up to its client's release mark gets `number-released`, and
+/// nothing is kept of it; a kept number gets its reply again, or `number-reused` where the ask is
+/// another; a new one is decided and kept, a refusal too. Errors: the store's faults, and refused
+/// memory as `Memory`; nothing is changed then.
 pub fn handle<S: JobStore>(
     alloc: Global,
     store: &mut S,
@@ -57,7 +57,7 @@ pub fn handle<S: JobStore>(
 {
     let mark = store.mark(client)?;
     if number <= mark {
-        return Ok(told_of(alloc, &Reply::NumberReleased { mark })?);
+        return Ok(http_reply_of(alloc, &Reply::NumberReleased { mark })?);
     }
     if let Some(kept) = store.kept(client, number)? {
         return Ok(again(alloc, ask, kept)?);
@@ -100,9 +100,9 @@ pub fn run<S: JobStore>(
     Ok(outcomes)
 }
 
-// What is told of a number that is kept.
+// What a number that is kept gets.
 fn again(alloc: Global, ask: &[u8], kept: KeptReply) -> Result<Kept, AllocError>
-    ensures { IfOk result (λ k. told k ≡ told_again ask.now kept) }
+    ensures { IfOk result (λ k. http_reply k ≡ http_reply_again ask.now kept) }
 {
     let KeptReply {
         ask: first,
@@ -113,5 +113,5 @@ fn again(alloc: Global, ask: &[u8], kept: KeptReply) -> Result<Kept, AllocError>
         return Ok(Kept { status, body });
     }
     let refusal = Refusal::NumberReused;
-    told_of(alloc, &Reply::Refused { refusal })
+    http_reply_of(alloc, &Reply::Refused { refusal })
 }

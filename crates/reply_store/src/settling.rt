@@ -1,6 +1,6 @@
 //! How what was decided of a new number is kept.
-ghost use Rattle.std.specs.Prelude.{◌≡◌, IfOk};
-ghost use Rattle.arrivals.specs.Told.{body_of, status_of, told, told_of};
+ghost use Rattle.std.specs.Prelude.{◌≡◌, ◌<◌, ◌^◌, IfOk};
+ghost use Rattle.arrivals.specs.HttpReplies.{body_of, http_reply, http_reply_of, status_of};
 ghost use Rattle.job_facts.specs.Contents.{Entry};
 ghost use Rattle.job_facts.specs.Store.{Commits, CountsFaults};
 ghost use Rattle.reply_store.specs.Effects.{IsOwedBy, after_effect, done};
@@ -11,11 +11,11 @@ use job_facts::{JobStore, Reply, StoreFault};
 use std::alloc::{AllocError, Global};
 use store_data::Name;
 
-/// What is told of a reply.
-pub(crate) fn told_of(alloc: Global, reply: &Reply) -> Result<Kept, AllocError>
+/// What a client gets for a reply.
+pub(crate) fn http_reply_of(alloc: Global, reply: &Reply) -> Result<Kept, AllocError>
     ensures status { IfOk result (λ k. k.status ≡ status_of reply.now) }
     ensures body { IfOk result (λ k. k.body ≡ body_of reply.now) }
-    ensures told { IfOk result (λ k. told k ≡ told_of reply.now) }
+    ensures value { IfOk result (λ k. http_reply k ≡ http_reply_of reply.now) }
 {
     Ok(Kept {
         status: status_of(reply),
@@ -33,6 +33,7 @@ pub(crate) fn settle<S: JobStore>(
     reply: &Reply,
     effect: &Effect<'_>,
 ) -> Result<Kept, StoreFault>
+    requires most { number < 10 ^ 18 }
     ensures commits { let entry : Entry = record {
       client = client.now;
       number = number;
@@ -42,10 +43,10 @@ pub(crate) fn settle<S: JobStore>(
     } in
         Commits (S.state store.old) (S.state store.new) (done result) (IsOwedBy effect.now entry)
         (after_effect effect.now entry) }
-    ensures value { IfOk result (λ k. told k ≡ told_of reply.now) }
+    ensures value { IfOk result (λ k. http_reply k ≡ http_reply_of reply.now) }
     ensures faults { CountsFaults (S.state store.old) (S.state store.new) result }
 {
-    let kept = told_of(alloc, reply)?;
+    let kept = http_reply_of(alloc, reply)?;
     put(
         store,
         client,
@@ -67,6 +68,7 @@ fn put<S: JobStore>(
     body: &[u8],
     effect: &Effect<'_>,
 ) -> Result<(), StoreFault>
+    requires most { number < 10 ^ 18 }
     ensures commits { let entry : Entry = record {
       client = client.now;
       number = number;

@@ -16,15 +16,15 @@ use Rattle.reports.specs.Values.{charged}
 use Rattle.reports.specs.Report.{report_text, text_with}
 use Rattle.reports.proofs.BlankLemmas.{charged_fits}
 
-pub report_told : (f : Facts) (b : List ℕ) (row : BatchRow) (lines : List RecordLine) (totals : BatchTotals) (text : List ℕ) → batch_row_of f b ≡ Some row
+pub report_answered : (f : Facts) (b : List ℕ) (row : BatchRow) (lines : List RecordLine) (totals : BatchTotals) (text : List ℕ) → batch_row_of f b ≡ Some row
     → lines ≡ record_lines f b → totals ≡ batch_totals f b → text ≡ text_with b row lines totals → report_text f b ≡ Some text
-report_told f b row lines totals text there lines_are totals_are is =
+report_answered f b row lines totals text there lines_are totals_are is =
     rw (there) (ap Some (sym (is ∙ λ i. text_with b row (lines_are i) (totals_are i))))
 
 -- ---- blanks
 
-pub blank_told : (f : Facts) (p : List ℕ) (product : Product) (totals : BlankTotals) (text : List ℕ) → IsSound f → product_named f.products p ≡ Some product
+pub blank_answered : (f : Facts) (p : List ℕ) (product : Product) (totals : BlankTotals) (text : List ℕ) → IsSound f → product_named f.products p ≡ Some product
     → totals ≡ blank_totals f p → (charged totals < 2 ^ 64 → text ≡ blank_text p totals) → blank_account f p ≡ Some text
-blank_told f p product totals text sound there totals_are is =
+blank_answered f p product totals text sound there totals_are is =
     let few : charged totals < 2 ^ 64 = subst (λ (t : BlankTotals). charged t < 2 ^ 64) (sym totals_are) (charged_fits f p sound) in
     rw (there) (ap Some (sym (is few ∙ ap (blank_text p) totals_are)))

@@ -2,4 +2,4 @@ pub mod Names
 pub mod Accounts
 pub mod Values
 pub mod Report
-pub mod Told
+pub mod Answers

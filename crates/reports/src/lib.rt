@@ -10,8 +10,8 @@ ghost use Rattle.job_facts.specs.declared.refusal.Refusal.TheVariants.{ProductUn
 ghost use Rattle.reports.specs.Accounts.{AreAllCounted, AreAllStanding, batch_account};
 ghost use Rattle.reports.specs.Accounts.{blank_account};
 ghost use Rattle.reports.specs.Report.{report_text};
-ghost use Rattle.reports.specs.Told.{KeepsUntold, MayReport, MayTell, Reports};
-ghost use Rattle.reports.specs.Told.{TellsText, store_answer};
+ghost use Rattle.reports.specs.Answers.{KeepsUnwritten, MayAnswer, MayReport, Reports};
+ghost use Rattle.reports.specs.Answers.{AnswersText, store_answer};
 
 mod accounts;
 mod fault;
@@ -37,10 +37,10 @@ pub fn batch_counts<S: JobStore>(
     batch: &Name,
 ) -> Result<Bytes, AccountFault>
     ensures stays { Stays (S.state store.old) (S.state store.new) }
-    ensures tells { TellsText (S.state store.old) (S.state store.new) BatchUnknown
+    ensures answers { AnswersText (S.state store.old) (S.state store.new) BatchUnknown
         (λ c. batch_account c.facts batch.now) result }
     ensures all { (c : Contents) → AreAllStanding (batch_totals c.facts batch.now) }
-    ensures cause { MayTell BatchUnknown result }
+    ensures cause { MayAnswer BatchUnknown result }
     ensures faults { CountsFaults (S.state store.old) (S.state store.new) (store_answer result) }
 {
     let Some(row) = store.batch(batch)? else {
@@ -58,11 +58,11 @@ pub fn blank_counts<S: JobStore>(
     product: &Name,
 ) -> Result<Bytes, AccountFault>
     ensures stays { Stays (S.state store.old) (S.state store.new) }
-    ensures tells { TellsText (S.state store.old) (S.state store.new) ProductUnknown
+    ensures answers { AnswersText (S.state store.old) (S.state store.new) ProductUnknown
         (λ c. blank_account c.facts product.now) result }
     ensures all { (c : Contents) → (S.state store.old).holds c
         → AreAllCounted (blank_totals c.facts product.now) }
-    ensures cause { MayTell ProductUnknown result }
+    ensures cause { MayAnswer ProductUnknown result }
     ensures faults { CountsFaults (S.state store.old) (S.state store.new) (store_answer result) }
 {
     let Some(_) = store.product(product)? else {
@@ -85,7 +85,7 @@ pub fn close_report<S: JobStore, W: Write>(
     ensures reports { Reports (S.state store.old) (S.state store.new) BatchUnknown
         (λ c. report_text c.facts batch.now)
         (W.contents writer.old) (W.contents writer.new) result }
-    ensures untold { KeepsUntold (W.contents writer.old) (W.contents writer.new) result }
+    ensures unwritten { KeepsUnwritten (W.contents writer.old) (W.contents writer.new) result }
     ensures cause { MayReport BatchUnknown result }
     ensures faults { CountsFaults (S.state store.old) (S.state store.new) (store_answer result) }
 {
@@ -102,9 +102,9 @@ pub fn report_of<S: JobStore>(
     batch: &Name,
 ) -> Result<Bytes, AccountFault>
     ensures stays { Stays (S.state store.old) (S.state store.new) }
-    ensures tells { TellsText (S.state store.old) (S.state store.new) BatchUnknown
+    ensures answers { AnswersText (S.state store.old) (S.state store.new) BatchUnknown
         (λ c. report_text c.facts batch.now) result }
-    ensures cause { MayTell BatchUnknown result }
+    ensures cause { MayAnswer BatchUnknown result }
     ensures faults { CountsFaults (S.state store.old) (S.state store.new) (store_answer result) }
 {
     let Some(row) = store.batch(batch)? else {

@@ -1,4 +1,4 @@
-//! The names that accounts and reports tell.
+//! The names that accounts and reports use.
 ghost use Rattle.std.specs.Prelude.{◌≡◌};
 ghost use Rattle.reports.specs.Names.{closed_name, state_name};
 

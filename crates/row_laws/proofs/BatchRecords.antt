@@ -10,7 +10,7 @@ use Rattle.job_facts.specs.States.{batch_named, first_waiting, is_waiting, recor
 use Rattle.table_rows.specs.Keys.{is_record_of, is_waiting_of}
 use Rattle.table_rows.specs.Tables.{StoredBatch, StoredRecord}
 use Rattle.image_laws.specs.Image.{batch_id, batches_by_id, placed_records, records_in, stored_batch, stored_batches, stored_record, stored_records}
-use Rattle.row_laws.specs.Telling.{waiting_in}
+use Rattle.row_laws.specs.RowValues.{waiting_in}
 use Rattle.row_laws.proofs.BatchRows.{batch_at, named_row, own_name}
 use Rattle.row_laws.proofs.Finding.{AllPairs-joined, AllPairs-map, filter_all, find-map, found_joined, found_numbered, kept_joined, number_once, numbers_rise, option_map-map}
 use Rattle.row_laws.proofs.RecordRows.{equal_self, names_are}
@@ -84,9 +84,9 @@ module _ (f : Facts) where
       alone k None = refl
       alone k (Some r) = refl
 
-  pub waiting_told : (b : List ℕ) → first_waiting f b ≡ waiting_in (stored_batches f) (stored_records f) b
+  pub waiting_in_rows : (b : List ℕ) → first_waiting f b ≡ waiting_in (stored_batches f) (stored_records f) b
   unfolding first_waiting
-  waiting_told b = by_batch (batch_named f.batches b) refl
+  waiting_in_rows b = by_batch (batch_named f.batches b) refl
     where
       after : StoredBatch → Option (List ℕ)
       after row = option_map (λ (r : StoredRecord). r.name) (find (is_waiting_of row.id) (stored_records f))

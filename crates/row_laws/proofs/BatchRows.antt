@@ -21,7 +21,7 @@ use Rattle.table_rows.specs.Keys.{is_batch, is_batch_named}
 use Rattle.table_rows.specs.Tables.{PassesOnce, totals_of}
 use Rattle.table_rows.proofs.Found.{filter_none, find_passes}
 use Rattle.image_laws.specs.Image.{batch_id, batches_by_id, stored_batch, stored_batches}
-use Rattle.row_laws.specs.Telling.{is_over_in, no_totals, totals_in}
+use Rattle.row_laws.specs.RowValues.{is_over_in, no_totals, totals_in}
 use Rattle.row_laws.proofs.Finding.{AllPairs-map, AllPairs-numbered, find-map, found_numbered, number_found, number_once, option_map-map}
 
 -- ---- counts of states
@@ -153,8 +153,8 @@ module _ (f : Facts) where
   unfolding batch_totals
   totals_none sound n none = rw (no_states n none, no_sessions sound n none) refl
 
-  pub totals_told : IsSound f → (n : List ℕ) → batch_totals f n ≡ totals_in (find (is_batch_named n) (stored_batches f))
-  totals_told sound n = by_batch (batch_named f.batches n) refl ∙ sym (ap totals_in (named_row n))
+  pub totals_in_rows : IsSound f → (n : List ℕ) → batch_totals f n ≡ totals_in (find (is_batch_named n) (stored_batches f))
+  totals_in_rows sound n = by_batch (batch_named f.batches n) refl ∙ sym (ap totals_in (named_row n))
     where
       by_batch : (o : Option Batch) → batch_named f.batches n ≡ o → batch_totals f n ≡ totals_in (option_map (λ (b : Batch). stored_batch f (batch_id f.batches n, b)) o)
       by_batch None is = totals_none sound n is
@@ -168,8 +168,8 @@ module _ (f : Facts) where
   unfolding batch_totals
   by_totals n = finished_counts (record_states f n)
 
-  pub finished_told : IsSound f → (n : List ℕ) → is_batch_finished f n ≡ is_over_in (find (is_batch_named n) (stored_batches f))
-  finished_told sound n = by_states n ∙ by_totals n ∙ by_batch (batch_named f.batches n) refl ∙ sym (ap is_over_in (named_row n))
+  pub finished_in_rows : IsSound f → (n : List ℕ) → is_batch_finished f n ≡ is_over_in (find (is_batch_named n) (stored_batches f))
+  finished_in_rows sound n = by_states n ∙ by_totals n ∙ by_batch (batch_named f.batches n) refl ∙ sym (ap is_over_in (named_row n))
     where
       by_batch : (o : Option Batch) → batch_named f.batches n ≡ o
           → three_none (batch_totals f n).waiting (batch_totals f n).running (batch_totals f n).failed ≡ is_over_in (option_map (λ (b : Batch). stored_batch f (batch_id f.batches n, b)) o)

@@ -28,16 +28,16 @@ is_some_found p (x ∷ xs) = elim (cases_Bool (p x)) [ inl hit ↦ rw hit refl |
 module _ (f : Facts) where
   -- ---- blanks
 
-  pub charged_told : (n : ℕ) → is_charged f n ≡ list_any (is_blank n) (stored_blanks f)
+  pub charged_in_rows : (n : ℕ) → is_charged f n ≡ list_any (is_blank n) (stored_blanks f)
   unfolding stored_blanks
-  charged_told n =
+  charged_in_rows n =
       let opened : Session → StoredBlank = λ s. stored_blank f false s.blank in
       sym (list_any-append (is_blank n) (map opened f.sessions) (map (stored_blank f true) f.discarded)
       ∙ ap (λ b. b || list_any (is_blank n) (map (stored_blank f true) f.discarded)) (list_any-map (is_blank n) opened f.sessions)
       ∙ ap (λ b. list_any (λ (s : Session). s.blank == n) f.sessions || b) (list_any-map (is_blank n) (stored_blank f true) f.discarded))
 
   pub charged_found : (n : ℕ) → is_charged f n ≡ is_some (find (is_blank n) (stored_blanks f))
-  charged_found n = charged_told n ∙ sym (is_some_found (is_blank n) (stored_blanks f))
+  charged_found n = charged_in_rows n ∙ sym (is_some_found (is_blank n) (stored_blanks f))
 
   pub serials_are : map (λ (b : StoredBlank). b.serial) (stored_blanks f) ≡ charges f
   unfolding stored_blanks
@@ -86,25 +86,25 @@ module _ (f : Facts) where
   own_lot None = refl
   own_lot (Some l) = refl
 
-  pub lot_named_told : (n : List ℕ) → lot_named f.lots n ≡ option_map (λ (l : StoredLot). l.lot) (find (is_lot_named n) (stored_lots f))
-  lot_named_told n = sym (ap (option_map (λ (l : StoredLot). l.lot)) (named_lot n) ∙ own_lot (lot_named f.lots n))
+  pub lot_named_in_rows : (n : List ℕ) → lot_named f.lots n ≡ option_map (λ (l : StoredLot). l.lot) (find (is_lot_named n) (stored_lots f))
+  lot_named_in_rows n = sym (ap (option_map (λ (l : StoredLot). l.lot)) (named_lot n) ∙ own_lot (lot_named f.lots n))
 
-  pub lot_of_told : (serial : ℕ) → lot_of f.lots serial ≡ option_map (λ (l : StoredLot). l.lot) (find (is_lot_around serial) (stored_lots f))
-  lot_of_told serial = sym (ap (option_map (λ (l : StoredLot). l.lot)) (lot_around serial) ∙ own_lot (lot_of f.lots serial))
+  pub lot_of_in_rows : (serial : ℕ) → lot_of f.lots serial ≡ option_map (λ (l : StoredLot). l.lot) (find (is_lot_around serial) (stored_lots f))
+  lot_of_in_rows serial = sym (ap (option_map (λ (l : StoredLot). l.lot)) (lot_around serial) ∙ own_lot (lot_of f.lots serial))
 
-  pub overlaps_told : (first count : ℕ) → any_overlaps f.lots first count ≡ list_any (is_lot_across first count) (stored_lots f)
+  pub overlaps_in_rows : (first count : ℕ) → any_overlaps f.lots first count ≡ list_any (is_lot_across first count) (stored_lots f)
   unfolding stored_lots
-  overlaps_told first count = sym (list_any-map (is_lot_across first count) (stored_lot f) f.lots)
+  overlaps_in_rows first count = sym (list_any-map (is_lot_across first count) (stored_lot f) f.lots)
 
   pub overlaps_found : (first count : ℕ) → any_overlaps f.lots first count ≡ is_some (find (is_lot_across first count) (stored_lots f))
-  overlaps_found first count = overlaps_told first count ∙ sym (is_some_found (is_lot_across first count) (stored_lots f))
+  overlaps_found first count = overlaps_in_rows first count ∙ sym (is_some_found (is_lot_across first count) (stored_lots f))
 
   -- the lot of a blank under its name
   pub own_name_found : IsSound f → (serial : ℕ) (l : Lot) → lot_of f.lots serial ≡ Some l → lot_named f.lots l.name ≡ Some l
   own_name_found sound serial l at =
       found_also (λ (m : Lot). bytes_eq m.name l.name) (is_in serial) f.lots l (named_once (λ (m : Lot). m.name) f.lots l.name sound.named.lots.once) at (bytes_eq-same l.name)
 
-  pub discarded_told : (n : List ℕ) (row : StoredLot) → find (is_lot_named n) (stored_lots f) ≡ Some row → (lot_named f.lots n ≡ Some row.lot) × (row.discarded ≡ discarded_in f row.lot)
-  discarded_told n row at =
+  pub discarded_in_rows : (n : List ℕ) (row : StoredLot) → find (is_lot_named n) (stored_lots f) ≡ Some row → (lot_named f.lots n ≡ Some row.lot) × (row.discarded ≡ discarded_in f row.lot)
+  discarded_in_rows n row at =
       let it = mapped (stored_lot f) (lot_named f.lots n) row (sym (named_lot n) ∙ at) in
       (it.1 ∙ ap (λ (l : StoredLot). Some l.lot) it.2, subst (λ (l : StoredLot). l.discarded ≡ discarded_in f l.lot) it.2 refl)

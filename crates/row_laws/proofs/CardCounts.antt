@@ -12,7 +12,7 @@ use Rattle.job_facts.specs.Sound.{IsSoundRecord, has_card}
 use Rattle.job_facts.specs.States.{is_good, is_running, is_spoiled, same_record_state, same_session_state, state_by}
 use Rattle.job_facts.proofs.Lists.{count_by_any, count_by_none}
 use Rattle.step_laws.proofs.BlankSums.{one}
-use Rattle.row_laws.specs.Telling.{cards}
+use Rattle.row_laws.specs.RowValues.{cards}
 
 card_or_not : (t : SessionState) → cond {A = ℕ} (is_spoiled t) 1 0 + cond {A = ℕ} (has_card t) 1 0 ≡ 1
 card_or_not session.Running = refl

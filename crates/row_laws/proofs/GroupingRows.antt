@@ -25,21 +25,21 @@ use Rattle.table_rows.specs.Tables.{StoredBatch, StoredGrouping, StoredRecord}
 use Rattle.table_rows.proofs.Found.{filter_alike}
 use Rattle.image_laws.specs.Image.{batch_id, batches_by_id, groupings_in, place_in, stored_batch, stored_batches, stored_grouping, stored_groupings, stored_record, stored_records}
 use Rattle.image_laws.proofs.Lists.{All-numbered}
-use Rattle.row_laws.specs.Telling.{groupings_for, plan_in, row_of}
+use Rattle.row_laws.specs.RowValues.{groupings_for, plan_in, row_of}
 use Rattle.row_laws.proofs.BatchRows.{batch_at, named_row}
 use Rattle.row_laws.proofs.Finding.{AllPairs-joined, AllPairs-map, filter_all, kept_joined, kept_numbered, number_once, numbers_rise}
 use Rattle.row_laws.proofs.RecordRows.{equal_self, name_at, name_row, names_are}
 
 -- ---- names and their places
 
-names_tell : (products : List Product) (b : Batch) (r : List ℕ) → list_any (bytes_eq r) (records_of products b) ≡ list_any (bytes_eq r) (map (λ (row : Row). row.rec) (rows_of products b))
+names_in_rows : (products : List Product) (b : Batch) (r : List ℕ) → list_any (bytes_eq r) (records_of products b) ≡ list_any (bytes_eq r) (map (λ (row : Row). row.rec) (rows_of products b))
 unfolding records_of
-names_tell products b r = list_any-first_appearances r [] (map (λ (row : Row). row.rec) (rows_of products b))
+names_in_rows products b r = list_any-first_appearances r [] (map (λ (row : Row). row.rec) (rows_of products b))
 
 rows_named : (products : List Product) (b : Batch) → All (λ (row : Row). list_any (bytes_eq row.rec) (records_of products b) ≡ true) (rows_of products b)
 rows_named products b k d within =
     let row : Row = get_or (rows_of products b) k d in
-    names_tell products b row.rec ∙ list_any-map (bytes_eq row.rec) (λ (other : Row). other.rec) (rows_of products b)
+    names_in_rows products b row.rec ∙ list_any-map (bytes_eq row.rec) (λ (other : Row). other.rec) (rows_of products b)
     ∙ list_any_at (λ (other : Row). bytes_eq row.rec other.rec) (rows_of products b) k d within (bytes_eq-same row.rec)
 
 pub place_alike : (names : List (List ℕ)) (m n : List ℕ) → list_any (bytes_eq m) names ≡ true → list_any (bytes_eq n) names ≡ true → (place_in names m == place_in names n) ≡ bytes_eq m n
@@ -152,12 +152,12 @@ module _ (f : Facts) where
         | inr other ↦
             ap (λ o. map (row_of r) (groupings_for (stored_groupings f) o)) (name_row f b r batch there ∙ cond-false (list_any (bytes_eq r) names) (Some row) None other)
             ∙ sym (with_the_key-none (λ (x : Row). x.rec) (rows_of f.products batch) r
-            (sym (names_tell f.products batch r) ∙ ap (list_any (bytes_eq r)) (names_are f b batch there) ∙ other))
+            (sym (names_in_rows f.products batch r) ∙ ap (list_any (bytes_eq r)) (names_are f b batch there) ∙ other))
       ]
 
-  pub plan_told : (b r : List ℕ) → plan_for f b r ≡ plan_in f.products (stored_batches f) (stored_records f) (stored_groupings f) b r
+  pub plan_in_rows : (b r : List ℕ) → plan_for f b r ≡ plan_in f.products (stored_batches f) (stored_records f) (stored_groupings f) b r
   unfolding plan_for
-  plan_told b r = by_batch (batch_named f.batches b) refl
+  plan_in_rows b r = by_batch (batch_named f.batches b) refl
     where
       after : StoredBatch → Option Plan
       after row =

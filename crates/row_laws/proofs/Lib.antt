@@ -7,7 +7,7 @@ pub mod ReplyRows
 pub mod RowNumbers
 pub mod BatchRecords
 pub mod GroupingRows
-pub mod BatchTold
+pub mod BatchValues
 pub mod CardCounts
 pub mod LineRows
 pub mod TotalRows

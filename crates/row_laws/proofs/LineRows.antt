@@ -23,7 +23,7 @@ use Rattle.step_laws.proofs.BlankSums.{bytes_eq_either}
 use Rattle.table_rows.specs.Keys.{is_good_of, is_record_of}
 use Rattle.table_rows.specs.Tables.{StoredRecord, StoredSession}
 use Rattle.image_laws.specs.Image.{batch_id, place_in, sessions_by_id, stored_batch, stored_batches, stored_record, stored_records, stored_session, stored_sessions}
-use Rattle.row_laws.specs.Telling.{cards, line_of, lines_at, lines_in}
+use Rattle.row_laws.specs.RowValues.{cards, line_of, lines_at, lines_in}
 use Rattle.row_laws.proofs.BatchRecords.{rows_of_batch}
 use Rattle.row_laws.proofs.BatchRows.{named_row, own_name}
 use Rattle.row_laws.proofs.CardCounts.{cards_counted, spoiled_or_card}
@@ -72,7 +72,7 @@ module _ (f : Facts) where
   pub sessions_many : IsSound f → (b r : List ℕ) → length (sessions_of f b r) ≡ count_by is_spoiled (states_of f b r) + cards (record_state f b r)
   unfolding record_state
   sessions_many sound b r =
-      let counted = cards_counted (states_of f b r) (is_withdrawn f b r) (remakes_of f b r) (sound.told.records b r) in
+      let counted = cards_counted (states_of f b r) (is_withdrawn f b r) (remakes_of f b r) (sound.states.records b r) in
       omega (arith, states_many b r, spoiled_or_card (states_of f b r), counted)
 
   -- ---- the blank of its good session
@@ -126,8 +126,8 @@ module _ (f : Facts) where
     abbrev own_row : StoredRecord
     own_row = stored_record f (id, batch) (place, r)
 
-    pub line_told : IsSound f → line_of (filter (is_good_of id) (stored_sessions f)) own_row ≡ record_line f b r
-    line_told sound =
+    pub line_in_rows : IsSound f → line_of (filter (is_good_of id) (stored_sessions f)) own_row ≡ record_line f b r
+    line_in_rows sound =
         let own = own_name f b batch there in
         let blank = good_blank sound in
         let stands : record_state f batch.name r ≡ record_state f b r = ap (λ m. record_state f m r) own in
@@ -146,16 +146,16 @@ module _ (f : Facts) where
       let once : AllPairs (λ (m k : List ℕ). bytes_eq m k ≡ false) names = subst (AllPairs (λ (m k : List ℕ). bytes_eq m k ≡ false)) (names_are f b batch there) (names_once f.products batch) in
       let each : All (λ (d : ℕ × List ℕ). line (stored_record f e d) ≡ record_line f b d.1) (enumerate_from 0 names) =
       All-weaker (λ (d : ℕ × List ℕ). (list_any (bytes_eq d.1) names ≡ true) × (d.0 ≡ place_in names d.1)) (λ (d : ℕ × List ℕ). line (stored_record f e d) ≡ record_line f b d.1)
-      (λ d own. ap (λ k. line (stored_record f e (k, d.1))) own.1 ∙ line_told b d.1 batch there own.0 sound) (enumerate_from 0 names) (places_own names once) in
+      (λ d own. ap (λ k. line (stored_record f e (k, d.1))) own.1 ∙ line_in_rows b d.1 batch there own.0 sound) (enumerate_from 0 names) (places_own names once) in
       ap (map line) (rows_of_batch f b batch there)
       ∙ map-map line (stored_record f e) (enumerate_from 0 names)
       ∙ map_same (λ d. line (stored_record f e d)) (λ (d : ℕ × List ℕ). record_line f b d.1) (enumerate_from 0 names) each
       ∙ sym (map-map (record_line f b) (λ (d : ℕ × List ℕ). d.1) (enumerate_from 0 names))
       ∙ ap (map (record_line f b)) (unnumbered 0 names)
 
-  pub lines_told : IsSound f → (b : List ℕ) → record_lines f b ≡ lines_in (stored_batches f) (stored_records f) (stored_sessions f) b
+  pub lines_in_rows : IsSound f → (b : List ℕ) → record_lines f b ≡ lines_in (stored_batches f) (stored_records f) (stored_sessions f) b
   unfolding record_lines
-  lines_told sound b = by_batch (batch_named f.batches b) refl
+  lines_in_rows sound b = by_batch (batch_named f.batches b) refl
     where
       by_batch : (o : Option Batch) → batch_named f.batches b ≡ o → map (record_line f b) (records_named f b) ≡ lines_in (stored_batches f) (stored_records f) (stored_sessions f) b
       by_batch None is =

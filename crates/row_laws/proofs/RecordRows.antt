@@ -24,7 +24,7 @@ use Rattle.table_rows.specs.Keys.{is_batch_named, is_record_at, is_record_named}
 use Rattle.table_rows.specs.Tables.{PassesOnce, StoredBatch, StoredRecord}
 use Rattle.image_laws.specs.WritingOf.{IsPlaceOf}
 use Rattle.image_laws.specs.Image.{batch_id, batches_by_id, place_in, placed_records, records_in, stored_batch, stored_batches, stored_record, stored_records}
-use Rattle.row_laws.specs.Telling.{place_of, record_row}
+use Rattle.row_laws.specs.RowValues.{place_of, record_row}
 use Rattle.row_laws.proofs.BatchRows.{batch_at, named_row, own_name, totals_are}
 use Rattle.row_laws.proofs.Finding.{AllPairs-map, AllPairs-numbered, find-map, found_joined, found_numbered, number_found, number_once, once_joined}
 
@@ -149,11 +149,11 @@ module _ (f : Facts) where
       ∙ subst (λ names. list_any (bytes_eq n) names ≡ true → find (is_record_at id (place_in names n)) (records_in f (id, batch)) ≡ Some (stored_record f (id, batch) (place_in names n, n)))
       (names_are b batch there) (at_in id n batch) among
 
-  -- ---- what the rows tell
+  -- ---- what the rows give
 
-  pub state_told : (b r : List ℕ) → record_state_of f b r ≡ option_map (λ (x : StoredRecord). x.state) (record_row (stored_batches f) (stored_records f) b r)
+  pub state_in_rows : (b r : List ℕ) → record_state_of f b r ≡ option_map (λ (x : StoredRecord). x.state) (record_row (stored_batches f) (stored_records f) b r)
   unfolding record_state_of
-  state_told b r = by_batch (batch_named f.batches b) refl
+  state_in_rows b r = by_batch (batch_named f.batches b) refl
     where
       by_batch : (o : Option Batch) → batch_named f.batches b ≡ o
           → cond (list_any (bytes_eq r) (records_named f b)) (Some (record_state f b r)) None ≡ option_map (λ (x : StoredRecord). x.state) (record_row (stored_batches f) (stored_records f) b r)
@@ -180,9 +180,9 @@ module _ (f : Facts) where
         totals = sym (totals_are f b batch there);
       }
 
-  pub place_told : (b r : List ℕ) (row : StoredBatch) (x : StoredRecord) → find (is_batch_named b) (stored_batches f) ≡ Some row
+  pub place_in_rows : (b r : List ℕ) (row : StoredBatch) (x : StoredRecord) → find (is_batch_named b) (stored_batches f) ≡ Some row
       → find (is_record_named row.id r) (stored_records f) ≡ Some x → IsPlaceOf f b r (place_of row x)
-  place_told b r row x at_row at_x = by_batch (batch_named f.batches b) refl
+  place_in_rows b r row x at_row at_x = by_batch (batch_named f.batches b) refl
     where
       by_batch : (o : Option Batch) → batch_named f.batches b ≡ o → IsPlaceOf f b r (place_of row x)
       by_batch None is = absurd (none-some row (sym (named_row f b ∙ ap (option_map (λ (c : Batch). stored_batch f (batch_id f.batches b, c))) is) ∙ at_row))
@@ -200,7 +200,7 @@ module _ (f : Facts) where
   pub rows_there : (b r : List ℕ) (state : RecordState) → record_state_of f b r ≡ Some state
       → (row : StoredBatch) × (x : StoredRecord) × (find (is_batch_named b) (stored_batches f) ≡ Some row) × (find (is_record_named row.id r) (stored_records f) ≡ Some x)
   rows_there b r state is =
-      let it = mapped (λ (x : StoredRecord). x.state) (record_row (stored_batches f) (stored_records f) b r) state (sym (state_told b r) ∙ is) in
+      let it = mapped (λ (x : StoredRecord). x.state) (record_row (stored_batches f) (stored_records f) b r) state (sym (state_in_rows b r) ∙ is) in
       by_row it.0 it.1 (find (is_batch_named b) (stored_batches f)) refl
     where
       by_row : (x : StoredRecord) → record_row (stored_batches f) (stored_records f) b r ≡ Some x → (o : Option StoredBatch) → find (is_batch_named b) (stored_batches f) ≡ o

@@ -13,7 +13,7 @@ use Rattle.table_rows.specs.Keys.{is_batch, is_record_at, is_running_on, is_sess
 use Rattle.table_rows.specs.Tables.{PassesOnce, StoredBatch, StoredRecord, StoredSession}
 use Rattle.image_laws.specs.WritingOf.{IsPlaceOf, IsPlaceOfSession}
 use Rattle.image_laws.specs.Image.{batch_id, place_in, sessions_by_id, stored_batch, stored_batches, stored_record, stored_records, stored_session, stored_sessions}
-use Rattle.row_laws.specs.Telling.{place_of, session_in, session_of}
+use Rattle.row_laws.specs.RowValues.{place_of, session_in, session_of}
 use Rattle.row_laws.proofs.BatchRows.{id_row as batch_row, own_name}
 use Rattle.row_laws.proofs.Finding.{AllPairs-map, AllPairs-numbered, find-map, number_before, number_found, number_once, once_from_count, option_map-map}
 use Rattle.row_laws.proofs.RecordRows.{place_is, place_row}
@@ -58,8 +58,8 @@ module _ (f : Facts) where
     row_is : session_of own own_batch own_record ≡ session_row f x
     row_is = ap (λ m. let r : SessionRow = record (session_row f x) { batch = m } in r) (own_name f x.batch is.batch is.batch_is)
 
-    told_in : option_and_then (λ (b : StoredBatch). option_map (session_of own b) (find (is_record_at own.batch own.place) (stored_records f))) (find (is_batch own.batch) (stored_batches f)) ≡ Some (session_row f x)
-    told_in =
+    found_in_rows : option_and_then (λ (b : StoredBatch). option_map (session_of own b) (find (is_record_at own.batch own.place) (stored_records f))) (find (is_batch own.batch) (stored_batches f)) ≡ Some (session_row f x)
+    found_in_rows =
         ap (option_and_then (λ (b : StoredBatch). option_map (session_of own b) (find (is_record_at own.batch own.place) (stored_records f)))) batch_found
         ∙ ap (option_map (session_of own own_batch)) record_found
         ∙ ap Some row_is
@@ -71,8 +71,8 @@ module _ (f : Facts) where
         let two : own_record ≡ r = same_Some own_record r (sym record_found ∙ at_r) in
         subst (λ y. IsPlaceOf f x.batch x.rec (place_of y r)) one (subst (λ y. IsPlaceOf f x.batch x.rec (place_of own_batch y)) two (place_is f x.batch x.rec is.batch is.batch_is))
 
-  pub row_told : IsSound f → (id : ℕ) → session_row_of f id ≡ session_in (stored_sessions f) (stored_batches f) (stored_records f) id
-  row_told sound id = by_session (session_numbered f.sessions id) refl
+  pub row_in_rows : IsSound f → (id : ℕ) → session_row_of f id ≡ session_in (stored_sessions f) (stored_batches f) (stored_records f) id
+  row_in_rows sound id = by_session (session_numbered f.sessions id) refl
     where
       after : StoredSession → Option SessionRow
       after s = option_and_then (λ (b : StoredBatch). option_map (session_of s b) (find (is_record_at s.batch s.place) (stored_records f))) (find (is_batch s.batch) (stored_batches f))
@@ -82,7 +82,7 @@ module _ (f : Facts) where
           ap (option_map (session_row f)) is ∙ sym (ap (option_and_then after) (session_at id ∙ ap (option_map (λ (x : Session). stored_session f (id, x))) is))
       by_session (Some x) is =
           ap (option_map (session_row f)) is
-          ∙ sym (told_in id x (session_sound f id x sound is))
+          ∙ sym (found_in_rows id x (session_sound f id x sound is))
           ∙ sym (ap (option_and_then after) (session_at id ∙ ap (option_map (λ (y : Session). stored_session f (id, y))) is))
 
   pub place_of_session : IsSound f → (id : ℕ) (s : StoredSession) (b : StoredBatch) (r : StoredRecord) → find (is_session id) (stored_sessions f) ≡ Some s
@@ -113,9 +113,9 @@ module _ (f : Facts) where
       AllPairs-map (λ (x y : StoredSession). is_running_on machine x ≡ true → is_running_on machine y ≡ false) (stored_session f) (sessions_by_id f)
       (AllPairs-numbered (λ (x y : Session). runs_on f machine x ≡ true → runs_on f machine y ≡ false) 1 f.sessions once)
 
-  pub running_told : (machine : List ℕ) → running_session f machine ≡ option_map (λ (s : StoredSession). s.id) (find (is_running_on machine) (stored_sessions f))
+  pub running_in_rows : (machine : List ℕ) → running_session f machine ≡ option_map (λ (s : StoredSession). s.id) (find (is_running_on machine) (stored_sessions f))
   unfolding stored_sessions running_session
-  running_told machine =
+  running_in_rows machine =
       let runs : ℕ × Session → Bool = λ e. bytes_eq e.1.machine machine && is_running (session_state f e.1) in
       ap (λ es. option_map (λ (e : ℕ × Session). e.0) (find runs es)) (numbered_is 1 f.sessions)
       ∙ sym (ap (option_map (λ (s : StoredSession). s.id)) (find-map (is_running_on machine) (stored_session f) (sessions_by_id f))

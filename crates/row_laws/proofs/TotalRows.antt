@@ -27,7 +27,7 @@ use Rattle.step_laws.proofs.GoodCards.{count_among}
 use Rattle.table_rows.specs.Keys.{is_batch_for, is_lot_for}
 use Rattle.table_rows.specs.Tables.{StoredBatch, StoredLot}
 use Rattle.image_laws.specs.Image.{batches_by_id, stored_batch, stored_batches, stored_lot, stored_lots}
-use Rattle.row_laws.specs.Telling.{blanks_of}
+use Rattle.row_laws.specs.RowValues.{blanks_of}
 use Rattle.row_laws.proofs.CardCounts.{IsCardOf, good_counted, running_counted}
 use Rattle.row_laws.proofs.Finding.{kept_numbered}
 use Rattle.row_laws.proofs.RecordRows.{names_once}
@@ -86,7 +86,7 @@ module _ (f : Facts) (sound : IsSound f) where
     unfolding states_of record_state
     of_record r =
         sym (count_among (same_session_state state) (session_state f) (is_for n r) f.sessions)
-        ∙ card (states_of f n r) (is_withdrawn f n r) (remakes_of f n r) (sound.told.records n r)
+        ∙ card (states_of f n r) (is_withdrawn f n r) (remakes_of f n r) (sound.states.records n r)
 
     pub cards_of_batch : count_sessions (session_states f n) state ≡ count_records (record_states f n) stands
     unfolding session_states record_states
@@ -140,8 +140,8 @@ module _ (f : Facts) (sound : IsSound f) where
     unfolding blank_totals
     serials_many = of_lots (λ l. l.lot.count)
 
-    pub blanks_told : blank_totals f p ≡ blanks_of (filter (is_lot_for p) (stored_lots f)) (filter (is_batch_for p) (stored_batches f))
-    blanks_told =
+    pub blanks_in_rows : blank_totals f p ≡ blanks_of (filter (is_lot_for p) (stored_lots f)) (filter (is_batch_for p) (stored_batches f))
+    blanks_in_rows =
         let sums : AreBlankSums f p = blank_sums f p sound in
         let lots = lots_many in
         let total = serials_many in

@@ -6,8 +6,8 @@ ghost use Rattle.job_facts.specs.Facts.{Batch, Facts};
 ghost use Rattle.job_facts.specs.Rows.{batch_has, batch_row_of, batch_size_of};
 ghost use Rattle.job_facts.specs.Sound.{IsSound};
 ghost use Rattle.job_facts.specs.States.{batch_named, is_batch_finished};
-ghost use Rattle.row_laws.specs.Telling.{batch_of_row, has_raw_in, is_over_in, size_of};
-ghost use Rattle.row_laws.specs.Telling.{totals_in};
+ghost use Rattle.row_laws.specs.RowValues.{batch_of_row, has_raw_in, is_over_in, size_of};
+ghost use Rattle.row_laws.specs.RowValues.{totals_in};
 ghost use Rattle.image_laws.specs.Image.{batch_id, stored_batch, stored_batches};
 ghost use Rattle.image_laws.specs.Image.{stored_groupings};
 ghost use Rattle.table_rows.specs.Keys.{is_batch, is_batch_named, is_batch_with};
@@ -31,7 +31,7 @@ pub fn batches_by_id()
         ≡ Some (stored_batch f (batch_id f.batches n, b)) }
 {}
 
-/// A batch's row tells its totals, and whether it is finished.
+/// A batch's row gives its totals, and whether it is finished.
 pub fn totals_by_rows()
     ensures totals { (f : Facts) (n : List ℕ) → IsSound f
         → batch_totals f n ≡ totals_in (find (is_batch_named n) (stored_batches f)) }
@@ -39,7 +39,7 @@ pub fn totals_by_rows()
         → is_batch_finished f n ≡ is_over_in (find (is_batch_named n) (stored_batches f)) }
 {}
 
-/// A batch's row tells its product and whether it is closed, its bytes, and with the rows of its
+/// A batch's row gives its product and whether it is closed, its bytes, and with the rows of its
 /// groupings how many rows and records it has.
 pub fn batches_by_rows()
     ensures row { (f : Facts) (b : List ℕ)

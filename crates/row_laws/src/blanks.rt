@@ -19,7 +19,7 @@ pub fn blanks_by_serial()
         → is_charged f n ≡ is_some (find (is_blank n) (stored_blanks f)) }
 {}
 
-/// A name finds the row of the lot that has it, which tells how many of its blanks are discarded.
+/// A name finds the row of the lot that has it, which gives how many of its blanks are discarded.
 pub fn lots_by_name()
     ensures once { (f : Facts) (n : List ℕ) → IsSound f
         → PassesOnce (is_lot_named n) (stored_lots f) }

@@ -7,13 +7,13 @@ ghost use Rattle.job_facts.specs.Facts.{Batch, Facts};
 ghost use Rattle.job_facts.specs.Sound.{IsRecord};
 ghost use Rattle.job_facts.specs.States.{batch_named, plan_for, records_named, rows_of};
 ghost use Rattle.job_facts.specs.States.{rows_of_record};
-ghost use Rattle.row_laws.specs.Telling.{plan_in, row_of};
+ghost use Rattle.row_laws.specs.RowValues.{plan_in, row_of};
 ghost use Rattle.image_laws.specs.Image.{batch_id, place_in, stored_batches, stored_grouping};
 ghost use Rattle.image_laws.specs.Image.{stored_groupings, stored_records};
 ghost use Rattle.table_rows.specs.Keys.{is_grouping_at, is_grouping_of};
 ghost use Rattle.table_rows.specs.Tables.{StoredGrouping};
 
-/// The rows for a record, by rising lines, tell its rows of its batch's file.
+/// The rows for a record, by rising lines, give its rows of its batch's file.
 pub fn groupings_by_place()
     ensures rows { (f : Facts) (b r : List ℕ) (batch : Batch)
         → batch_named f.batches b ≡ Some batch → IsRecord f b r
@@ -37,7 +37,7 @@ pub fn groupings_by_place()
         ≡ length (rows_of f.products batch) }
 {}
 
-/// The rows of a batch, a record and its groupings tell the record's plan.
+/// The rows of a batch, a record and its groupings give the record's plan.
 pub fn plans_by_rows()
     ensures { (f : Facts) (b r : List ℕ) → plan_for f b r
         ≡ plan_in f.products (stored_batches f) (stored_records f) (stored_groupings f) b r }

@@ -7,7 +7,7 @@ ghost use Rattle.job_facts.specs.Facts.{Batch, Facts};
 ghost use Rattle.job_facts.specs.Sound.{IsRecord};
 ghost use Rattle.job_facts.specs.States.{batch_named, first_waiting, record_state_of};
 ghost use Rattle.job_facts.specs.States.{records_named};
-ghost use Rattle.row_laws.specs.Telling.{place_of, record_row, waiting_in};
+ghost use Rattle.row_laws.specs.RowValues.{place_of, record_row, waiting_in};
 ghost use Rattle.image_laws.specs.WritingOf.{IsPlaceOf};
 ghost use Rattle.image_laws.specs.Image.{batch_id, place_in, stored_batches, stored_record};
 ghost use Rattle.image_laws.specs.Image.{stored_records};
@@ -15,7 +15,7 @@ ghost use Rattle.table_rows.specs.Keys.{is_batch_named, is_record_at, is_record_
 ghost use Rattle.table_rows.specs.Keys.{is_record_of, is_waiting_of};
 ghost use Rattle.table_rows.specs.Tables.{PassesOnce, StoredBatch, StoredRecord};
 
-/// A record's name with the id of its batch finds its row, which tells its state, and with its
+/// A record's name with the id of its batch finds its row, which gives its state, and with its
 /// batch's row its place.
 pub fn records_by_name()
     ensures once { (f : Facts) (id : ℕ) (n : List ℕ)
@@ -52,7 +52,7 @@ pub fn records_by_place()
 {}
 
 /// The rows of a batch's records stand in file order, by rising places, and the first that waits
-/// tells its name.
+/// gives its name.
 pub fn records_of_batches()
     ensures rows { (f : Facts) (b : List ℕ) (batch : Batch) → batch_named f.batches b ≡ Some batch
         → filter (is_record_of (batch_id f.batches b)) (stored_records f)

@@ -4,14 +4,14 @@ ghost use Rattle.job_facts.specs.Facts.{Facts, Session};
 ghost use Rattle.job_facts.specs.Rows.{session_row_of};
 ghost use Rattle.job_facts.specs.Sound.{IsSound};
 ghost use Rattle.job_facts.specs.States.{running_session, session_numbered};
-ghost use Rattle.row_laws.specs.Telling.{place_of, session_in};
+ghost use Rattle.row_laws.specs.RowValues.{place_of, session_in};
 ghost use Rattle.image_laws.specs.WritingOf.{IsPlaceOfSession};
 ghost use Rattle.image_laws.specs.Image.{stored_batches, stored_records, stored_session};
 ghost use Rattle.image_laws.specs.Image.{stored_sessions};
 ghost use Rattle.table_rows.specs.Keys.{is_batch, is_record_at, is_running_on, is_session};
 ghost use Rattle.table_rows.specs.Tables.{PassesOnce, StoredBatch, StoredRecord, StoredSession};
 
-/// A session's number finds its row, and this the rows of its batch and its record, which tell
+/// A session's number finds its row, and this the rows of its batch and its record, which give
 /// their names and its record's place.
 pub fn sessions_by_number()
     ensures once { (f : Facts) (id : ℕ) → PassesOnce (is_session id) (stored_sessions f) }
@@ -33,7 +33,7 @@ pub fn sessions_by_number()
         × (find (is_record_at s.batch s.place) (stored_records f) ≡ Some r) }
 {}
 
-/// A machine has one row of a running session at most, which tells its number.
+/// A machine has one row of a running session at most, which gives its number.
 pub fn running_sessions_by_machine()
     ensures once { (f : Facts) (machine : List ℕ) → IsSound f
         → PassesOnce (is_running_on machine) (stored_sessions f) }

@@ -21,7 +21,7 @@ use Rattle.sql_rows.specs.Image.{IsImage}
 use Rattle.sql_rows.proofs.OneImage.{flag_back}
 use Rattle.row_reads.specs.Decoding.{IsFirst, first_number, product_in}
 use Rattle.row_reads.specs.Texts.{by_first_column, mark_columns, mark_text, product_columns, product_text}
-use Rattle.row_reads.proofs.Asking.{asked, one_found, tells}
+use Rattle.row_reads.proofs.Asking.{asked, one_found, shown_row}
 use Rattle.row_reads.proofs.Looking.{one_answered}
 use Rattle.row_reads.proofs.Meanings.{mark_asks, product_asks}
 
@@ -39,7 +39,7 @@ option_same (Some x) = refl
 
 -- ---- products
 
-product_back : (params : Row) (p : Product) → product_in (tells false product_columns params (product_row p)) ≡ p
+product_back : (params : Row) (p : Product) → product_in (shown_row false product_columns params (product_row p)) ≡ p
 product_back params p = rw (flag_back p.check) refl
 
 pub product_found : (key : List ℕ) (old new : State) (rows : List Row) → Shown product_text (Text key ∷ []) old new rows → (t : Tables) → IsImage t old.now
@@ -47,7 +47,7 @@ pub product_found : (key : List ℕ) (old new : State) (rows : List Row) → Sho
 product_found key old new rows h t image found first once =
     let params = Text key ∷ [] in
     let has : Product → Bool = λ p. bytes_eq p.code key in
-    one_found has (λ p. tells false product_columns params (product_row p)) t.products rows
+    one_found has (λ p. shown_row false product_columns params (product_row p)) t.products rows
     (asked false product_row by_first_column product_columns params has refl (λ v r. refl) (λ p. text_key key p.code) product_text 1 product_asks old new rows h image.ours t.products image.each.1.0.rows)
     product_in (λ p. p) (named_once (λ (p : Product). p.code) t.products key once) (λ p is. product_back params p) found first
     ∙ option_same (product_named t.products key)
@@ -58,12 +58,12 @@ pub mark_found : (key : List ℕ) (old new : State) (rows : List Row) → Shown 
     → AreNamedOnce (map (λ (m : Mark). m.client) t.marks) → first_number rows ≡ mark_of t.marks key
 mark_found key old new rows h t image once =
     let params = Text key ∷ [] in
-    let tell : Mark → Row = λ m. tells false mark_columns params (mark_row m) in
-    ap first_number (one_answered (has_mark key) tell t.marks rows (named_once (λ (m : Mark). m.client) t.marks key once)
+    let view : Mark → Row = λ m. shown_row false mark_columns params (mark_row m) in
+    ap first_number (one_answered (has_mark key) view t.marks rows (named_once (λ (m : Mark). m.client) t.marks key once)
     (asked false mark_row by_first_column mark_columns params (has_mark key) refl (λ v r. refl) (λ m. text_key key m.client) mark_text 21 mark_asks old new rows h image.ours t.marks
     image.each.1.1.1.1.1.1.1.1.1.1.1.0.rows))
     ∙ from (find (has_mark key) t.marks)
   where
-    from : (o : Option Mark) → first_number (map (λ (m : Mark). tells false mark_columns (Text key ∷ []) (mark_row m)) (option_to_list o)) ≡ unwrap_or (option_map (λ (m : Mark). m.upto) o) 0
+    from : (o : Option Mark) → first_number (map (λ (m : Mark). shown_row false mark_columns (Text key ∷ []) (mark_row m)) (option_to_list o)) ≡ unwrap_or (option_map (λ (m : Mark). m.upto) o) 0
     from None = refl
     from (Some m) = refl

@@ -19,7 +19,7 @@ use Rattle.sqlite.proofs.Callers.{IsPlain, command_of}
 use Rattle.sql_base.specs.Queries.{from_tree}
 use Rattle.sql_base.proofs.Selecting.{map_map, map_same, passes, selected, shown}
 use Rattle.sql_tables.specs.Tables.{our_schema}
-use Rattle.sql_rows.specs.Image.{told}
+use Rattle.sql_rows.specs.Image.{given_rows}
 use Rattle.table_rows.specs.Tables.{PassesOnce}
 use Rattle.table_rows.proofs.Found.{find_passes}
 use Rattle.row_reads.specs.Decoding.{IsFirst, has_rows}
@@ -32,29 +32,29 @@ pub record Asks (text : List ℕ) (tree : ℕ) (filters project : List Term) : T
   pub plain : IsPlain (understood our_schema text)
   pub unlisted : reads_listing our_schema text ≡ false
 
--- a row as a query sees it: before one that is told without its rowid stands a rowid that nothing
+-- a row as a query sees it: before one that is given without its rowid stands a rowid that nothing
 -- looks at
 abbrev pub whole : Bool → Row → Row
 whole true row = row
 whole false row = Null ∷ row
 
--- and as it is told
+-- and as it is given
 abbrev pub part : Bool → Row → Row
 part true row = row
 part false row = drop 1 row
 
-part_told : (by_rowid : Bool) (rows : List Row) → told by_rowid rows ≡ map (part by_rowid) rows
-part_told true [] = refl
-part_told true (r ∷ rows) = ap (λ rs. r ∷ rs) (part_told true rows)
-part_told false rows = refl
+part_given : (by_rowid : Bool) (rows : List Row) → given_rows by_rowid rows ≡ map (part by_rowid) rows
+part_given true [] = refl
+part_given true (r ∷ rows) = ap (λ rs. r ∷ rs) (part_given true rows)
+part_given false rows = refl
 
 -- whether a row passes, and what is shown of it
 abbrev pub look : List Term → List Term → Row → Row → Bool × Row
 look filters project params row = (passes filters params row, shown project params row)
 
--- what is shown of a row that is told so
-abbrev pub tells : Bool → List Term → Row → Row → Row
-tells by_rowid project params row = shown project params (whole by_rowid row)
+-- what is shown of a row that is given so
+abbrev pub shown_row : Bool → List Term → Row → Row → Row
+shown_row by_rowid project params row = shown project params (whole by_rowid row)
 
 module _ {X : Type 0} (by_rowid : Bool) (encode : X → Row) (filters project : List Term) (params : Row) (key : X → Bool)
     (none : look filters project params [] ≡ look filters project params (whole by_rowid (part by_rowid [])))
@@ -64,41 +64,41 @@ module _ {X : Type 0} (by_rowid : Bool) (encode : X → Row) (filters project : 
   looks [] = none
   looks (v ∷ r) = some v r
 
-  -- what the rows that pass show is what the rows with the key tell
-  pub told_as : (xs : List X) (stored rows : List Row) → IsPermutation (map encode xs) (told by_rowid stored)
-      → IsPermutation (map (shown project params) (filter (passes filters params) stored)) rows → IsPermutation (map (λ x. tells by_rowid project params (encode x)) (filter key xs)) rows
-  told_as xs stored rows filled got =
-      looked_up encode (part by_rowid) (passes filters params) (λ r. passes filters params (whole by_rowid r)) key (shown project params) (tells by_rowid project params)
-      (λ x. tells by_rowid project params (encode x)) (λ r. ap (λ (l : Bool × Row). l.0) (looks r)) (λ r. ap (λ (l : Bool × Row). l.1) (looks r)) key_is (λ x. refl) xs
-      stored rows (subst (IsPermutation (map encode xs)) (part_told by_rowid stored) filled) got
+  -- what the rows that pass show is what the rows with the key give
+  pub given_as : (xs : List X) (stored rows : List Row) → IsPermutation (map encode xs) (given_rows by_rowid stored)
+      → IsPermutation (map (shown project params) (filter (passes filters params) stored)) rows → IsPermutation (map (λ x. shown_row by_rowid project params (encode x)) (filter key xs)) rows
+  given_as xs stored rows filled got =
+      looked_up encode (part by_rowid) (passes filters params) (λ r. passes filters params (whole by_rowid r)) key (shown project params) (shown_row by_rowid project params)
+      (λ x. shown_row by_rowid project params (encode x)) (λ r. ap (λ (l : Bool × Row). l.0) (looks r)) (λ r. ap (λ (l : Bool × Row). l.1) (looks r)) key_is (λ x. refl) xs
+      stored rows (subst (IsPermutation (map encode xs)) (part_given by_rowid stored) filled) got
 
   -- so that is answered
   pub asked : (text : List ℕ) (tree : ℕ) → Asks text tree filters project → (old new : State) (rows : List Row) → Shown text params old new rows → old.now.schema ≡ our_schema
-      → (xs : List X) → IsPermutation (map encode xs) (told by_rowid (old.now.trees tree)) → IsPermutation (map (λ x. tells by_rowid project params (encode x)) (filter key xs)) rows
+      → (xs : List X) → IsPermutation (map encode xs) (given_rows by_rowid (old.now.trees tree)) → IsPermutation (map (λ x. shown_row by_rowid project params (encode x)) (filter key xs)) rows
   asked text tree asks old new rows h ours xs filled =
-      told_as xs (old.now.trees tree) rows filled (selected text params old new our_schema ours tree filters project asks.names asks.is asks.plain asks.unlisted rows h)
+      given_as xs (old.now.trees tree) rows filled (selected text params old new our_schema ours tree filters project asks.names asks.is asks.plain asks.unlisted rows h)
 
 -- what is made of the answer
-module _ {X Y : Type 0} (key : X → Bool) (tell : X → Row) (xs : List X) (rows : List Row) (got : IsPermutation (map tell (filter key xs)) rows) (decode : Row → Y) (f : X → Y) where
+module _ {X Y : Type 0} (key : X → Bool) (view : X → Row) (xs : List X) (rows : List Row) (got : IsPermutation (map view (filter key xs)) rows) (decode : Row → Y) (f : X → Y) where
   -- the first row's, where one row at most has the key
-  pub one_found : PassesOnce key xs → ((x : X) → key x ≡ true → decode (tell x) ≡ f x) → (found : Option Y) → IsFirst (map decode rows) found → found ≡ option_map f (find key xs)
-  one_found once back found first = from (find key xs) refl (subst (λ rs. IsFirst (map decode rs) found) (one_answered key tell xs rows once got) first)
+  pub one_found : PassesOnce key xs → ((x : X) → key x ≡ true → decode (view x) ≡ f x) → (found : Option Y) → IsFirst (map decode rows) found → found ≡ option_map f (find key xs)
+  one_found once back found first = from (find key xs) refl (subst (λ rs. IsFirst (map decode rs) found) (one_answered key view xs rows once got) first)
     where
-      from : (o : Option X) → find key xs ≡ o → IsFirst (map decode (map tell (option_to_list o))) found → found ≡ option_map f o
+      from : (o : Option X) → find key xs ≡ o → IsFirst (map decode (map view (option_to_list o))) found → found ≡ option_map f o
       from None is none = none
       from (Some x) is some = some ∙ ap Some (back x (find_passes key xs x is))
 
   -- each row's
-  pub all_found : ((x : X) → decode (tell x) ≡ f x) → IsPermutation (map f (filter key xs)) (map decode rows)
+  pub all_found : ((x : X) → decode (view x) ≡ f x) → IsPermutation (map f (filter key xs)) (map decode rows)
   all_found back =
-      subst (λ ys. IsPermutation ys (map decode rows)) (map_map decode tell (filter key xs) ∙ map_same (λ x. decode (tell x)) f back (filter key xs))
-      (IsPermutation-map decode (map tell (filter key xs)) rows got)
+      subst (λ ys. IsPermutation ys (map decode rows)) (map_map decode view (filter key xs) ∙ map_same (λ x. decode (view x)) f back (filter key xs))
+      (IsPermutation-map decode (map view (filter key xs)) rows got)
 
-list_any_filter : {X : Type 0} (p : X → Bool) (tell : X → Row) (xs : List X) → list_any p xs ≡ has_rows (map tell (filter p xs))
-list_any_filter p tell [] = refl
-list_any_filter p tell (x ∷ xs) = elim (cases_Bool (p x)) [
+list_any_filter : {X : Type 0} (p : X → Bool) (view : X → Row) (xs : List X) → list_any p xs ≡ has_rows (map view (filter p xs))
+list_any_filter p view [] = refl
+list_any_filter p view (x ∷ xs) = elim (cases_Bool (p x)) [
   | inl hit ↦ rw hit refl
-  | inr miss ↦ rw miss (list_any_filter p tell xs)
+  | inr miss ↦ rw miss (list_any_filter p view xs)
 ]
 
 has_as_long : (xs ys : List Row) → length ys ≡ length xs → has_rows ys ≡ has_rows xs
@@ -107,11 +107,11 @@ has_as_long [] (y ∷ ys) same = absurd (omega (arith, same))
 has_as_long (x ∷ xs) [] same = absurd (omega (arith, same))
 has_as_long (x ∷ xs) (y ∷ ys) same = refl
 
-module _ {X : Type 0} (key : X → Bool) (tell : X → Row) (xs : List X) (rows : List Row) (got : IsPermutation (map tell (filter key xs)) rows) where
+module _ {X : Type 0} (key : X → Bool) (view : X → Row) (xs : List X) (rows : List Row) (got : IsPermutation (map view (filter key xs)) rows) where
   -- a row is answered where one has the key
   pub any_found : has_rows rows ≡ list_any key xs
-  any_found = has_as_long _ rows (length_permutation _ rows got) ∙ sym (list_any_filter key tell xs)
+  any_found = has_as_long _ rows (length_permutation _ rows got) ∙ sym (list_any_filter key view xs)
 
   -- and as many as have it
   pub count_found : length rows ≡ length (filter key xs)
-  count_found = length_permutation (map tell (filter key xs)) rows got ∙ length-map (filter key xs) tell
+  count_found = length_permutation (map view (filter key xs)) rows got ∙ length-map (filter key xs) view

@@ -24,19 +24,19 @@ use Rattle.row_reads.specs.CardTexts.{by_batch_and_name, by_id, by_running_machi
 use Rattle.row_reads.specs.Decoding.{IsFirst, id_in}
 use Rattle.row_reads.specs.NameTexts.{by_two_columns}
 use Rattle.row_reads.proofs.Answering.{int_key}
-use Rattle.row_reads.proofs.Asking.{asked, one_found, tells}
+use Rattle.row_reads.proofs.Asking.{asked, one_found, shown_row}
 use Rattle.row_reads.proofs.CardMeanings.{record_at_asks, record_named_asks, running_asks, session_asks}
 
 -- ---- sessions
 
-session_back : (params : Row) (s : StoredSession) → session_in (tells true session_columns params (session_row s)) ≡ session_at s
+session_back : (params : Row) (s : StoredSession) → session_in (shown_row true session_columns params (session_row s)) ≡ session_at s
 session_back params s = rw (session_state_back s.state) refl
 
 pub session_found : (id : ℕ) (old new : State) (rows : List Row) → Shown session_text (number id ∷ []) old new rows → (t : Tables) → IsImage t old.now
     → (found : Option SessionAt) → IsFirst (map session_in rows) found → PassesOnce (is_session id) t.sessions → found ≡ option_map session_at (find (is_session id) t.sessions)
 session_found id old new rows h t image found first once =
     let params = number id ∷ [] in
-    one_found (is_session id) (λ s. tells true session_columns params (session_row s)) t.sessions rows
+    one_found (is_session id) (λ s. shown_row true session_columns params (session_row s)) t.sessions rows
     (asked true session_row by_id session_columns params (is_session id) refl (λ v r. refl) (λ s. int_key id s.id) session_text 12 session_asks old new rows h image.ours t.sessions
     image.each.1.1.1.1.1.1.0.rows)
     session_in session_at once (λ s is. session_back params s) found first
@@ -55,14 +55,14 @@ pub running_found : (machine : List ℕ) (old new : State) (rows : List Row) →
     → found ≡ option_map (λ (s : StoredSession). s.id) (find (is_running_on machine) t.sessions)
 running_found machine old new rows h t image found first once =
     let params = Text machine ∷ [] in
-    one_found (is_running_on machine) (λ s. tells true running_columns params (session_row s)) t.sessions rows
+    one_found (is_running_on machine) (λ s. shown_row true running_columns params (session_row s)) t.sessions rows
     (asked true session_row by_running_machine running_columns params (is_running_on machine) refl (λ v r. refl) (running_key machine) running_text 12 running_asks old new rows h image.ours t.sessions
     image.each.1.1.1.1.1.1.0.rows)
     id_in (λ (s : StoredSession). s.id) once (λ s is. refl) found first
 
 -- ---- records
 
-pub record_back : (params : Row) (r : StoredRecord) → record_in (tells false record_columns params (record_row r)) ≡ record_at r
+pub record_back : (params : Row) (r : StoredRecord) → record_in (shown_row false record_columns params (record_row r)) ≡ record_at r
 record_back params r = rw (record_state_back r.state) refl
 
 named_key : (batch : ℕ) (name : List ℕ) (r : StoredRecord)
@@ -73,7 +73,7 @@ pub record_named_found : (batch : ℕ) (name : List ℕ) (old new : State) (rows
     → (found : Option RecordAt) → IsFirst (map record_in rows) found → PassesOnce (is_record_named batch name) t.records → found ≡ option_map record_at (find (is_record_named batch name) t.records)
 record_named_found batch name old new rows h t image found first once =
     let params = number batch ∷ Text name ∷ [] in
-    one_found (is_record_named batch name) (λ r. tells false record_columns params (record_row r)) t.records rows
+    one_found (is_record_named batch name) (λ r. shown_row false record_columns params (record_row r)) t.records rows
     (asked false record_row by_batch_and_name record_columns params (is_record_named batch name) refl (λ v r. refl) (named_key batch name) record_named_text 7 record_named_asks old new rows h
     image.ours t.records image.each.1.1.1.1.0.rows)
     record_in record_at once (λ r is. record_back params r) found first
@@ -86,7 +86,7 @@ pub record_at_found : (batch place : ℕ) (old new : State) (rows : List Row) �
     → (found : Option RecordAt) → IsFirst (map record_in rows) found → PassesOnce (is_record_at batch place) t.records → found ≡ option_map record_at (find (is_record_at batch place) t.records)
 record_at_found batch place old new rows h t image found first once =
     let params = number batch ∷ number place ∷ [] in
-    one_found (is_record_at batch place) (λ r. tells false record_columns params (record_row r)) t.records rows
+    one_found (is_record_at batch place) (λ r. shown_row false record_columns params (record_row r)) t.records rows
     (asked false record_row by_two_columns record_columns params (is_record_at batch place) refl (λ v r. refl) (λ r. place_key r.batch r.place batch place) record_at_text 7 record_at_asks old new rows h
     image.ours t.records image.each.1.1.1.1.0.rows)
     record_in record_at once (λ r is. record_back params r) found first

@@ -2,7 +2,7 @@ pub mod Looking
 pub mod Asking
 pub mod Sorting
 pub mod Walking
-pub mod Told
+pub mod AnswersOfRows
 pub mod Meanings
 pub mod Answering
 pub mod NameMeanings

@@ -15,9 +15,9 @@ use Rattle.table_rows.specs.Tables.{PassesOnce}
 use Rattle.table_rows.proofs.Found.{filter_none}
 
 -- a stored row is seen with its rowid or without
-module _ {X : Type 0} (encode : X → Row) (view : Row → Row) (hit hit_seen : Row → Bool) (key : X → Bool) (show show_seen : Row → Row) (told : X → Row)
+module _ {X : Type 0} (encode : X → Row) (view : Row → Row) (hit hit_seen : Row → Bool) (key : X → Bool) (show show_seen : Row → Row) (given : X → Row)
     (hit_is : (r : Row) → hit r ≡ hit_seen (view r)) (show_is : (r : Row) → show r ≡ show_seen (view r))
-    (key_is : (x : X) → hit_seen (encode x) ≡ key x) (told_is : (x : X) → show_seen (encode x) ≡ told x) where
+    (key_is : (x : X) → hit_seen (encode x) ≡ key x) (given_is : (x : X) → show_seen (encode x) ≡ given x) where
   seen : (stored : List Row) → map show (filter hit stored) ≡ map show_seen (filter hit_seen (map view stored))
   seen stored =
       map_same show (λ r. show_seen (view r)) show_is (filter hit stored)
@@ -25,14 +25,14 @@ module _ {X : Type 0} (encode : X → Row) (view : Row → Row) (hit hit_seen : 
       ∙ sym (map_map show_seen view (filter (λ r. hit_seen (view r)) stored))
       ∙ sym (ap (map show_seen) (filter-map hit_seen view stored))
 
-  encoded : (xs : List X) → map show_seen (filter hit_seen (map encode xs)) ≡ map told (filter key xs)
+  encoded : (xs : List X) → map show_seen (filter hit_seen (map encode xs)) ≡ map given (filter key xs)
   encoded xs =
       ap (map show_seen) (filter-map hit_seen encode xs ∙ ap (map encode) (filter_agree (λ x. hit_seen (encode x)) key key_is xs))
-      ∙ map_map show_seen encode (filter key xs) ∙ map_same (λ x. show_seen (encode x)) told told_is (filter key xs)
+      ∙ map_map show_seen encode (filter key xs) ∙ map_same (λ x. show_seen (encode x)) given given_is (filter key xs)
 
-  -- what is answered is what the rows with the key tell
+  -- what is answered is what the rows with the key give
   pub looked_up : (xs : List X) (stored rows : List Row) → IsPermutation (map encode xs) (map view stored) → IsPermutation (map show (filter hit stored)) rows
-      → IsPermutation (map told (filter key xs)) rows
+      → IsPermutation (map given (filter key xs)) rows
   looked_up xs stored rows held got =
       IsPermutation-trans _ _ _
       (subst (λ zs. IsPermutation zs (map show_seen (filter hit_seen (map view stored)))) (encoded xs) (IsPermutation-map show_seen _ _ (IsPermutation-filter hit_seen _ _ held)))
@@ -49,9 +49,9 @@ module _ {X : Type 0} (p : X → Bool) where
   ]
 
   -- so it alone is answered
-  pub one_answered : (told : X → Row) (xs : List X) (rows : List Row) → PassesOnce p xs → IsPermutation (map told (filter p xs)) rows → rows ≡ map told (option_to_list (find p xs))
-  one_answered told xs rows once got = few (find p xs) (subst (λ zs. IsPermutation (map told zs) rows) (filter_once xs once) got)
+  pub one_answered : (given : X → Row) (xs : List X) (rows : List Row) → PassesOnce p xs → IsPermutation (map given (filter p xs)) rows → rows ≡ map given (option_to_list (find p xs))
+  one_answered given xs rows once got = few (find p xs) (subst (λ zs. IsPermutation (map given zs) rows) (filter_once xs once) got)
     where
-      few : (o : Option X) → IsPermutation (map told (option_to_list o)) rows → rows ≡ map told (option_to_list o)
+      few : (o : Option X) → IsPermutation (map given (option_to_list o)) rows → rows ≡ map given (option_to_list o)
       few None none = nothing_found rows none
-      few (Some x) one = one_permutation (told x) rows one
+      few (Some x) one = one_permutation (given x) rows one

@@ -30,7 +30,7 @@ use Rattle.row_reads.specs.CardTexts.{by_batch, by_batch_and_place, by_good_batc
 use Rattle.row_reads.specs.Decoding.{IsFirst, first_number}
 use Rattle.row_reads.specs.Extremes.{AreSorted, IsGreatest, IsLeastBy}
 use Rattle.row_reads.proofs.Answering.{int_key}
-use Rattle.row_reads.proofs.Asking.{all_found, asked, count_found, tells}
+use Rattle.row_reads.proofs.Asking.{all_found, asked, count_found, shown_row}
 use Rattle.row_reads.proofs.CardAnswers.{place_key, record_back}
 use Rattle.row_reads.proofs.CardMeanings.{coded_asks, good_asks, grouping_count_asks, groupings_asks, last_session_asks, records_asks, waiting_asks}
 use Rattle.row_reads.proofs.Sorting.{asked_sorted, greatest_found, least_found, sorted_found}
@@ -40,10 +40,10 @@ use Rattle.row_reads.proofs.Sorting.{asked_sorted, greatest_found, least_found, 
 pub last_session_found : (old new : State) (rows : List Row) → Shown last_session_text [] old new rows → (t : Tables) → IsImage t old.now
     → IsGreatest (map (λ (s : StoredSession). s.id) t.sessions) (first_number rows)
 last_session_found old new rows h t image =
-    let tell : StoredSession → Row = λ s. tells true (col 1 0 ∷ []) [] (session_row s) in
+    let view : StoredSession → Row = λ s. shown_row true (col 1 0 ∷ []) [] (session_row s) in
     let it = asked_sorted true session_row [] (col 1 0) [] [] (λ _. true) refl (λ v r. refl) (λ s. refl) true limit_one last_session_text 12 last_session_asks old new rows h image.ours t.sessions
     image.each.1.1.1.1.1.1.0.rows in
-    greatest_found tell (λ s. refl) t.sessions it.0 (subst (λ xs. IsPermutation (map tell xs) it.0) (all_pass t.sessions) it.1) it.2 (λ (s : StoredSession). s.id) (λ s. refl) rows it.3
+    greatest_found view (λ s. refl) t.sessions it.0 (subst (λ xs. IsPermutation (map view xs) it.0) (all_pass t.sessions) it.1) it.2 (λ (s : StoredSession). s.id) (λ s. refl) rows it.3
 
 good_code : (s : SessionState) → (session_code s == 1) ≡ is_good s
 good_code session.Running = refl
@@ -58,7 +58,7 @@ pub good_found : (batch : ℕ) (old new : State) (rows : List Row) → Shown goo
     → IsPermutation (map good_at (filter (is_good_of batch) t.sessions)) (map good_in rows)
 good_found batch old new rows h t image =
     let params = number batch ∷ [] in
-    all_found (is_good_of batch) (λ s. tells true good_columns params (session_row s)) t.sessions rows
+    all_found (is_good_of batch) (λ s. shown_row true good_columns params (session_row s)) t.sessions rows
     (asked true session_row by_good_batch good_columns params (is_good_of batch) refl (λ v r. refl) (good_key batch) good_text 12 good_asks old new rows h image.ours t.sessions
     image.each.1.1.1.1.1.1.0.rows)
     good_in good_at (λ s. refl)
@@ -71,7 +71,7 @@ records_found batch old new rows h t image =
     let params = number batch ∷ [] in
     let it = asked_sorted false record_row by_batch (col 1 2) more_record_columns params (is_record_of batch) refl (λ v r. refl) (λ r. int_key batch r.batch) false no_limit records_text 7
     records_asks old new rows h image.ours t.records image.each.1.1.1.1.0.rows in
-    sorted_found (is_record_of batch) (λ r. tells false record_columns params (record_row r)) t.records it.0 it.1 it.2 (λ r. refl) record_in record_at (record_back params) place_of (λ r. refl) rows it.3
+    sorted_found (is_record_of batch) (λ r. shown_row false record_columns params (record_row r)) t.records it.0 it.1 it.2 (λ r. refl) record_in record_at (record_back params) place_of (λ r. refl) rows it.3
 
 waiting_code : (s : RecordState) → (record_code s == 0) ≡ is_waiting s
 waiting_code rec.Waiting = refl
@@ -90,11 +90,11 @@ waiting_found batch old new rows h t image =
     let params = number batch ∷ [] in
     let it = asked_sorted false record_row by_waiting_batch (col 1 2) more_record_columns params (is_waiting_of batch) refl (λ v r. refl) (waiting_key batch) false limit_one waiting_text 7
     waiting_asks old new rows h image.ours t.records image.each.1.1.1.1.0.rows in
-    least_found (is_waiting_of batch) (λ r. tells false record_columns params (record_row r)) t.records it.0 it.1 it.2 (λ r. refl) record_in record_at (record_back params) place_of (λ r. refl) rows it.3
+    least_found (is_waiting_of batch) (λ r. shown_row false record_columns params (record_row r)) t.records it.0 it.1 it.2 (λ r. refl) record_in record_at (record_back params) place_of (λ r. refl) rows it.3
 
 -- ---- groupings
 
-grouping_back : (params : Row) (g : StoredGrouping) → grouping_in (tells false (col 1 2 ∷ more_grouping_columns) params (grouping_row g)) ≡ grouping_at g
+grouping_back : (params : Row) (g : StoredGrouping) → grouping_in (shown_row false (col 1 2 ∷ more_grouping_columns) params (grouping_row g)) ≡ grouping_at g
 grouping_back params g = rw (enc_back g.enc, flag_back g.tol) refl
 
 pub groupings_found : (batch place : ℕ) (old new : State) (rows : List Row) → Shown groupings_text (number batch ∷ number place ∷ []) old new rows → (t : Tables) → IsImage t old.now
@@ -103,7 +103,7 @@ groupings_found batch place old new rows h t image =
     let params = number batch ∷ number place ∷ [] in
     let it = asked_sorted false grouping_row by_batch_and_place (col 1 2) more_grouping_columns params (is_grouping_at batch place) refl (λ v r. refl) (λ g. place_key g.batch g.place batch place)
     false no_limit groupings_text 10 groupings_asks old new rows h image.ours t.groupings image.each.1.1.1.1.1.0.rows in
-    sorted_found (is_grouping_at batch place) (λ g. tells false (col 1 2 ∷ more_grouping_columns) params (grouping_row g)) t.groupings it.0 it.1 it.2 (λ g. refl) grouping_in grouping_at
+    sorted_found (is_grouping_at batch place) (λ g. shown_row false (col 1 2 ∷ more_grouping_columns) params (grouping_row g)) t.groupings it.0 it.1 it.2 (λ g. refl) grouping_in grouping_at
     (grouping_back params) line_of (λ r. refl) rows it.3
 
 segment_key : (batch place : ℕ) (aid : List ℕ) (rank : ℕ) (g : StoredGrouping)
@@ -118,13 +118,13 @@ coded_found batch place aid rank old new rows h t image =
     let params = number batch ∷ number place ∷ Blob aid ∷ number rank ∷ [] in
     let it = asked_sorted false grouping_row by_segment (col 1 2) coded_columns params (is_of_segment batch place aid rank) refl (λ v r. refl) (segment_key batch place aid rank)
     false no_limit coded_text 10 coded_asks old new rows h image.ours t.groupings image.each.1.1.1.1.1.0.rows in
-    sorted_found (is_of_segment batch place aid rank) (λ g. tells false (col 1 2 ∷ coded_columns) params (grouping_row g)) t.groupings it.0 it.1 it.2 (λ g. refl) coded_in coded_at (λ g. refl)
+    sorted_found (is_of_segment batch place aid rank) (λ g. shown_row false (col 1 2 ∷ coded_columns) params (grouping_row g)) t.groupings it.0 it.1 it.2 (λ g. refl) coded_in coded_at (λ g. refl)
     coded_line (λ r. refl) rows it.3
 
 pub groupings_counted : (batch : ℕ) (old new : State) (rows : List Row) → Shown grouping_count_text (number batch ∷ []) old new rows → (t : Tables) → IsImage t old.now
     → length rows ≡ length (filter (is_grouping_of batch) t.groupings)
 groupings_counted batch old new rows h t image =
     let params = number batch ∷ [] in
-    count_found (is_grouping_of batch) (λ g. tells false (col 1 2 ∷ []) params (grouping_row g)) t.groupings rows
+    count_found (is_grouping_of batch) (λ g. shown_row false (col 1 2 ∷ []) params (grouping_row g)) t.groupings rows
     (asked false grouping_row by_batch (col 1 2 ∷ []) params (is_grouping_of batch) refl (λ v r. refl) (λ g. int_key batch g.batch) grouping_count_text 10 grouping_count_asks old new rows h
     image.ours t.groupings image.each.1.1.1.1.1.0.rows)

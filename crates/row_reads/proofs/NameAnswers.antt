@@ -17,7 +17,7 @@ use Rattle.sql_rows.specs.Encoding.{reply_row}
 use Rattle.sql_rows.specs.Image.{IsImage}
 use Rattle.row_reads.specs.Decoding.{IsFirst, reply_in}
 use Rattle.row_reads.specs.NameTexts.{by_two_columns, kept_columns, kept_text}
-use Rattle.row_reads.proofs.Asking.{asked, one_found, tells}
+use Rattle.row_reads.proofs.Asking.{asked, one_found, shown_row}
 use Rattle.row_reads.proofs.NameMeanings.{kept_asks}
 
 kept_key : (client : List ℕ) (number : ℕ) (e : Entry)
@@ -28,7 +28,7 @@ pub kept_found : (client : List ℕ) (number : ℕ) (old new : State) (rows : Li
     → (found : Option KeptReply) → IsFirst (map reply_in rows) found → PassesOnce (is_reply_to client number) t.replies → found ≡ option_map reply_of_entry (entry_of t.replies client number)
 kept_found client number old new rows h t image found first once =
     let params = Text client ∷ Int (pos number) ∷ [] in
-    one_found (is_reply_to client number) (λ e. tells false kept_columns params (reply_row e)) t.replies rows
+    one_found (is_reply_to client number) (λ e. shown_row false kept_columns params (reply_row e)) t.replies rows
     (asked false reply_row by_two_columns kept_columns params (is_reply_to client number) refl (λ v r. refl) (kept_key client number) kept_text 19 kept_asks old new rows h image.ours t.replies
     image.each.1.1.1.1.1.1.1.1.1.1.0.rows)
     reply_in reply_of_entry once (λ e is. refl) found first

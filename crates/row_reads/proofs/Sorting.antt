@@ -29,10 +29,10 @@ use Rattle.sql_base.proofs.Selecting.{map_map, map_same, matched, no_overlay, pa
 use Rattle.sql_tables.specs.Tables.{our_schema}
 use Rattle.sql_rows.specs.Decoding.{number_in}
 use Rattle.sql_rows.specs.Encoding.{number}
-use Rattle.sql_rows.specs.Image.{told}
+use Rattle.sql_rows.specs.Image.{given_rows}
 use Rattle.row_reads.specs.Decoding.{IsFirst, first_number, id_in}
 use Rattle.row_reads.specs.Extremes.{AreSorted, IsGreatest, IsLeastBy}
-use Rattle.row_reads.proofs.Asking.{all_found, look, part, tells, told_as, whole}
+use Rattle.row_reads.proofs.Asking.{all_found, given_as, look, part, shown_row, whole}
 
 -- the rows of one tree that pass, by the first column that is shown, up or down, and as many as the
 -- limit says
@@ -92,15 +92,15 @@ module _ {X : Type 0} (by_rowid : Bool) (encode : X → Row) (filters : List Ter
     (none : look filters (first ∷ more) params [] ≡ look filters (first ∷ more) params (whole by_rowid (part by_rowid [])))
     (some : (v : Value) (r : Row) → look filters (first ∷ more) params (v ∷ r) ≡ look filters (first ∷ more) params (whole by_rowid (part by_rowid (v ∷ r))))
     (key_is : (x : X) → passes filters params (whole by_rowid (encode x)) ≡ key x) where
-  -- what is answered is what the rows with the key tell, in order, and as many as the limit says
+  -- what is answered is what the rows with the key give, in order, and as many as the limit says
   pub asked_sorted : (descending : Bool) (limit : Term) (text : List ℕ) (tree : ℕ) → AsksSorted descending limit text tree filters first more
-      → (old new : State) (rows : List Row) → Shown text params old new rows → old.now.schema ≡ our_schema → (xs : List X) → IsPermutation (map encode xs) (told by_rowid (old.now.trees tree))
-      → (all : List Row) × IsPermutation (map (λ x. tells by_rowid (first ∷ more) params (encode x)) (filter key xs)) all × IsInOrder descending all
+      → (old new : State) (rows : List Row) → Shown text params old new rows → old.now.schema ≡ our_schema → (xs : List X) → IsPermutation (map encode xs) (given_rows by_rowid (old.now.trees tree))
+      → (all : List Row) × IsPermutation (map (λ x. shown_row by_rowid (first ∷ more) params (encode x)) (filter key xs)) all × IsInOrder descending all
       × (rows ≡ limited (as_count (eval limit (params ∷ []))) all)
   asked_sorted descending limit text tree asks old new rows h ours xs filled =
       let command = Select (record { lets = []; body = sorted_query descending limit tree filters first more }) asks.names in
       let it = in_order descending limit tree filters first more old.now.trees params rows ((reads_as text params old new our_schema ours command asks.is asks.plain asks.unlisted rows h).answer Null) in
-      (it.0, told_as by_rowid encode filters (first ∷ more) params key none some key_is xs (old.now.trees tree) it.0 filled it.1, it.2, it.3)
+      (it.0, given_as by_rowid encode filters (first ∷ more) params key none some key_is xs (old.now.trees tree) it.0 filled it.1, it.2, it.3)
 
 not_below : (a b : ℕ) → is_lt (value_cmp (number a) (number b)) ≡ is_lt (nat_cmp a b)
 not_below a b = ap is_lt (value_cmp-Int (pos a) (pos b)) ∙ grind (arith, nat_tests)
@@ -115,14 +115,14 @@ below_as_numbers : (r s : Row) → IsNumbered r → IsNumbered s → is_lt (valu
 below_as_numbers r s a b =
     ap (λ v. is_lt (value_cmp v (column s 0))) a ∙ ap (λ v. is_lt (value_cmp (number (number_in (column r 0))) v)) b ∙ not_below (number_in (column r 0)) (number_in (column s 0))
 
-told_numbers : {X : Type 0} (tell : X → Row) → ((x : X) → IsNumbered (tell x)) → (xs : List X) → All IsNumbered (map tell xs)
-told_numbers tell first_is [] k d low = absurd (omega arith)
-told_numbers tell first_is (x ∷ xs) zero d low = first_is x
-told_numbers tell first_is (x ∷ xs) (suc k) d low = told_numbers tell first_is xs k d (omega arith)
+are_numbers_given : {X : Type 0} (view : X → Row) → ((x : X) → IsNumbered (view x)) → (xs : List X) → All IsNumbered (map view xs)
+are_numbers_given view first_is [] k d low = absurd (omega arith)
+are_numbers_given view first_is (x ∷ xs) zero d low = first_is x
+are_numbers_given view first_is (x ∷ xs) (suc k) d low = are_numbers_given view first_is xs k d (omega arith)
 
--- what is told of rows that begin with a number
-pub numbered : {X : Type 0} (tell : X → Row) → ((x : X) → IsNumbered (tell x)) → (xs : List X) (all : List Row) → IsPermutation (map tell xs) all → All IsNumbered all
-numbered tell first_is xs all got = All-permutation IsNumbered _ _ got (told_numbers tell first_is xs)
+-- what is read of rows that begin with a number
+pub numbered : {X : Type 0} (view : X → Row) → ((x : X) → IsNumbered (view x)) → (xs : List X) (all : List Row) → IsPermutation (map view xs) all → All IsNumbered all
+numbered view first_is xs all got = All-permutation IsNumbered _ _ got (are_numbers_given view first_is xs)
 
 -- decoded rows in order
 module _ {Y : Type 0} (decode : Row → Y) (rank : Y → ℕ) (rank_is : (r : Row) → rank (decode r) ≡ number_in (column r 0)) where
@@ -150,20 +150,20 @@ first_of_one decode [] found first = first
 first_of_one decode (r ∷ all) found first = first
 
 -- what is made of an answer in order
-module _ {X Y : Type 0} (key : X → Bool) (tell : X → Row) (xs : List X) (all : List Row) (got : IsPermutation (map tell (filter key xs)) all) (sorted : IsInOrder false all)
-    (first_is : (x : X) → IsNumbered (tell x)) (decode : Row → Y) (f : X → Y) (back : (x : X) → decode (tell x) ≡ f x) (rank : Y → ℕ)
+module _ {X Y : Type 0} (key : X → Bool) (view : X → Row) (xs : List X) (all : List Row) (got : IsPermutation (map view (filter key xs)) all) (sorted : IsInOrder false all)
+    (first_is : (x : X) → IsNumbered (view x)) (decode : Row → Y) (f : X → Y) (back : (x : X) → decode (view x) ≡ f x) (rank : Y → ℕ)
     (rank_is : (r : Row) → rank (decode r) ≡ number_in (column r 0)) where
   up : IsNonDecreasingBy rank (map decode all)
-  up = rises decode rank rank_is all (numbered tell first_is (filter key xs) all got) sorted
+  up = rises decode rank rank_is all (numbered view first_is (filter key xs) all got) sorted
 
   -- each row's
   pub sorted_found : (rows : List Row) → rows ≡ all → AreSorted rank (map f (filter key xs)) (map decode rows)
-  sorted_found rows is = subst (λ rs. AreSorted rank (map f (filter key xs)) (map decode rs)) (sym is) (all_found key tell xs all got decode f back, up)
+  sorted_found rows is = subst (λ rs. AreSorted rank (map f (filter key xs)) (map decode rs)) (sym is) (all_found key view xs all got decode f back, up)
 
   -- the first row's
   pub least_found : (rows : List Row) → rows ≡ take 1 all → (found : Option Y) → IsFirst (map decode rows) found → IsLeastBy rank (map f (filter key xs)) found
   least_found rows is found first =
-      least_of rank (map f (filter key xs)) (map decode all) (all_found key tell xs all got decode f back) up found
+      least_of rank (map f (filter key xs)) (map decode all) (all_found key view xs all got decode f back) up found
       (first_of_one decode all found (subst (λ rs. IsFirst (map decode rs) found) is first))
 
 -- rows that fall: none is above the first
@@ -187,12 +187,12 @@ greatest_of (z ∷ zs) (y ∷ ys) same n first most =
     )
 
 -- the first of rows that fall has the greatest number
-pub greatest_found : {X : Type 0} (tell : X → Row) → ((x : X) → IsNumbered (tell x)) → (xs : List X) (all : List Row) → IsPermutation (map tell xs) all → IsInOrder true all
-    → (f : X → ℕ) → ((x : X) → number_in (column (tell x) 0) ≡ f x) → (rows : List Row) → rows ≡ take 1 all → IsGreatest (map f xs) (first_number rows)
-greatest_found tell first_is xs all got sorted f back rows is =
+pub greatest_found : {X : Type 0} (view : X → Row) → ((x : X) → IsNumbered (view x)) → (xs : List X) (all : List Row) → IsPermutation (map view xs) all → IsInOrder true all
+    → (f : X → ℕ) → ((x : X) → number_in (column (view x) 0) ≡ f x) → (rows : List Row) → rows ≡ take 1 all → IsGreatest (map f xs) (first_number rows)
+greatest_found view first_is xs all got sorted f back rows is =
     subst (λ rs. IsGreatest (map f xs) (first_number rs)) (sym is)
-    (from all (falls all (numbered tell first_is xs all got) sorted)
-    (subst (λ zs. IsPermutation zs (map id_in all)) (map_map id_in tell xs ∙ map_same (λ x. id_in (tell x)) f back xs) (IsPermutation-map id_in (map tell xs) all got)))
+    (from all (falls all (numbered view first_is xs all got) sorted)
+    (subst (λ zs. IsPermutation zs (map id_in all)) (map_map id_in view xs ∙ map_same (λ x. id_in (view x)) f back xs) (IsPermutation-map id_in (map view xs) all got)))
   where
     from : (all : List Row) → ((j : ℕ) → j < length all → number_in (column (get_or all j []) 0) ≤ number_in (column (get_or all 0 []) 0)) → IsPermutation (map f xs) (map id_in all)
         → IsGreatest (map f xs) (first_number (take 1 all))

@@ -1,4 +1,4 @@
--- What the values of an answered row tell of records, groupings and sessions.
+-- What the values of an answered row give of records, groupings and sessions.
 use Rattle.std.specs.Prelude.{◌<◌, ◌≤◌, ◌^◌, ◌==◌, ◌&&◌, ℕ, Bool, List, bytes_eq}
 use Rattle.sqlite.specs.Order.{Row, column}
 use Rattle.store_data.specs.declared.cursor.Cursor.{Cursor}
@@ -28,7 +28,7 @@ session_in row = record {
   cursor = cursor_in row;
 }
 
--- what is told of a stored session
+-- what is read of a stored session
 abbrev pub session_at : StoredSession → SessionAt
 session_at s = record { machine = s.machine; batch = s.batch; place = s.place; stands = s.state; words = s.words; cursor = s.cursor }
 
@@ -42,7 +42,7 @@ pub record IsSessionAt (s : SessionAt) : Type 0 where
 abbrev pub good_in : Row → GoodCard
 good_in row = record { place = number_in (column row 0); serial = number_in (column row 1) }
 
--- what is told of a stored session that is good
+-- what is read of a stored session that is good
 abbrev pub good_at : StoredSession → GoodCard
 good_at s = record { place = s.place; serial = s.serial }
 
@@ -62,7 +62,7 @@ record_in row = record {
   remakes = number_in (column row 4);
 }
 
--- what is told of a stored record
+-- what is read of a stored record
 abbrev pub record_at : StoredRecord → RecordAt
 record_at r = record { place = r.place; name = r.name; stands = r.state; spoiled = r.spoiled; remakes = r.remakes }
 
@@ -86,7 +86,7 @@ grouping_in row = record {
   tol = flag_in (column row 4);
 }
 
--- what is told of a stored grouping, without its bytes
+-- what is read of a stored grouping, without its bytes
 abbrev pub grouping_at : StoredGrouping → GroupingAt
 grouping_at g = record { line = g.line; aid = g.aid; rank = g.rank; enc = g.enc; tol = g.tol }
 

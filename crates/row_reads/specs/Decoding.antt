@@ -1,4 +1,4 @@
--- What the values of an answered row tell.
+-- What the values of an answered row give.
 use Rattle.std.specs.Prelude.{◌≡◌, ◌+◌, ◌<◌, ◌^◌, ℕ, ⊤, Bool, true, false, List, [], ◌∷◌, Option, Some, None}
 use Rattle.sqlite.specs.declared.types.Value.{Value}
 use Rattle.sqlite.specs.declared.types.Value.TheVariants.{Blob, Text}
@@ -9,7 +9,7 @@ use Rattle.job_facts.specs.declared.rows.KeptReply.{KeptReply}
 use Rattle.job_facts.specs.declared.facts.Lot.{Lot}
 use Rattle.sql_rows.specs.Decoding.{flag_in, number_in}
 use Rattle.row_reads.specs.declared.batches.BatchHead.{BatchHead}
-use Rattle.row_reads.specs.declared.batches.BatchTold.{BatchTold}
+use Rattle.row_reads.specs.declared.batches.BatchAt.{BatchAt}
 use Rattle.row_reads.specs.declared.lots.LotRow.{LotRow}
 
 abbrev pub text_in : Value → List ℕ
@@ -57,8 +57,8 @@ totals_in row = record {
 abbrev pub head_in : Row → BatchHead
 head_in row = record { id = number_in (column row 0); product = text_in (column row 1); is_closed = flag_in (column row 2); totals = totals_in row }
 
-abbrev pub told_in : Row → BatchTold
-told_in row = record { id = number_in (column row 0); product = text_in (column row 1); is_closed = flag_in (column row 2) }
+abbrev pub batch_at_in : Row → BatchAt
+batch_at_in row = record { id = number_in (column row 0); product = text_in (column row 1); is_closed = flag_in (column row 2) }
 
 abbrev pub lot_in : Row → Lot
 lot_in row = record { name = text_in (column row 0); product = text_in (column row 1); first = number_in (column row 2); count = number_in (column row 3) }

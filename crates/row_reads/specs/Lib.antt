@@ -4,7 +4,7 @@ pub mod CardTexts
 pub mod Decoding
 pub mod Readable
 pub mod CardDecoding
-pub mod Telling
+pub mod RowValues
 pub mod Reads
 pub mod Extremes
 pub mod Counts

@@ -52,11 +52,11 @@ batch_head_text = codes "SELECT id, product, closed, waiting, running, failed, w
 abbrev pub head_columns : List Term
 head_columns = col 1 0 ∷ col 1 3 ∷ col 1 5 ∷ col 1 6 ∷ col 1 7 ∷ col 1 8 ∷ col 1 9 ∷ col 1 10 ∷ col 1 11 ∷ col 1 12 ∷ []
 
-abbrev pub batch_told_text : List ℕ
-batch_told_text = codes "SELECT id, product, closed FROM batch WHERE name = ?1"
+abbrev pub batch_by_name_text : List ℕ
+batch_by_name_text = codes "SELECT id, product, closed FROM batch WHERE name = ?1"
 
-abbrev pub told_columns : List Term
-told_columns = col 1 0 ∷ col 1 3 ∷ col 1 5 ∷ []
+abbrev pub batch_at_columns : List Term
+batch_at_columns = col 1 0 ∷ col 1 3 ∷ col 1 5 ∷ []
 
 abbrev pub batch_has_text : List ℕ
 batch_has_text = codes "SELECT id FROM batch WHERE name = ?1 AND raw = ?2"

@@ -56,7 +56,7 @@ pub record IsLotRowAnswer (row : Row) : Type 0 where
   pub lot : IsLotAnswer row
   pub discarded : IsWhole (column row 4)
 
-pub record IsToldAnswer (row : Row) : Type 0 where
+pub record IsBatchAnswer (row : Row) : Type 0 where
   pub id : IsWhole (column row 0)
   pub product : IsNameText (column row 1)
   pub is_closed : IsBelow 2 (column row 2)
@@ -72,7 +72,7 @@ pub record AreTotalsAnswer (row : Row) : Type 0 where
   pub spoiled : IsWhole (column row 9)
 
 pub record IsHeadAnswer (row : Row) : Type 0 where
-  pub told : IsToldAnswer row
+  pub batch : IsBatchAnswer row
   pub totals : AreTotalsAnswer row
 
 abbrev pub IsIdAnswer : Row → Type 0

@@ -1,4 +1,4 @@
--- What a read tells of the rows, and what it leaves.
+-- What a read gives of the rows, and what it leaves.
 use Rattle.std.specs.Prelude.{◌≡◌, ℕ, false, true, IfOk, IsTrue, List, Result}
 use Rattle.sqlite.specs.Held.{Held, state}
 use Rattle.sqlite.specs.Order.{Row}
@@ -16,8 +16,8 @@ Answers g old new sql params result P =
     (λ answer. (mid : Held _) × (rows : List Row) × Shown sql params (state g (record old { in_transaction = true })) (state g mid) rows × P rows answer)
 
 -- an open connection answers, and this is so of whatever rows it has
-abbrev pub TellsRows : {T : Type 0} → State → State → Result T Error → (Tables → T → Type 0) → Type 0
-TellsRows old new result P = HasCleanDisk new → IfOk result (λ answer. IsTrue old.is_open × ((t : Tables) → IsImage t old.now → P t answer))
+abbrev pub ReadsRows : {T : Type 0} → State → State → Result T Error → (Tables → T → Type 0) → Type 0
+ReadsRows old new result P = HasCleanDisk new → IfOk result (λ answer. IsTrue old.is_open × ((t : Tables) → IsImage t old.now → P t answer))
 
 -- nothing is changed, no transaction is left open, and a crash leaves what it could leave before
 pub record Looks (old new : State) : Type 0 where

@@ -3,12 +3,12 @@ ghost use Rattle.std.specs.Prelude.{◌≡◌, ◌<◌, ◌^◌, false, filter, 
 ghost use Rattle.std.specs.Prelude.{IfOk, IfSome, IsPermutation};
 ghost use Rattle.std.specs.List.{list_any};
 ghost use Rattle.sqlite.specs.Held.{state};
-ghost use Rattle.row_reads.specs.Decoding.{head_in, told_in, totals_in};
+ghost use Rattle.row_reads.specs.Decoding.{batch_at_in, head_in, totals_in};
 ghost use Rattle.row_reads.specs.Extremes.{IsGreatest};
 ghost use Rattle.row_reads.specs.Readable.{AreTotalsAnswer, FailsForMemory, IsHeadAnswer};
-ghost use Rattle.row_reads.specs.Readable.{IsToldAnswer};
-ghost use Rattle.row_reads.specs.Reads.{Looks, TellsRows};
-ghost use Rattle.row_reads.specs.Telling.{AreCounts, IsHead, IsTold, head_of, told_of};
+ghost use Rattle.row_reads.specs.Readable.{IsBatchAnswer};
+ghost use Rattle.row_reads.specs.Reads.{Looks, ReadsRows};
+ghost use Rattle.row_reads.specs.RowValues.{AreCounts, IsBatchAt, IsHead, batch_at, head_of};
 ghost use Rattle.table_rows.specs.Keys.{is_batch, is_batch_for, is_batch_named, is_batch_with};
 ghost use Rattle.table_rows.specs.Tables.{PassesOnce, StoredBatch};
 
@@ -22,7 +22,7 @@ use store_data::Name;
 
 /// A batch without its bytes and its counters.
 #[derive(Clone, Copy)]
-pub struct BatchTold {
+pub struct BatchAt {
     pub id: u64,
     pub product: Name,
     pub is_closed: bool,
@@ -86,15 +86,15 @@ impl Answered for BatchHead {
     }
 }
 
-impl Answered for BatchTold {
-    ghost value = { told_in };
+impl Answered for BatchAt {
+    ghost value = { batch_at_in };
 
-    ghost fits = { IsTold };
+    ghost fits = { IsBatchAt };
 
-    ghost readable = { IsToldAnswer };
+    ghost readable = { IsBatchAnswer };
 
-    fn read(row: &Row) -> Result<BatchTold, Error> {
-        Ok(BatchTold {
+    fn read(row: &Row) -> Result<BatchAt, Error> {
+        Ok(BatchAt {
             id: number_at(row, 0)?,
             product: name_at(row, 1)?,
             is_closed: flag_at(row, 2)?,
@@ -107,7 +107,7 @@ impl Answered for BatchTold {
 /// The id of the batch of this name.
 pub fn batch_id<S: Alter>(conn: &mut Connection<S>, name: &Name) -> Result<Option<u64>, Error>
     requires { conn.old.in_transaction ≡ false }
-    ensures found { TellsRows (state S.Store conn.old) (state S.Store conn.new) result
+    ensures found { ReadsRows (state S.Store conn.old) (state S.Store conn.new) result
         (λ t found. PassesOnce (is_batch_named name.now) t.batches
         → found
         ≡ option_map (λ (b : StoredBatch). b.id) (find (is_batch_named name.now) t.batches)) }
@@ -123,7 +123,7 @@ pub fn batch_id<S: Alter>(conn: &mut Connection<S>, name: &Name) -> Result<Optio
 pub fn batch_name<S: Alter>(conn: &mut Connection<S>, id: u64) -> Result<Option<Name>, Error>
     requires idle { conn.old.in_transaction ≡ false }
     requires id { id < 2 ^ 63 }
-    ensures found { TellsRows (state S.Store conn.old) (state S.Store conn.new) result
+    ensures found { ReadsRows (state S.Store conn.old) (state S.Store conn.new) result
         (λ t found. PassesOnce (is_batch id) t.batches
         → found ≡ option_map (λ (b : StoredBatch). b.name) (find (is_batch id) t.batches)) }
     ensures looks { Looks (state S.Store conn.old) (state S.Store conn.new) }
@@ -134,15 +134,15 @@ pub fn batch_name<S: Alter>(conn: &mut Connection<S>, id: u64) -> Result<Option<
 
 /// The batch of this name, without its bytes and its counters: an index alone answers, so that the
 /// bytes are not read.
-pub fn batch_told<S: Alter>(
+pub fn batch_by_name<S: Alter>(
     conn: &mut Connection<S>,
     name: &Name,
-) -> Result<Option<BatchTold>, Error>
+) -> Result<Option<BatchAt>, Error>
     requires { conn.old.in_transaction ≡ false }
-    ensures found { TellsRows (state S.Store conn.old) (state S.Store conn.new) result
+    ensures found { ReadsRows (state S.Store conn.old) (state S.Store conn.new) result
         (λ t found. PassesOnce (is_batch_named name.now) t.batches
-        → found ≡ option_map told_of (find (is_batch_named name.now) t.batches)) }
-    ensures ranged { IfOk result (λ found. IfSome found IsTold) }
+        → found ≡ option_map batch_at (find (is_batch_named name.now) t.batches)) }
+    ensures ranged { IfOk result (λ found. IfSome found IsBatchAt) }
     ensures looks { Looks (state S.Store conn.old) (state S.Store conn.new) }
 {
     let sql = "SELECT id, product, closed FROM batch WHERE name = ?1";
@@ -155,7 +155,7 @@ pub fn batch_head<S: Alter>(
     name: &Name,
 ) -> Result<Option<BatchHead>, Error>
     requires { conn.old.in_transaction ≡ false }
-    ensures found { TellsRows (state S.Store conn.old) (state S.Store conn.new) result
+    ensures found { ReadsRows (state S.Store conn.old) (state S.Store conn.new) result
         (λ t found. PassesOnce (is_batch_named name.now) t.batches
         → found ≡ option_map head_of (find (is_batch_named name.now) t.batches)) }
     ensures ranged { IfOk result (λ found. IfSome found IsHead) }
@@ -169,7 +169,7 @@ pub fn batch_head<S: Alter>(
 /// Whether the batch of this name has these bytes.
 pub fn batch_has<S: Alter>(conn: &mut Connection<S>, name: &Name, raw: &[u8]) -> Result<bool, Error>
     requires { conn.old.in_transaction ≡ false }
-    ensures found { TellsRows (state S.Store conn.old) (state S.Store conn.new) result
+    ensures found { ReadsRows (state S.Store conn.old) (state S.Store conn.new) result
         (λ t has. has ≡ list_any (is_batch_with name.now raw.now) t.batches) }
     ensures looks { Looks (state S.Store conn.old) (state S.Store conn.new) }
 {
@@ -187,7 +187,7 @@ pub fn batches_of<S: Alter>(
     product: &Name,
 ) -> Result<Vec<BatchHead>, Error>
     requires { conn.old.in_transaction ≡ false }
-    ensures found { TellsRows (state S.Store conn.old) (state S.Store conn.new) result
+    ensures found { ReadsRows (state S.Store conn.old) (state S.Store conn.new) result
         (λ t heads.
         IsPermutation (map head_of (filter (is_batch_for product.now) t.batches)) heads.items) }
     ensures looks { Looks (state S.Store conn.old) (state S.Store conn.new) }
@@ -200,7 +200,7 @@ pub fn batches_of<S: Alter>(
 /// The greatest id of a batch; 0 where there is no batch.
 pub fn last_batch<S: Alter>(conn: &mut Connection<S>) -> Result<u64, Error>
     requires { conn.old.in_transaction ≡ false }
-    ensures found { TellsRows (state S.Store conn.old) (state S.Store conn.new) result
+    ensures found { ReadsRows (state S.Store conn.old) (state S.Store conn.new) result
         (λ t id. IsGreatest (map (λ (b : StoredBatch). b.id) t.batches) id) }
     ensures ranged { IfOk result (λ id. id < 2 ^ 63) }
     ensures looks { Looks (state S.Store conn.old) (state S.Store conn.new) }

@@ -15,7 +15,7 @@ mod sessions;
 mod values;
 
 pub use batches::{
-    BatchHead, BatchTold, batch_has, batch_head, batch_id, batch_name, batch_told, batches_of,
+    BatchAt, BatchHead, batch_by_name, batch_has, batch_head, batch_id, batch_name, batches_of,
     last_batch,
 };
 pub use blanks::is_charged;

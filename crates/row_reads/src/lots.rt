@@ -5,8 +5,8 @@ ghost use Rattle.sqlite.specs.Held.{state};
 ghost use Rattle.job_facts.specs.States.{any_overlaps, is_in, lot_of};
 ghost use Rattle.row_reads.specs.Decoding.{IsAny, lot_in, lot_row_in};
 ghost use Rattle.row_reads.specs.Readable.{IsLotAnswer, IsLotRowAnswer};
-ghost use Rattle.row_reads.specs.Reads.{Looks, TellsRows};
-ghost use Rattle.row_reads.specs.Telling.{IsLotRow, lot_row_of};
+ghost use Rattle.row_reads.specs.Reads.{Looks, ReadsRows};
+ghost use Rattle.row_reads.specs.RowValues.{IsLotRow, lot_row_of};
 ghost use Rattle.table_rows.specs.Keys.{is_lot_for, is_lot_named};
 ghost use Rattle.table_rows.specs.Tables.{PassesOnce, StoredLot};
 
@@ -64,7 +64,7 @@ impl Answered for LotRow {
 /// The lot of this name.
 pub fn lot<S: Alter>(conn: &mut Connection<S>, name: &Name) -> Result<Option<LotRow>, Error>
     requires { conn.old.in_transaction ≡ false }
-    ensures found { TellsRows (state S.Store conn.old) (state S.Store conn.new) result
+    ensures found { ReadsRows (state S.Store conn.old) (state S.Store conn.new) result
         (λ t found. PassesOnce (is_lot_named name.now) t.lots
         → found ≡ option_map lot_row_of (find (is_lot_named name.now) t.lots)) }
     ensures ranged { IfOk result (λ found. IfSome found IsLotRow) }
@@ -77,7 +77,7 @@ pub fn lot<S: Alter>(conn: &mut Connection<S>, name: &Name) -> Result<Option<Lot
 /// All lots, in any order.
 pub fn all_lots<S: Alter>(conn: &mut Connection<S>) -> Result<Vec<Lot>, Error>
     requires { conn.old.in_transaction ≡ false }
-    ensures found { TellsRows (state S.Store conn.old) (state S.Store conn.new) result
+    ensures found { ReadsRows (state S.Store conn.old) (state S.Store conn.new) result
         (λ t lots. IsPermutation (map (λ (l : StoredLot). l.lot) t.lots) lots.items) }
     ensures looks { Looks (state S.Store conn.old) (state S.Store conn.new) }
 {
@@ -88,7 +88,7 @@ pub fn all_lots<S: Alter>(conn: &mut Connection<S>) -> Result<Vec<Lot>, Error>
 /// The lots of a product, in any order.
 pub fn lots_of<S: Alter>(conn: &mut Connection<S>, product: &Name) -> Result<Vec<LotRow>, Error>
     requires { conn.old.in_transaction ≡ false }
-    ensures found { TellsRows (state S.Store conn.old) (state S.Store conn.new) result
+    ensures found { ReadsRows (state S.Store conn.old) (state S.Store conn.new) result
         (λ t lots.
         IsPermutation (map lot_row_of (filter (is_lot_for product.now) t.lots)) lots.items) }
     ensures looks { Looks (state S.Store conn.old) (state S.Store conn.new) }
@@ -100,7 +100,7 @@ pub fn lots_of<S: Alter>(conn: &mut Connection<S>, product: &Name) -> Result<Vec
 /// The lot in which a blank lies.
 pub fn lot_of<S: Alter>(conn: &mut Connection<S>, blank: u64) -> Result<Option<Lot>, Error>
     requires { conn.old.in_transaction ≡ false }
-    ensures found { TellsRows (state S.Store conn.old) (state S.Store conn.new) result
+    ensures found { ReadsRows (state S.Store conn.old) (state S.Store conn.new) result
         (λ t found. PassesOnce (is_in blank) (map (λ (l : StoredLot). l.lot) t.lots)
         → found ≡ lot_of (map (λ (l : StoredLot). l.lot) t.lots) blank) }
     ensures looks { Looks (state S.Store conn.old) (state S.Store conn.new) }
@@ -112,7 +112,7 @@ pub fn lot_of<S: Alter>(conn: &mut Connection<S>, blank: u64) -> Result<Option<L
 /// Whether a serial of the range lies in a lot.
 pub fn overlaps<S: Alter>(conn: &mut Connection<S>, first: u64, count: u32) -> Result<bool, Error>
     requires { conn.old.in_transaction ≡ false }
-    ensures found { TellsRows (state S.Store conn.old) (state S.Store conn.new) result
+    ensures found { ReadsRows (state S.Store conn.old) (state S.Store conn.new) result
         (λ t found. found ≡ any_overlaps (map (λ (l : StoredLot). l.lot) t.lots) first count) }
     ensures looks { Looks (state S.Store conn.old) (state S.Store conn.new) }
 {
@@ -123,7 +123,7 @@ pub fn overlaps<S: Alter>(conn: &mut Connection<S>, first: u64, count: u32) -> R
 /// How many lots there are.
 pub fn lot_count<S: Alter>(conn: &mut Connection<S>) -> Result<u64, Error>
     requires { conn.old.in_transaction ≡ false }
-    ensures found { TellsRows (state S.Store conn.old) (state S.Store conn.new) result
+    ensures found { ReadsRows (state S.Store conn.old) (state S.Store conn.new) result
         (λ t count. count ≡ length t.lots) }
     ensures looks { Looks (state S.Store conn.old) (state S.Store conn.new) }
 {

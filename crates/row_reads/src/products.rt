@@ -7,7 +7,7 @@ ghost use Rattle.job_facts.specs.Sound.{AreNamedOnce};
 ghost use Rattle.job_facts.specs.States.{product_named};
 ghost use Rattle.row_reads.specs.Decoding.{product_in};
 ghost use Rattle.row_reads.specs.Readable.{IsProductAnswer};
-ghost use Rattle.row_reads.specs.Reads.{Looks, TellsRows};
+ghost use Rattle.row_reads.specs.Reads.{Looks, ReadsRows};
 
 use crate::answered::{Answered, one_of};
 use crate::values::{count, flag_at, name_at, within_at};
@@ -36,7 +36,7 @@ impl Answered for Product {
 /// The product of this code.
 pub fn product<S: Alter>(conn: &mut Connection<S>, code: &Name) -> Result<Option<Product>, Error>
     requires { conn.old.in_transaction ≡ false }
-    ensures found { TellsRows (state S.Store conn.old) (state S.Store conn.new) result
+    ensures found { ReadsRows (state S.Store conn.old) (state S.Store conn.new) result
         (λ t found. AreNamedOnce (map (λ (p : ProductValue). p.code) t.products)
         → found ≡ product_named t.products code.now) }
     ensures ranged { IfOk result (λ found. IfSome found IsProduct) }
@@ -49,7 +49,7 @@ pub fn product<S: Alter>(conn: &mut Connection<S>, code: &Name) -> Result<Option
 /// How many products there are.
 pub fn product_count<S: Alter>(conn: &mut Connection<S>) -> Result<u64, Error>
     requires { conn.old.in_transaction ≡ false }
-    ensures found { TellsRows (state S.Store conn.old) (state S.Store conn.new) result
+    ensures found { ReadsRows (state S.Store conn.old) (state S.Store conn.new) result
         (λ t count. count ≡ length t.products) }
     ensures looks { Looks (state S.Store conn.old) (state S.Store conn.new) }
 {

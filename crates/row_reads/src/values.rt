@@ -91,7 +91,7 @@ pub(crate) fn within_at(row: &Row, at: usize, least: u32, most: u32) -> Result<u
 
 // ---- what numbers stand for
 
-// The mark of encipherment that a number stands for.
+// The encipherment mark that a number stands for.
 pub(crate) fn enc_of(code: u64) -> Result<Enc, Error>
     ensures value { IfOk result (λ enc. enc ≡ enc_of_code code) }
     ensures total { code < 3 → IsOk result }

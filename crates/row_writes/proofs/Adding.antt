@@ -32,4 +32,4 @@ module _ (text : List ℕ) (values : Row) (at : ℕ) (table : Table) (terms : Li
   added is_table is_t is_u are_ours put image =
       let meant = read_as text (Insert at (Values terms width)) means in
       let it = inserted text values old new our_schema image.ours at table terms width meant.0 meant.1 listed uncounted unstamped row row one cast (none_acts table.tree) count ran in
-      refilled (take at (filled t)) (drop (at + 1) (filled t)) table left right t u old new x y is_table is_t is_u are_ours it.kept it.sound it.others (put it) image
+      refilled (take at (filled t)) (drop (at + 1) (filled t)) table left right t u old new x y is_table is_t is_u are_ours it.kept it.is_database it.others (put it) image

@@ -27,7 +27,7 @@ module _ (client : List ℕ) where
         let moves = unnumbered_gone reply_table reply_row (passes by_client_up_to drop_replies_values) (shown rowid_column drop_replies_values) (is_released client upto) (λ r n is. is)
         (λ e. two_tests (same_text e.client client) (same_most e.number upto)) (λ v r. refl) t.replies old new it in
         refilled (take 10 (filled t)) (drop 11 (filled t)) reply_table refl refl t (without_replies client upto t) old new
-        (unnumbered reply_table (map reply_row t.replies)) (unnumbered reply_table (map reply_row left)) refl refl refl refl it.kept it.sound it.others moves image
+        (unnumbered reply_table (map reply_row t.replies)) (unnumbered reply_table (map reply_row left)) refl refl refl refl it.kept it.is_database it.others moves image
 
   abbrev pub drop_mark_values : Row
   drop_mark_values = Text client ∷ []
@@ -39,4 +39,4 @@ module _ (client : List ℕ) where
       let moves = unnumbered_gone mark_table mark_row (passes by_first_column drop_mark_values) (shown rowid_column drop_mark_values) (has_mark client) (λ r n is. is)
       (λ m. one_test (same_text m.client client)) (λ v r. refl) t.marks old new it in
       refilled (take 11 (filled t)) (drop 12 (filled t)) mark_table refl refl t (without_mark client t) old new
-      (unnumbered mark_table (map mark_row t.marks)) (unnumbered mark_table (map mark_row left)) refl refl refl refl it.kept it.sound it.others moves image
+      (unnumbered mark_table (map mark_row t.marks)) (unnumbered mark_table (map mark_row left)) refl refl refl refl it.kept it.is_database it.others moves image

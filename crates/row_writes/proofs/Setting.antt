@@ -44,7 +44,7 @@ module _ (id : ℕ) (state : SessionState) (words : ℕ) (cursor : Cursor) where
       let moves = rows_set session_table session_row (passes by_id set_session_values) (shown set_session_columns set_session_values) (λ s. s.id == id) (λ r n is. is)
       change (λ r. kept_id _) t.sessions old new it (λ s. one_test (same_int s.id id)) session_put in
       refilled (take 6 (filled t)) (drop 7 (filled t)) session_table refl refl t (with_session_set id state words cursor t) old new
-      (by_rowid session_table (map session_row t.sessions)) (by_rowid session_table (map session_row (map (session_set id state words cursor) t.sessions))) refl refl refl refl it.kept it.sound it.others moves image
+      (by_rowid session_table (map session_row t.sessions)) (by_rowid session_table (map session_row (map (session_set id state words cursor) t.sessions))) refl refl refl refl it.kept it.is_database it.others moves image
 
 module _ (name : List ℕ) (discarded : ℕ) where
   abbrev pub set_lot_values : Row
@@ -60,7 +60,7 @@ module _ (name : List ℕ) (discarded : ℕ) where
       let moves = unnumbered_set lot_table lot_row (passes by_first_column set_lot_values) (shown set_lot_columns set_lot_values) (λ l. bytes_eq l.lot.name name) (λ r n is. is)
       change (λ r. kept_id _) t.lots old new it (λ l. one_test (same_text l.lot.name name)) lot_put (λ v r. refl) (λ v r. refl) in
       refilled (take 2 (filled t)) (drop 3 (filled t)) lot_table refl refl t (with_lot_set name discarded t) old new
-      (unnumbered lot_table (map lot_row t.lots)) (unnumbered lot_table (map lot_row (map (lot_set name discarded) t.lots))) refl refl refl refl it.kept it.sound it.others moves image
+      (unnumbered lot_table (map lot_row t.lots)) (unnumbered lot_table (map lot_row (map (lot_set name discarded) t.lots))) refl refl refl refl it.kept it.is_database it.others moves image
 
 module _ (id : ℕ) (totals : BatchTotals) where
   abbrev pub set_totals_values : Row
@@ -87,7 +87,7 @@ module _ (id : ℕ) (totals : BatchTotals) where
       let moves = rows_set batch_table batch_row (passes by_id set_totals_values) (shown set_totals_columns set_totals_values) (λ b. b.id == id) (λ r n is. is)
       with_counters (λ r. kept_id _) t.batches old new it (λ b. one_test (same_int b.id id)) totals_put in
       refilled (take 3 (filled t)) (drop 4 (filled t)) batch_table refl refl t (with_totals_set id totals t) old new
-      (by_rowid batch_table (map batch_row t.batches)) (by_rowid batch_table (map batch_row (map (totals_set id totals) t.batches))) refl refl refl refl it.kept it.sound it.others moves image
+      (by_rowid batch_table (map batch_row t.batches)) (by_rowid batch_table (map batch_row (map (totals_set id totals) t.batches))) refl refl refl refl it.kept it.is_database it.others moves image
 
 module _ (name : List ℕ) where
   abbrev pub set_closed_values : Row
@@ -103,7 +103,7 @@ module _ (name : List ℕ) where
       let moves = rows_set batch_table batch_row (passes by_second_column set_closed_values) (shown set_closed_columns set_closed_values) (λ b. bytes_eq b.name name) (λ r n is. is)
       change (λ r. kept_id _) t.batches old new it (λ b. one_test (same_text b.name name)) closed_put in
       refilled (take 3 (filled t)) (drop 4 (filled t)) batch_table refl refl t (with_closed_set name t) old new
-      (by_rowid batch_table (map batch_row t.batches)) (by_rowid batch_table (map batch_row (map (closed_set name) t.batches))) refl refl refl refl it.kept it.sound it.others moves image
+      (by_rowid batch_table (map batch_row t.batches)) (by_rowid batch_table (map batch_row (map (closed_set name) t.batches))) refl refl refl refl it.kept it.is_database it.others moves image
 
 module _ (id : ℕ) (raw : List ℕ) where
   abbrev pub set_raw_values : Row
@@ -119,7 +119,7 @@ module _ (id : ℕ) (raw : List ℕ) where
       let moves = rows_set batch_table batch_row (passes by_id set_raw_values) (shown set_raw_columns set_raw_values) (λ b. b.id == id) (λ r n is. is)
       change (λ r. kept_id _) t.batches old new it (λ b. one_test (same_int b.id id)) raw_put in
       refilled (take 3 (filled t)) (drop 4 (filled t)) batch_table refl refl t (with_raw_set id raw t) old new
-      (by_rowid batch_table (map batch_row t.batches)) (by_rowid batch_table (map batch_row (map (raw_set id raw) t.batches))) refl refl refl refl it.kept it.sound it.others moves image
+      (by_rowid batch_table (map batch_row t.batches)) (by_rowid batch_table (map batch_row (map (raw_set id raw) t.batches))) refl refl refl refl it.kept it.is_database it.others moves image
 
 module _ (batch place : ℕ) (state : RecordState) (spoiled remakes : ℕ) where
   abbrev pub set_record_values : Row
@@ -137,7 +137,7 @@ module _ (batch place : ℕ) (state : RecordState) (spoiled remakes : ℕ) where
       change (λ r. kept_id _) t.records old new it (λ r. two_tests (same_int r.batch batch) (same_int r.place place)) record_put (λ v r. refl) (λ v r. refl) in
       refilled (take 4 (filled t)) (drop 5 (filled t)) record_table refl refl t (with_record_set batch place state spoiled remakes t) old new
       (unnumbered record_table (map record_row t.records)) (unnumbered record_table (map record_row (map (record_set batch place state spoiled remakes) t.records)))
-      refl refl refl refl it.kept it.sound it.others moves image
+      refl refl refl refl it.kept it.is_database it.others moves image
 
 module _ (id : ℕ) where
   abbrev pub set_end_values : Row
@@ -153,4 +153,4 @@ module _ (id : ℕ) where
       let moves = rows_set session_table session_row (passes by_id set_end_values) (shown set_end_columns set_end_values) (λ s. s.id == id) (λ r n is. is)
       change (λ r. kept_id _) t.sessions old new it (λ s. one_test (same_int s.id id)) end_put in
       refilled (take 6 (filled t)) (drop 7 (filled t)) session_table refl refl t (with_end_set id t) old new
-      (by_rowid session_table (map session_row t.sessions)) (by_rowid session_table (map session_row (map (end_set id) t.sessions))) refl refl refl refl it.kept it.sound it.others moves image
+      (by_rowid session_table (map session_row t.sessions)) (by_rowid session_table (map session_row (map (end_set id) t.sessions))) refl refl refl refl it.kept it.is_database it.others moves image

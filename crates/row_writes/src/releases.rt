@@ -29,7 +29,7 @@ pub fn drop_replies<S: Alter>(
     )
 }
 
-/// Drops a client's mark.
+/// Drops a client's release mark.
 pub fn drop_mark<S: Alter>(tx: &mut Transaction<'_, S>, client: &Name) -> Result<usize, Error>
     ensures same_reference { tx.new.conn.ghost_name ≡ tx.old.conn.ghost_name }
     ensures wrote { WritesRows (without_mark client.now) (state S.Store tx.old.conn.now)

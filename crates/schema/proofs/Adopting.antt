@@ -42,9 +42,9 @@ leaves_them law one old new comes v c d sound held left =
 
 was_held : OrderLaw → (old db : Database) → Adopts old db → (trees : Trees) → trees ≡ db.trees → (d : Option Contents) → Stands d trees → WasHeld d old
 was_held order old db made trees is None at =
-    absurd (shown_at None db trees made.stands.sound is at made.contents made.sound (image_had made.contents db made.stands))
+    absurd (shown_at None db trees made.stands.is_database is at made.contents made.sound (image_had made.contents db made.stands))
 was_held order old db made trees is (Some d) at =
-    let same = has_image (image made.contents) d db made.stands (shown_at (Some d) db trees made.stands.sound is at).1 in
+    let same = has_image (image made.contents) d db made.stands (shown_at (Some d) db trees made.stands.is_database is at).1 in
     (made.version, order made.version (image d) (image made.contents) old same made.held)
 
 pub left_late : OrderLaw → (old new : State) → Survives old new (IsLeft Adopts old) → HasCleanDisk new → (d : Option Contents) → (link new 0 0).may_leave d

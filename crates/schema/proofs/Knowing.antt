@@ -19,7 +19,7 @@ use Rattle.sql_tables.specs.Opening.{MakesAll}
 use Rattle.row_reads.specs.Reads.{Looks}
 use Rattle.store_reads.specs.declared.known.Known.{Known}
 use Rattle.store_reads.specs.Fixed.{fixed}
-use Rattle.store_reads.specs.Known.{HasKnown, IsAllKnownIn, IsKnownIn, Knows, KnowsNothing, StandsIn}
+use Rattle.store_reads.specs.Known.{HasKnown, IsAllKnownIn, IsKnownIn, Knows, KnowsNothing, IsStandingIn}
 use Rattle.store_reads.proofs.Knowing.{knows_after}
 use Rattle.adoption.specs.Adopts.{Adopts}
 use Rattle.adoption.specs.Comes.{Comes}
@@ -43,7 +43,7 @@ module _ (w : Writing) (entry : Entry) (old new : State) (before after : Known) 
 none_known : (t : Tables) (known : Known) → KnowsNothing known → IsAllKnownIn t known
 none_known t known none = record {
   records = λ apart. subst (All (IsKnownIn (fixed t))) (sym none.records) (All-nil (IsKnownIn (fixed t)));
-  standing = subst (λ o. IfSome o (StandsIn t)) (sym none.standing) tt;
+  standing = subst (λ o. IfSome o (IsStandingIn t)) (sym none.standing) tt;
 }
 
 has_none : (t : Tables) (db : Database) (known : Known) → KnowsNothing known → IsImage t db → HasKnown db known

@@ -18,8 +18,8 @@ use Rattle.sql_rows.specs.Image.{IsImage}
 use Rattle.sql_tables.specs.declared.versions.Version.TheVariants.{Three}
 use Rattle.table_reads.proofs.OneHeld.{one_held}
 use Rattle.table_reads.proofs.OurImage.{our_image_held}
-use Rattle.store_reads.specs.Tells.{Tells}
-use Rattle.schema.specs.Link.{Has, HasAt, IsTold, Stands, link}
+use Rattle.store_reads.specs.ReadsContents.{ReadsContents}
+use Rattle.schema.specs.Link.{Has, HasAt, IsTranslated, Stands, link}
 use Rattle.schema.specs.Takes.{Takes}
 
 -- ---- reads
@@ -35,17 +35,17 @@ stays old new a b m n survives kept = record {
 }
 
 module _ {T : Type 0} where
-  -- what went well is told as it is
-  pub told_well : (P : T → Type 0) (r : Result T Error) (told : Result T StoreFault) → IsTold r told → IfOk r P → IfOk told P
-  told_well P (Ok x) told is well = subst (λ t. IfOk t P) (sym is) well
-  told_well P (Err e) (Ok x) is well = absurd (cc)
-  told_well P (Err e) (Err fault) is well = tt
+  -- what went well is passed on as it is
+  pub translated_well : (P : T → Type 0) (r : Result T Error) (translated : Result T StoreFault) → IsTranslated r translated → IfOk r P → IfOk translated P
+  translated_well P (Ok x) translated is well = subst (λ t. IfOk t P) (sym is) well
+  translated_well P (Err e) (Ok x) is well = absurd (cc)
+  translated_well P (Err e) (Err fault) is well = tt
 
-  pub reads : (old new : State) (a b m n : ℕ) (P : Contents → T → Type 0) (r : Result T Error) (told : Result T StoreFault) → IsTold r told → Tells old new r P
-      → Reads (link old a b) (link new m n) told P
-  reads old new a b m n P (Ok x) told is tells honest c held = subst (λ t. IfOk t (P c)) (sym is) (let it = tells honest in it.1 c held.0 (held.1 it.0))
-  reads old new a b m n P (Err e) (Ok x) is tells honest c held = absurd (cc)
-  reads old new a b m n P (Err e) (Err fault) is tells honest c held = tt
+  pub reads : (old new : State) (a b m n : ℕ) (P : Contents → T → Type 0) (r : Result T Error) (translated : Result T StoreFault) → IsTranslated r translated → ReadsContents old new r P
+      → Reads (link old a b) (link new m n) translated P
+  reads old new a b m n P (Ok x) translated is is_read honest c held = subst (λ t. IfOk t (P c)) (sym is) (let it = is_read honest in it.1 c held.0 (held.1 it.0))
+  reads old new a b m n P (Err e) (Ok x) is is_read honest c held = absurd (cc)
+  reads old new a b m n P (Err e) (Err fault) is is_read honest c held = tt
 
 -- ---- commits
 
@@ -83,8 +83,8 @@ RowsLaw = (c d : Contents) → AreSound c → AreSound d → HaveSameRows (image
 
 -- at the trees of an image its contents are found
 pub found : RowsLaw → (c : Contents) → AreSound c → (db : Database) → IsImage (image c) db → (trees : Trees) → trees ≡ db.trees → (d : Option Contents) → Stands d trees → IsFound d c
-found law c sound db now trees is None at = absurd (shown_at None db trees now.sound is at c sound (image_had c db now))
-found law c sound db now trees is (Some d) at = let shown = shown_at (Some d) db trees now.sound is at in law d c shown.0 sound (has_image (image c) d db now shown.1)
+found law c sound db now trees is None at = absurd (shown_at None db trees now.is_database is at c sound (image_had c db now))
+found law c sound db now trees is (Some d) at = let shown = shown_at (Some d) db trees now.is_database is at in law d c shown.0 sound (has_image (image c) d db now shown.1)
 
 module _ (law : RowsLaw) (Owed : Contents → Type 0) (after : Contents → Contents) (sound : (c : Contents) → AreSound c → Owed c → AreSound (after c)) (old new : State) (a b m n : ℕ)
     (survives : Survives old new (IsLeft (Takes Owed after) old)) where
@@ -115,9 +115,9 @@ module _ (law : RowsLaw) (Owed : Contents → Type 0) (after : Contents → Cont
     settled = tt;
   }
 
-  -- what went well is taken, and what is told as a fault leaves all as it was
-  pub told_commits : (r : Result (Unit {0}) Error) (told : Result (Unit {0}) StoreFault) → IsTold r told → (HasCleanDisk new → OnOk r (Ends (Takes Owed after) old new))
-      → (HasCleanDisk new → OnErr r (IsKept old new)) → Commits (link old a b) (link new m n) told Owed after
-  told_commits (Ok u) told is ok err = subst (λ t. Commits (link old a b) (link new m n) t Owed after) (sym is) (commits ok)
-  told_commits (Err e) (Ok u) is ok err = absurd (cc)
-  told_commits (Err e) (Err why) is ok err = fails why err
+  -- what went well is taken, and what is reported as a fault leaves all as it was
+  pub translated_commits : (r : Result (Unit {0}) Error) (translated : Result (Unit {0}) StoreFault) → IsTranslated r translated → (HasCleanDisk new → OnOk r (Ends (Takes Owed after) old new))
+      → (HasCleanDisk new → OnErr r (IsKept old new)) → Commits (link old a b) (link new m n) translated Owed after
+  translated_commits (Ok u) translated is ok err = subst (λ t. Commits (link old a b) (link new m n) t Owed after) (sym is) (commits ok)
+  translated_commits (Err e) (Ok u) is ok err = absurd (cc)
+  translated_commits (Err e) (Err why) is ok err = fails why err

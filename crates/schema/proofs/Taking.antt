@@ -49,10 +49,10 @@ ReleaseLaw = (c : Contents) (upto : ℕ) (entry : Entry) → AreSound c → IsOw
     → HaveSameRows (image (released c upto entry)) (rows_written (writing.Releases entry.client upto) entry (image c))
 
 -- what is written is that of the change
-abbrev pub Tells : Change → Writing → Entry → Database → Type 0
-Tells change w entry db = (c : Contents) → AreSound c → IsOwed change entry c → IsImage (image c) db → IsWritingOf c.facts change w
+abbrev pub IsWritingIn : Change → Writing → Entry → Database → Type 0
+IsWritingIn change w entry db = (c : Contents) → AreSound c → IsOwed change entry c → IsImage (image c) db → IsWritingOf c.facts change w
 
-pub change_taken : ReplyLaw → ChangeLaw → (change : Change) (w : Writing) (entry : Entry) (a b : Database) → Tells change w entry a
+pub change_taken : ReplyLaw → ChangeLaw → (change : Change) (w : Writing) (entry : Entry) (a b : Database) → IsWritingIn change w entry a
     → Moves (rows_written w entry) a b → Takes (IsOwed change entry) (λ c. committed c change entry) a b
 change_taken reply law change w entry a b has moves c sound owed holds =
     let next : Contents = record c { facts = changed c.facts change } in
@@ -97,7 +97,7 @@ module _ (P Q : Database → Database → Type 0) (old mid new : State) (kept : 
 
 -- what a change needs is read, and then the change is committed
 module _ (reply : ReplyLaw) (law : ChangeLaw) (change : Change) (w : Writing) (entry : Entry) (old mid new : State) (kept : HasCleanDisk mid → IsKept old mid) (before : Survives old mid (λ _. ⊥))
-    (has : HasCleanDisk mid → Tells change w entry old.now) where
+    (has : HasCleanDisk mid → IsWritingIn change w entry old.now) where
   abbrev Written : Database → Database → Type 0
   Written = Moves (rows_written w entry)
 

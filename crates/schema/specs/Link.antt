@@ -42,7 +42,7 @@ link s failed full = record {
   may_leave = λ d. (trees : Trees) × s.may_leave trees × Stands d trees;
 }
 
--- what went well is told as it is, and an error as its fault
-abbrev pub IsTold : {T : Type 0} → Result T Error → Result T StoreFault → Type 0
-IsTold (Ok answer) told = told ≡ Ok answer
-IsTold (Err error) told = told ≡ Err (fault_for error)
+-- what went well is passed on as it is, and an error as its fault
+abbrev pub IsTranslated : {T : Type 0} → Result T Error → Result T StoreFault → Type 0
+IsTranslated (Ok answer) translated = translated ≡ Ok answer
+IsTranslated (Err error) translated = translated ≡ Err (fault_for error)

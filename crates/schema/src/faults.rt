@@ -1,7 +1,7 @@
 //! What a store says of an error, and how often it said so.
 ghost use Rattle.std.specs.Prelude.{◌≡◌};
 ghost use Rattle.job_facts.specs.Store.{failed_after, full_after};
-ghost use Rattle.schema.specs.Link.{IsTold};
+ghost use Rattle.schema.specs.Link.{IsTranslated};
 
 use adoption::fault_of;
 use job_facts::StoreFault;
@@ -15,9 +15,9 @@ pub(crate) struct Counts {
 }
 
 impl Counts {
-    /// The answer, or what is told of its error, which is counted.
-    pub(crate) fn told<T>(&mut self, answer: Result<T, Error>) -> Result<T, StoreFault>
-        ensures told { IsTold answer result }
+    /// The answer, or the fault of its error, which is counted.
+    pub(crate) fn translated<T>(&mut self, answer: Result<T, Error>) -> Result<T, StoreFault>
+        ensures value { IsTranslated answer result }
         ensures failed { self.new.failed ≡ failed_after result self.old.failed }
         ensures full { self.new.full ≡ full_after result self.old.full }
     {

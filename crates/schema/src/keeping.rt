@@ -1,5 +1,5 @@
 //! A change or a release is kept with its reply, as it is owed of the contents.
-ghost use Rattle.std.specs.Prelude.{◌≡◌, false, OnErr, OnOk};
+ghost use Rattle.std.specs.Prelude.{◌≡◌, ◌<◌, ◌^◌, false, OnErr, OnOk};
 ghost use Rattle.sqlite.specs.Held.{state};
 ghost use Rattle.sqlite.specs.State.{HasCleanDisk, Survives};
 ghost use Rattle.job_facts.specs.Contents.{IsOwed, IsOwedRelease, committed, released};
@@ -24,6 +24,7 @@ pub(crate) fn keep<S: Alter>(
     entry: &Entry<'_>,
     change: &Change<'_>,
 ) -> Result<(), Error>
+    requires most { entry.now.number < 10 ^ 18 }
     requires idle { conn.old.in_transaction ≡ false }
     requires knows { Knows (state S.Store conn.old) known.old }
     ensures ok { let kept = kept_reply entry.now in
@@ -50,8 +51,8 @@ pub(crate) fn keep<S: Alter>(
     }
 }
 
-/// Sets a client's mark, drops its replies up to the mark, and keeps the release's reply, or does
-/// nothing.
+/// Sets a client's release mark, drops its replies up to the mark, and keeps the release's reply,
+/// or does nothing.
 pub(crate) fn release<S: Alter>(
     conn: &mut Connection<S>,
     known: &Known,
@@ -59,6 +60,7 @@ pub(crate) fn release<S: Alter>(
     entry: &Entry<'_>,
     upto: u64,
 ) -> Result<(), Error>
+    requires most { entry.now.number < 10 ^ 18 }
     requires idle { conn.old.in_transaction ≡ false }
     requires knows { Knows (state S.Store conn.old) known.now }
     ensures ok { let kept = kept_reply entry.now in

@@ -67,7 +67,7 @@ impl<S: Alter> SqlStore<S> {
             (stands_for S.Store self.new) result }
     {
         let answer = reads::reply_count(&mut self.conn);
-        self.counts.told(answer)
+        self.counts.translated(answer)
     }
 }
 
@@ -89,37 +89,37 @@ impl<S: Alter> JobStore for SqlStore<S> {
 
     fn product(&mut self, code: &Name) -> Result<Option<Product>, StoreFault> {
         let answer = reads::product(&mut self.conn, code);
-        self.counts.told(answer)
+        self.counts.translated(answer)
     }
 
     fn lot(&mut self, name: &Name) -> Result<Option<Lot>, StoreFault> {
         let answer = reads::lot(&mut self.conn, name);
-        self.counts.told(answer)
+        self.counts.translated(answer)
     }
 
     fn lot_of(&mut self, blank: u64) -> Result<Option<Lot>, StoreFault> {
         let answer = reads::lot_of(&mut self.conn, blank);
-        self.counts.told(answer)
+        self.counts.translated(answer)
     }
 
     fn overlaps(&mut self, first: u64, count: u32) -> Result<bool, StoreFault> {
         let answer = reads::overlaps(&mut self.conn, first, count);
-        self.counts.told(answer)
+        self.counts.translated(answer)
     }
 
     fn batch(&mut self, name: &Name) -> Result<Option<BatchRow>, StoreFault> {
         let answer = reads::batch(&mut self.conn, name);
-        self.counts.told(answer)
+        self.counts.translated(answer)
     }
 
     fn batch_size(&mut self, name: &Name) -> Result<Option<BatchSize>, StoreFault> {
         let answer = reads::batch_size(&mut self.conn, name);
-        self.counts.told(answer)
+        self.counts.translated(answer)
     }
 
     fn batch_has(&mut self, name: &Name, raw: &[u8]) -> Result<bool, StoreFault> {
         let answer = reads::batch_has(&mut self.conn, name, raw);
-        self.counts.told(answer)
+        self.counts.translated(answer)
     }
 
     fn record_state(
@@ -128,32 +128,32 @@ impl<S: Alter> JobStore for SqlStore<S> {
         rec: &Name,
     ) -> Result<Option<RecordState>, StoreFault> {
         let answer = reads::record_state(&mut self.conn, batch, rec);
-        self.counts.told(answer)
+        self.counts.translated(answer)
     }
 
     fn first_waiting(&mut self, batch: &Name) -> Result<Option<Name>, StoreFault> {
         let answer = reads::first_waiting(&mut self.conn, &mut self.known, batch);
-        self.counts.told(answer)
+        self.counts.translated(answer)
     }
 
     fn is_finished(&mut self, batch: &Name) -> Result<bool, StoreFault> {
         let answer = reads::is_finished(&mut self.conn, batch);
-        self.counts.told(answer)
+        self.counts.translated(answer)
     }
 
     fn session(&mut self, session: u64) -> Result<Option<SessionRow>, StoreFault> {
         let answer = reads::session(&mut self.conn, &self.known, session);
-        self.counts.told(answer)
+        self.counts.translated(answer)
     }
 
     fn running_session(&mut self, machine: &Name) -> Result<Option<u64>, StoreFault> {
         let answer = reads::running_session(&mut self.conn, machine);
-        self.counts.told(answer)
+        self.counts.translated(answer)
     }
 
     fn is_charged(&mut self, blank: u64) -> Result<bool, StoreFault> {
         let answer = reads::is_charged(&mut self.conn, blank);
-        self.counts.told(answer)
+        self.counts.translated(answer)
     }
 
     fn segment(
@@ -164,52 +164,52 @@ impl<S: Alter> JobStore for SqlStore<S> {
         segment: u16,
     ) -> Result<Option<SegmentRow>, StoreFault> {
         let answer = reads::segment(&mut self.conn, &mut self.known, batch, rec, app, segment);
-        self.counts.told(answer)
+        self.counts.translated(answer)
     }
 
     fn product_count(&mut self) -> Result<u64, StoreFault> {
         let answer = reads::product_count(&mut self.conn);
-        self.counts.told(answer)
+        self.counts.translated(answer)
     }
 
     fn lot_count(&mut self) -> Result<u64, StoreFault> {
         let answer = reads::lot_count(&mut self.conn);
-        self.counts.told(answer)
+        self.counts.translated(answer)
     }
 
     fn batch_count(&mut self) -> Result<u64, StoreFault> {
         let answer = reads::batch_count(&mut self.conn);
-        self.counts.told(answer)
+        self.counts.translated(answer)
     }
 
     fn session_count(&mut self) -> Result<u64, StoreFault> {
         let answer = reads::session_count(&mut self.conn);
-        self.counts.told(answer)
+        self.counts.translated(answer)
     }
 
     fn batch_totals(&mut self, batch: &Name) -> Result<BatchTotals, StoreFault> {
         let answer = reads::batch_totals(&mut self.conn, batch);
-        self.counts.told(answer)
+        self.counts.translated(answer)
     }
 
     fn record_lines(&mut self, batch: &Name) -> Result<Vec<RecordLine>, StoreFault> {
         let answer = reads::record_lines(&mut self.conn, batch);
-        self.counts.told(answer)
+        self.counts.translated(answer)
     }
 
     fn blank_totals(&mut self, product: &Name) -> Result<BlankTotals, StoreFault> {
         let answer = reads::blank_totals(&mut self.conn, product);
-        self.counts.told(answer)
+        self.counts.translated(answer)
     }
 
     fn kept(&mut self, client: &Name, number: u64) -> Result<Option<KeptReply>, StoreFault> {
         let answer = reads::kept(&mut self.conn, client, number);
-        self.counts.told(answer)
+        self.counts.translated(answer)
     }
 
     fn mark(&mut self, client: &Name) -> Result<u64, StoreFault> {
         let answer = reads::mark(&mut self.conn, client);
-        self.counts.told(answer)
+        self.counts.translated(answer)
     }
 
     fn commit(
@@ -230,7 +230,7 @@ impl<S: Alter> JobStore for SqlStore<S> {
             body,
         };
         let answer = keep(&mut self.conn, &mut self.known, self.alloc, &entry, change);
-        self.counts.told(answer)
+        self.counts.translated(answer)
     }
 
     fn release(
@@ -251,6 +251,6 @@ impl<S: Alter> JobStore for SqlStore<S> {
             body,
         };
         let answer = release(&mut self.conn, &self.known, self.alloc, &entry, mark);
-        self.counts.told(answer)
+        self.counts.translated(answer)
     }
 }

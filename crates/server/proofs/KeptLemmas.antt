@@ -6,7 +6,7 @@ use Rattle.std.proofs.KnownBytes.{Appends-kept, Appends-trans, Consumes-trans}
 use Rattle.std.proofs.Props.{props}
 use Rattle.std.proofs.lemmas.Bool.{false≢true}
 use Rattle.std.proofs.lemmas.List.{append_cancel_left, take-append-drop}
-use Rattle.http_messages.specs.Messages.{Tells}
+use Rattle.http_messages.specs.Messages.{Agrees}
 use Rattle.server.specs.declared.served.End.{End}
 use Rattle.server.specs.declared.served.End.TheVariants.{Answered, Broken, WriteFailed}
 use Rattle.server.specs.Bytes.{IsBeginning, IsReplyOf, KeepsRead, KeepsReply, KeepsWritten}
@@ -82,7 +82,7 @@ reply_offered before after taken offered end is (bytes, rest, all, front, last) 
     (bytes, all, subst (λ (e : End). IsReplyOf e offered bytes) (sym is) (subst (IsBeginning (take 512 bytes)) (sym last) (front-begins_front 512 bytes rest)))
 
 -- what was read of an input
-pub read-begins : (before after : Option (List ℕ)) (request input : List ℕ) → Tells before input → KeepsRead before after request
+pub read-begins : (before after : Option (List ℕ)) (request input : List ℕ) → Agrees before input → KeepsRead before after request
     → IsTrue (is_some before) → IsBeginning request input
 read-begins None after request input all kept known = absurd (false≢true known)
 read-begins (Some xs) None request input all (bytes, gone, front) known = absurd gone

@@ -3,7 +3,7 @@ use Rattle.std.proofs.Common.{◌≡◌, ℕ, List, Option, subst, sym}
 use Rattle.std.specs.Prelude.{is_some}
 use Rattle.std.specs.Io.KnownBytes.{Appends}
 use Rattle.std.proofs.Math.Logic.{∥∥₁_elim}
-use Rattle.http_messages.specs.Messages.{Tells}
+use Rattle.http_messages.specs.Messages.{Agrees}
 use Rattle.server.specs.Exchanges.{Exchange}
 use Rattle.server.specs.declared.served.Served.{Served}
 use Rattle.server.specs.Bytes.{IsReplyOf, KeepsRead, KeepsReply}
@@ -11,7 +11,7 @@ use Rattle.server.specs.Observations.{IsObservationOf}
 use Rattle.server.specs.declared.observation.Observation.{Observation}
 use Rattle.server.proofs.KeptLemmas.{IsBeginning-prop, IsReplyOf-prop, read-begins, reply-is}
 
-pub observes : (brings left before after : Option (List ℕ)) (e : Exchange) (o : Observation) → Tells brings e.input → Appends before after e.written → e.served ≡ o.served
+pub observes : (brings left before after : Option (List ℕ)) (e : Exchange) (o : Observation) → Agrees brings e.input → Appends before after e.written → e.served ≡ o.served
     → ∥ KeepsRead brings left o.request ∥₁ → ∥ KeepsReply o.served.end before after o.reply ∥₁ → IsObservationOf (is_some brings) (is_some before) e o
 observes brings left before after e o input written same request reply = record {
   served = sym same;

@@ -8,7 +8,7 @@ use Rattle.std.proofs.lemmas.Option.{none-some}
 use Rattle.job_facts.specs.declared.store.StoreFault.{StoreFault}
 use Rattle.job_facts.specs.Store.{State, Stays}
 use Rattle.reply_store.specs.Runs.{AreLeftInTurn}
-use Rattle.http_messages.specs.Messages.{Tells}
+use Rattle.http_messages.specs.Messages.{Agrees}
 use Rattle.job_facts.specs.Reopening.{counts_of}
 use Rattle.job_facts.specs.declared.server_store.FaultCounts.{FaultCounts}
 use Rattle.server.specs.Exchanges.{Exchange, Moves, Opens, Queue, Serves, ServesAll, moved}
@@ -94,14 +94,14 @@ observes-none state store queue level known = record {
 pub observes-push : {S : Type 0} (state : S → State) → AreLeftInTurn state → (old now new : S) (waiting ready out left : Option Queue) (level : Level)
     (before mid after brings contents written : Option (List ℕ)) (es : List Exchange) (os : List Observation) (e : Exchange) (o : Observation)
     → ObservesAll state old now waiting ready level before mid es os
-    → out ≡ ready → Opens out brings contents → Tells brings e.input → Appends contents written e.written → Serves (state now) (state new) e
+    → out ≡ ready → Opens out brings contents → Agrees brings e.input → Appends contents written e.written → Serves (state now) (state new) e
     → IsObservationOf (is_some brings) (is_some contents) e o → o.before ≡ counts_of (state now) → o.after ≡ counts_of (state new)
     → left ≡ option_map (moved written o.served) out → NotesAll level mid after (lines_at level (fails_through false os) o)
     → ObservesAll state old new waiting left level before after (es ++ e ∷ []) (os ++ o ∷ [])
-observes-push state turns old now new waiting ready out left level before mid after brings contents written es os e o all same opens tells appends serves one first last back own =
+observes-push state turns old now new waiting ready out left level before mid after brings contents written es os e o all same opens agrees appends serves one first last back own =
     let moves : Moves waiting out es = subst (λ (q : Option Queue). Moves waiting q es) (sym same) all.moves in
     record {
-      moves = subst (λ (q : Option Queue). Moves waiting q (es ++ e ∷ [])) (sym back) (moves_more waiting out es e brings contents written o.served moves opens tells appends (sym one.served));
+      moves = subst (λ (q : Option Queue). Moves waiting q (es ++ e ∷ [])) (sym back) (moves_more waiting out es e brings contents written o.served moves opens agrees appends (sym one.served));
       serves = λ start begun. serves_more state turns start now new es e (all.serves start begun) serves;
       observed = observations-push (is_some waiting) es os e o all.observed (observation-known waiting out brings contents es e o moves opens one);
       counts = counts-push (counts_of (state old)) (counts_of (state now)) (counts_of (state new)) os o all.counts first last;

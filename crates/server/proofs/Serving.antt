@@ -11,7 +11,7 @@ use Rattle.job_facts.proofs.Lists.{each_more}
 use Rattle.arrivals.specs.Meaning.{contents_after}
 use Rattle.reply_store.specs.Runs.{Tried, arrived, decided, AreLeftInTurn, Leaves}
 use Rattle.http_requests.specs.declared.ask.Asked.TheVariants as asked
-use Rattle.http_messages.specs.Messages.{Tells}
+use Rattle.http_messages.specs.Messages.{Agrees}
 use Rattle.server.specs.declared.served.Served.{Served}
 use Rattle.http_requests.specs.Meant.{Meant, Broken, Refused, Asks, Means}
 use Rattle.server.specs.Exchanges.{Exchange, Does, Entry, IsAnswered, IsFixed, IsNext, Moves, Opens, Queue, Serves, ServesAll, moved, shown, tries, tries_at, tries_of}
@@ -83,10 +83,10 @@ moves_none (Some q) = (q.coming, refl, ap (λ (done : List Entry). Some (record 
 -- the first that came was served
 served_first : (q : Queue) (es : List Exchange) (e : Exchange) (rest : List (List ℕ)) (brings before after : Option (List ℕ)) (served : Served)
     → q.coming ≡ map brought es ++ rest
-    → Opens (Some (record { done = q.done ++ map shown es; coming = rest })) brings before → Tells brings e.input → Appends before after e.written → e.served ≡ served
+    → Opens (Some (record { done = q.done ++ map shown es; coming = rest })) brings before → Agrees brings e.input → Appends before after e.written → e.served ≡ served
     → Moves (Some q) (Some (moved after served (record { done = q.done ++ map shown es; coming = rest }))) (es ++ e ∷ [])
-served_first q es e rest brings before after served came (bytes, others, coming, is, empty) tells appends same =
-    let input : bytes ≡ e.input = subst (λ (o : Option (List ℕ)). Tells o e.input) is tells in
+served_first q es e rest brings before after served came (bytes, others, coming, is, empty) agrees appends same =
+    let input : bytes ≡ e.input = subst (λ (o : Option (List ℕ)). Agrees o e.input) is agrees in
     let all : rest ≡ e.input ∷ others = coming ∙ ap (λ (l : List ℕ). l ∷ others) input in
     let gone : unwrap_or after [] ≡ e.written = written_is after e.written (subst (λ (o : Option (List ℕ)). Appends o after e.written) empty appends) in
     let made : List ℕ → List ℕ → Served → Entry = λ a b s. record { input = a; written = b; served = s } in
@@ -103,9 +103,9 @@ served_first q es e rest brings before after served came (bytes, others, coming,
 
 -- the connection that is taken back is the one that was served
 pub moves_more : (q0 q1 : Option Queue) (es : List Exchange) (e : Exchange) (brings before after : Option (List ℕ)) (served : Served)
-    → Moves q0 q1 es → Opens q1 brings before → Tells brings e.input → Appends before after e.written → e.served ≡ served
+    → Moves q0 q1 es → Opens q1 brings before → Agrees brings e.input → Appends before after e.written → e.served ≡ served
     → Moves q0 (option_map (moved after served) q1) (es ++ e ∷ [])
-moves_more None q1 es e brings before after served moves opens tells appends same = tt
-moves_more (Some q) q1 es e brings before after served (rest, came, now) opens tells appends same =
+moves_more None q1 es e brings before after served moves opens agrees appends same = tt
+moves_more (Some q) q1 es e brings before after served (rest, came, now) opens agrees appends same =
     subst (λ (o : Option Queue). Opens o brings before → Moves (Some q) (option_map (moved after served) o) (es ++ e ∷ [])) (sym now)
-    (λ first. served_first q es e rest brings before after served came first tells appends same) opens
+    (λ first. served_first q es e rest brings before after served came first agrees appends same) opens

@@ -25,7 +25,7 @@ stays_same s = record { doubts = omega arith; contents = λ h c held. held; cras
 handles_stays : (old new : State) (a : Arrived) (fault : StoreFault) → Stays old new → Handles old new a (Err fault)
 handles_stays old new a fault stays = record {
   doubts = stays.doubts;
-  told_is = λ h c held. tt;
+  reply_is = λ h c held. tt;
   ok = tt;
   err = stays.contents;
   crash = λ h c d held left. inl (stays.crash h d left);

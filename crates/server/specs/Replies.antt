@@ -5,8 +5,8 @@ use Rattle.job_facts.specs.declared.refusal.Refusal.TheVariants as rule
 use Rattle.job_facts.specs.declared.reply.Reply.TheVariants as reply
 use Rattle.job_facts.specs.Facts.{Facts}
 use Rattle.job_facts.specs.Contents.{Contents}
-use Rattle.arrivals.specs.Told.{Told, told_of}
-use Rattle.arrivals.specs.Meaning.{told_on}
+use Rattle.arrivals.specs.HttpReplies.{HttpReply, http_reply_of}
+use Rattle.arrivals.specs.Meaning.{http_reply_on}
 use Rattle.reply_store.specs.Runs.{arrived}
 use Rattle.reports.specs.Accounts.{batch_account, blank_account}
 use Rattle.reports.specs.Report.{report_text}
@@ -26,8 +26,8 @@ use Rattle.http_requests.specs.Meant.{Meant, Broken, Refused, Asks}
 
 -- ---- texts
 
-abbrev pub told_text : Told → List ℕ
-told_text t = reply_text t.status content.Json t.body
+abbrev pub http_reply_text : HttpReply → List ℕ
+http_reply_text t = reply_text t.status content.Json t.body
 
 -- the account, if what it is of is there
 abbrev pub account_of : Facts → Wanted → Option (List ℕ)
@@ -48,7 +48,7 @@ unknown_of (wanted.Blanks p) = rule.ProductUnknown
 
 abbrev pub account_reply : Wanted → Option (List ℕ) → List ℕ
 account_reply w (Some text) = reply_text 200 (account_kind w) text
-account_reply w None = told_text (told_of (reply.Refused (unknown_of w)))
+account_reply w None = http_reply_text (http_reply_of (reply.Refused (unknown_of w)))
 
 abbrev pub account_text : Facts → Wanted → List ℕ
 account_text f w = account_reply w (account_of f w)
@@ -61,11 +61,11 @@ IsWritten ended.Answered text written = written ≡ text
 IsWritten ended.WriteFailed text written = (rest : List ℕ) × (written ++ rest ≡ text)
 IsWritten ended.Broken text written = ⊥
 
--- an account decides nothing, and an arrival is told what it is told on these contents
+-- an account decides nothing, and an arrival gets the reply that it gets on these contents
 abbrev pub IsAskedAnswer : Contents → Asked → Served → List ℕ → Type 0
 IsAskedAnswer c (asked.Account w) served written = (served.decided ≡ false) × IsWritten served.end (account_text c.facts w) written
 IsAskedAnswer c (asked.Arrival a) served written =
-    (served.decided ≡ true) × IsWritten served.end (told_text (told_on c (arrived a))) written
+    (served.decided ≡ true) × IsWritten served.end (http_reply_text (http_reply_on c (arrived a))) written
 
 -- the answer on these contents
 abbrev pub IsAnswer : Contents → Meant → Served → List ℕ → Type 0

@@ -37,7 +37,7 @@ abbrev pub WritesLastInPart : ℕ → ℕ → Option (List ℕ) → Option (List
 WritesLastInPart port turns before after = (front : List ℕ) × (back : List ℕ)
     × (front ++ back ≡ served_text turns) × Appends before after (listening_text port ++ front)
 
--- it stopped for want of memory: nothing was written yet, or there was none for the next connection,
+-- it stopped for out of memory: nothing was written yet, or there was none for the next connection,
 -- or all connections were served
 abbrev pub StopsForMemory : (NextFault → Type 0) → ℕ → ℕ → ℕ → Option (List ℕ) → Option (List ℕ) → Type 0
 StopsForMemory refuses port turns count before after =

@@ -41,7 +41,8 @@ RefusalWords = List ℕ × List ℕ
 abbrev pub past_digits : List ℕ → List ℕ
 past_digits text = drop (length (digits_in text)) text
 
--- what follows the client's mark, which a refused number that was released has before the name
+-- what follows the client's release mark, which a refused number that was released has before the
+-- name
 abbrev pub past_mark : List ℕ → List ℕ
 past_mark text = option_map_or past_digits (behind (codes ",\"mark\":") text) text
 

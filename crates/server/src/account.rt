@@ -1,10 +1,10 @@
-//! What is told of a batch, or of a product's blanks.
+//! The account of a batch, or of a product's blanks.
 ghost use Rattle.std.specs.Prelude.{◌≡◌, IfOk};
 ghost use Rattle.job_facts.specs.Store.{Reads, Stays};
-ghost use Rattle.reports.specs.Told.{TellsText};
-ghost use Rattle.arrivals.specs.Told.{told_of};
+ghost use Rattle.reports.specs.Answers.{AnswersText};
+ghost use Rattle.arrivals.specs.HttpReplies.{http_reply_of};
 ghost use Rattle.job_facts.specs.declared.reply.Reply.TheVariants.{Refused};
-ghost use Rattle.server.specs.Replies.{account_kind, account_of, account_text, told_text};
+ghost use Rattle.server.specs.Replies.{account_kind, account_of, account_text, http_reply_text};
 ghost use Rattle.server.specs.Replies.{unknown_of};
 ghost use Rattle.server.specs.Answers.{answer_text};
 
@@ -61,7 +61,7 @@ fn kind_of(wanted: Wanted) -> Content
 
 fn account<S: JobStore>(alloc: Global, store: &mut S, wanted: Wanted) -> Result<Bytes, AccountFault>
     ensures stays { Stays (S.state store.old) (S.state store.new) }
-    ensures tells { TellsText (S.state store.old) (S.state store.new) (unknown_of wanted)
+    ensures answers { AnswersText (S.state store.old) (S.state store.new) (unknown_of wanted)
         (λ c. account_of c.facts wanted) result }
 {
     match wanted {
@@ -72,7 +72,8 @@ fn account<S: JobStore>(alloc: Global, store: &mut S, wanted: Wanted) -> Result<
 }
 
 fn refused(alloc: Global, refusal: Refusal) -> Result<Answer, AllocError>
-    ensures { IfOk result (λ answer. answer_text answer ≡ told_text (told_of (Refused refusal))) }
+    ensures { IfOk result (λ answer. answer_text answer
+        ≡ http_reply_text (http_reply_of (Refused refusal))) }
 {
     let reply = Reply::Refused { refusal };
     let body = body_of(alloc, &reply)?;

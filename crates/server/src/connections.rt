@@ -36,7 +36,7 @@ pub trait Connections {
     /// What takes the bytes of the reply.
     type Out: Write;
 
-    /// Those that were taken back, and what the others bring, where that is told.
+    /// Those that were taken back, and what the others bring, where that is known.
     ghost queue: { Self → Option Queue };
 
     /// One is out.

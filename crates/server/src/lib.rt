@@ -27,7 +27,7 @@ pub use many::serve_all;
 pub use memory::{MemoryConnections, MemoryReader, Replied};
 pub use one::serve_one;
 pub use opening::Opened;
-pub use run::serve_and_tell;
+pub use run::serve_and_report;
 pub use served::{End, Served};
 pub use stopping::ServeStop;
 pub use words::refusal_in;

@@ -1,7 +1,7 @@
 //! One connection, served and observed.
 ghost use Rattle.std.specs.Prelude.{◌≡◌, is_some};
 ghost use Rattle.std.specs.Io.KnownBytes.{Appends};
-ghost use Rattle.http_messages.specs.Messages.{Tells};
+ghost use Rattle.http_messages.specs.Messages.{Agrees};
 ghost use Rattle.job_facts.specs.Reopening.{counts_of};
 ghost use Rattle.server.specs.Exchanges.{Exchange, Serves};
 ghost use Rattle.server.specs.Bytes.{KeepsRead, KeepsReply};
@@ -26,7 +26,7 @@ pub fn serve_observed<S: ServerStore, I: ByteSource, W: Write>(
     incoming: I,
     writer: W,
 ) -> (I, W, Observation)
-    ensures served { (e : Exchange) × Tells (I.brings incoming) e.input
+    ensures served { (e : Exchange) × Agrees (I.brings incoming) e.input
         × Appends (W.contents writer) (W.contents result.1) e.written
         × Serves (S.state store.old) (S.state store.new) e
         × IsObservationOf (is_some (I.brings incoming)) (is_some (W.contents writer)) e result.2 }
@@ -46,7 +46,7 @@ fn serve_from<S: ServerStore, I: ByteSource, W: Write, K: Start>(
 ) -> (I, W, Observation)
     requires brings { I.brings incoming ≡ K.brings }
     requires contents { W.contents writer ≡ K.contents }
-    ensures served { (e : Exchange) × Tells (I.brings incoming) e.input
+    ensures served { (e : Exchange) × Agrees (I.brings incoming) e.input
         × Appends (W.contents writer) (W.contents result.1) e.written
         × (e.served ≡ result.2.served) × Serves (S.state store.old) (S.state store.new) e }
     ensures request { ∥ KeepsRead K.brings (I.brings result.0) result.2.request ∥₁ }

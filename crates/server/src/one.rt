@@ -7,17 +7,17 @@ ghost use Rattle.job_facts.specs.Contents.{Contents};
 ghost use Rattle.arrivals.specs.Commands.{HandsOutNext};
 ghost use Rattle.reply_store.specs.Handled.{Handles};
 ghost use Rattle.reply_store.specs.Runs.{arrived};
-ghost use Rattle.arrivals.specs.Told.{told};
+ghost use Rattle.arrivals.specs.HttpReplies.{http_reply};
 ghost use Rattle.http_requests.specs.Asks.{IsInRange};
-ghost use Rattle.http_messages.specs.Messages.{Tells};
+ghost use Rattle.http_messages.specs.Messages.{Agrees};
 ghost use Rattle.http_requests.specs.declared.ask.Asked.TheVariants as asked;
 ghost use Rattle.server.specs.Exchanges.{Exchange, Serves};
 ghost use Rattle.http_requests.specs.Meant.{Asks};
-ghost use Rattle.server.specs.Replies.{IsWritten, told_text};
+ghost use Rattle.server.specs.Replies.{IsWritten, http_reply_text};
 ghost use Rattle.server.specs.Serving.{MayServe};
 
 use crate::account::account_answer;
-use crate::reply::{refuse, tell};
+use crate::reply::{refuse, send};
 use crate::served::{End, Served};
 use http_messages::{ByteSource, Content, FixedReply};
 use http_requests::{Asked, Meaning, Routes, Wanted, read_meaning};
@@ -35,7 +35,7 @@ pub fn serve_one<S: JobStore, I: ByteSource, W: Write>(
     incoming: &mut I,
     writer: &mut W,
 ) -> Served
-    ensures { (e : Exchange) × Tells (I.brings incoming.old) e.input
+    ensures { (e : Exchange) × Agrees (I.brings incoming.old) e.input
         × Appends (W.contents writer.old) (W.contents writer.new) e.written
         × (e.served ≡ result) × Serves (S.state store.old) (S.state store.new) e }
 {
@@ -50,7 +50,7 @@ pub(crate) fn serve_by<S: JobStore, I: ByteSource, W: Write>(
     incoming: &mut I,
     writer: &mut W,
 ) -> Served
-    ensures { (e : Exchange) × Tells (I.brings incoming.old) e.input
+    ensures { (e : Exchange) × Agrees (I.brings incoming.old) e.input
         × Appends (W.contents writer.old) (W.contents writer.new) e.written
         × (e.served ≡ result) × Serves (S.state store.old) (S.state store.new) e }
 {
@@ -82,7 +82,7 @@ fn serve_asked<S: JobStore, W: Write>(
     }
 }
 
-// Handles an arrival, and tells its reply.
+// Handles an arrival, and sends its reply.
 fn serve_arrival<S: JobStore, W: Write>(
     alloc: Global,
     store: &mut S,
@@ -96,7 +96,7 @@ fn serve_arrival<S: JobStore, W: Write>(
 {
     match handle_arrival(alloc, store, arrival) {
         Ok(kept) => Served {
-            end: tell_kept(writer, &kept),
+            end: send_kept(writer, &kept),
             decided: true,
         },
         Err(_) => refuse(writer, FixedReply::Storage),
@@ -124,14 +124,14 @@ fn handle_arrival<S: JobStore>(
     )
 }
 
-fn tell_kept<W: Write>(writer: &mut W, kept: &Kept) -> End
+fn send_kept<W: Write>(writer: &mut W, kept: &Kept) -> End
     ensures { (written : List ℕ) × Appends (W.contents writer.old) (W.contents writer.new) written
-        × IsWritten result (told_text (told kept.now)) written }
+        × IsWritten result (http_reply_text (http_reply kept.now)) written }
 {
-    tell(writer, kept.status, Content::Json, kept.body.as_slice())
+    send(writer, kept.status, Content::Json, kept.body.as_slice())
 }
 
-// Tells an account.
+// Sends an account.
 fn serve_account<S: JobStore, W: Write>(
     alloc: Global,
     store: &mut S,
@@ -144,7 +144,7 @@ fn serve_account<S: JobStore, W: Write>(
 {
     match account_answer(alloc, store, wanted) {
         Ok(answer) => Served {
-            end: tell(writer, answer.status, answer.kind, answer.body.as_slice()),
+            end: send(writer, answer.status, answer.kind, answer.body.as_slice()),
             decided: false,
         },
         Err(_) => refuse(writer, FixedReply::Storage),

@@ -12,7 +12,7 @@ use std::io::Write;
 use text_io::{WriteFailed, write_text};
 
 /// Writes a reply, or a beginning of it where the writer fails.
-pub(crate) fn tell<W: Write>(writer: &mut W, status: u16, kind: Content, body: &[u8]) -> End
+pub(crate) fn send<W: Write>(writer: &mut W, status: u16, kind: Content, body: &[u8]) -> End
     ensures { (written : List ℕ) × Appends (W.contents writer.old) (W.contents writer.new) written
         × IsWritten result (reply_text status kind body.now) written }
 {
@@ -46,7 +46,7 @@ pub(crate) fn refuse<W: Write>(writer: &mut W, why: FixedReply) -> Served
     ensures decided { result.decided ≡ false }
 {
     Served {
-        end: tell(writer, why.status(), why.kind(), why.body()),
+        end: send(writer, why.status(), why.kind(), why.body()),
         decided: false,
     }
 }

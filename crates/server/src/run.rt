@@ -22,7 +22,7 @@ use std::io::Write;
 /// file, of the connections and of the close. Errors: one of the two lines can't be written, memory
 /// is refused, there is no next connection, or the store can't be closed; what was served stands,
 /// and the store is closed all the same. What can't be written of event lines is no error.
-pub fn serve_and_tell<S: ServerStore, C: Connections, W: Write, E: Write + Drop>(
+pub fn serve_and_report<S: ServerStore, C: Connections, W: Write, E: Write + Drop>(
     alloc: Global,
     store: S,
     connections: &mut C,

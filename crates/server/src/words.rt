@@ -48,7 +48,8 @@ pub fn refusal_in(body: &[u8]) -> Option<(&str, &str)>
     Some((code, word_in(name)))
 }
 
-// What follows the client's mark, which a refused number that was released has before the name.
+// What follows the client's release mark, which a refused number that was released has before the
+// name.
 fn past_mark(text: &[u8]) -> &[u8]
     ensures { result.now ≡ past_mark text.now }
 {

@@ -54,14 +54,14 @@ module _ (sql : List ℕ) (params : Row) (old new : State) (schema : Schema) (ha
       rows : new.now.trees table.tree ≡ edited db (edit_by found)
       others : SparesOthers schema table db new.now.trees
 
-    -- `told` are the rows that the statement tells
-    abbrev Edits : (told : List Row → List Row) → Part Written
-    Edits told = Then (Queried old.step_limit (record old.now { schema = schema }) program params) (λ found.
-        Then (Edited schema Enforced db (edit_by found)) (λ next. Gives (record { trees = next; rows = told found; last = None })))
+    -- `returned` are the rows that the statement gives
+    abbrev Edits : (returned : List Row → List Row) → Part Written
+    Edits returned = Then (Queried old.step_limit (record old.now { schema = schema }) program params) (λ found.
+        Then (Edited schema Enforced db (edit_by found)) (λ next. Gives (record { trees = next; rows = returned found; last = None })))
 
-    edits_found : (told : List Row → List Row) (none : (olds news : List Row) → works schema Enforced 0 table.tree olds news ≡ []) (tally : Tally)
-        → Then (Edits told) (Concludes task (mode_of old) None) (Ok (tally, new.now)) → EditsFound
-    edits_found told none tally does =
+    edits_found : (returned : List Row → List Row) (none : (olds news : List Row) → works schema Enforced 0 table.tree olds news ≡ []) (tally : Tally)
+        → Then (Edits returned) (Concludes task (mode_of old) None) (Ok (tally, new.now)) → EditsFound
+    edits_found returned none tally does =
         let done = went does in
         let now = ap (λ (p : Tally × Database). p.1) (same_value (went (went done.2).2).2) in
         let found = went done.1 in
@@ -89,7 +89,7 @@ module _ (sql : List ℕ) (params : Row) (old new : State) (schema : Schema) (ha
         let left = without_all (db table.tree) (ids_of it.found) in
         record {
           kept = it.kept;
-          sound = w.sound;
+          is_database = w.sound;
           found = it.found;
           all = it.all;
           rows = it.rows ∙ ap (put_all left) (given left (map (λ s. cast_row table (drop 1 s)) it.found));
@@ -103,4 +103,4 @@ module _ (sql : List ℕ) (params : Row) (old new : State) (schema : Schema) (ha
         let w = runs_as sql params old new schema has (Delete at program) is plain count h in
         let does = subst (λ s. DoesAt s (Delete at program) (Ok (w.tally, new.now))) has w.changed in
         let it = edits_found 0 (λ _. []) (λ found. taken_by db (edit_by 0 (λ _. []) found)) none w.tally (rw listed at does) in
-        record { kept = it.kept; sound = w.sound; found = it.found; all = it.all; rows = it.rows; others = it.others }
+        record { kept = it.kept; is_database = w.sound; found = it.found; all = it.all; rows = it.rows; others = it.others }

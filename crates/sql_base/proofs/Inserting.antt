@@ -99,7 +99,7 @@ module _ (sql : List ℕ) (params : Row) (old new : State) (schema : Schema) (ha
       let moved : new.now.trees ≡ written.0 = ap (λ (d : Database). d.trees) at_last in
       record {
         kept = ap (λ (d : Database). d.schema) at_last;
-        sound = w.sound;
+        is_database = w.sound;
         rows = ap (λ (t : Trees). t table.tree) moved ∙ it.rows ∙ put;
         fresh = one_fresh (db table.tree) (with_rowid Chosen (db table.tree) stored) free;
         others = subst (λ (t : Trees). SparesOthers schema table db t) (sym moved) it.tables;

@@ -36,13 +36,13 @@ module _ {X : Type 0} (encode : X → Row) (hit : Row → Bool) (test : X → Bo
       let is = filter-map (λ r. not (hit r)) encode xs ∙ ap (map encode) (filter_same (λ x. not (hit (encode x))) (λ x. not (test x)) (λ x. ap not (typed_hit x)) xs) in
       subst (λ rows. IsPermutation rows (filter (λ r. not (hit r)) stored)) is (IsPermutation-filter (λ r. not (hit r)) _ _ same)
 
--- what is done to rows under rowids, told without them, where it does not look at these
+-- what is done to rows under rowids, given without them, where it does not look at these
 module _ (hit : Row → Bool) (whole_hit : Row → Bool) (blind_hit : (v : Value) (r : Row) → whole_hit (v ∷ r) ≡ hit r) where
-  pub told_left : (rows : List Row) → AllByRecursion (λ r. IsTrue (is_int (rowid r))) rows
+  pub given_left : (rows : List Row) → AllByRecursion (λ r. IsTrue (is_int (rowid r))) rows
       → map (drop 1) (filter (λ r. not (whole_hit r)) rows) ≡ filter (λ r. not (hit r)) (map (drop 1) rows)
-  told_left [] ints = refl
-  told_left ([] ∷ rows) ints = absurd (let never = ints.0 in cc)
-  told_left ((v ∷ r) ∷ rows) ints = rw blind_hit (at_test (hit r) (told_left rows ints.1))
+  given_left [] ints = refl
+  given_left ([] ∷ rows) ints = absurd (let never = ints.0 in cc)
+  given_left ((v ∷ r) ∷ rows) ints = rw blind_hit (at_test (hit r) (given_left rows ints.1))
     where
       at_test : (b : Bool) → map (drop 1) (filter (λ x. not (whole_hit x)) rows) ≡ filter (λ x. not (hit x)) (map (drop 1) rows)
           → map (drop 1) (cond (not b) ((v ∷ r) ∷ filter (λ x. not (whole_hit x)) rows) (filter (λ x. not (whole_hit x)) rows))
@@ -51,11 +51,11 @@ module _ (hit : Row → Bool) (whole_hit : Row → Bool) (blind_hit : (v : Value
       at_test false rest = ap (λ xs. r ∷ xs) rest
 
   module _ (alter : Row → Row) (whole_alter : Row → Row) (blind_alter : (v : Value) (r : Row) → drop 1 (whole_alter (v ∷ r)) ≡ alter r) where
-    pub told_changed : (rows : List Row) → AllByRecursion (λ r. IsTrue (is_int (rowid r))) rows
+    pub given_changed : (rows : List Row) → AllByRecursion (λ r. IsTrue (is_int (rowid r))) rows
         → map (drop 1) (changed_by whole_hit whole_alter rows) ≡ changed_by hit alter (map (drop 1) rows)
-    told_changed [] ints = refl
-    told_changed ([] ∷ rows) ints = absurd (let never = ints.0 in cc)
-    told_changed ((v ∷ r) ∷ rows) ints = ap₂ ◌∷◌ (ap (λ b. drop 1 (cond b (whole_alter (v ∷ r)) (v ∷ r))) (blind_hit v r) ∙ at_test (hit r)) (told_changed rows ints.1)
+    given_changed [] ints = refl
+    given_changed ([] ∷ rows) ints = absurd (let never = ints.0 in cc)
+    given_changed ((v ∷ r) ∷ rows) ints = ap₂ ◌∷◌ (ap (λ b. drop 1 (cond b (whole_alter (v ∷ r)) (v ∷ r))) (blind_hit v r) ∙ at_test (hit r)) (given_changed rows ints.1)
       where
         at_test : (b : Bool) → drop 1 (cond b (whole_alter (v ∷ r)) (v ∷ r)) ≡ cond b (alter r) r
         at_test true = blind_alter v r

@@ -1,4 +1,4 @@
--- Rows of one table are changed or taken out, where the statement tells the ones it means by what
+-- Rows of one table are changed or taken out, where the statement gives the ones it means by what
 -- stands in them.
 use Rattle.std.proofs.Common.{◌≡◌, Bool, List, ◌∷◌, cond, drop, filter, map, not, sym, subst, ◌∙◌}
 use Rattle.std.specs.List.Sorted.{IsPermutation}
@@ -13,7 +13,7 @@ use Rattle.sql_base.specs.Effects.{Deleted, Updated}
 use Rattle.sql_base.specs.Rowids.{AreApart}
 use Rattle.sql_base.proofs.Changing.{rows_left, rows_updated}
 use Rattle.sql_base.proofs.Replacing.{KeepsRowid}
-use Rattle.sql_base.proofs.Typed.{told_changed, told_left, typed_left, typed_set}
+use Rattle.sql_base.proofs.Typed.{given_changed, given_left, typed_left, typed_set}
 use Rattle.sql_tables.specs.Tables.{our_schema}
 use Rattle.sql_rows.specs.Image.{IsFilled, by_rowid, unnumbered}
 
@@ -26,7 +26,7 @@ module _ {X : Type 0} (table : Table) (encode : X → Row) (hit : Row → Bool) 
     abbrev changed : List X
     changed = map (λ x. cond (test x) (change x) x) xs
 
-    -- rows that are told with their rowids
+    -- rows that are given with their rowids
     pub rows_set : ((x : X) → hit (encode x) ≡ test x) → ((x : X) → put_back (show (encode x)) ≡ encode (change x))
         → IsFilled (by_rowid table (map encode xs)) old.now.trees → IsFilled (by_rowid table (map encode changed)) new.now.trees
     rows_set typed_hit typed_change is =
@@ -38,7 +38,7 @@ module _ {X : Type 0} (table : Table) (encode : X → Row) (hit : Row → Bool) 
           apart = subst AreApart (sym it.rows) made.1;
         }
 
-    -- rows that are told without them
+    -- rows that are given without them
     pub unnumbered_set : ((x : X) → hit (Null ∷ encode x) ≡ test x) → ((x : X) → drop 1 (put_back (show (Null ∷ encode x))) ≡ encode (change x))
         → ((v : Value) (r : Row) → hit (v ∷ r) ≡ hit (Null ∷ r)) → ((v : Value) (r : Row) → drop 1 (put_back (show (v ∷ r))) ≡ drop 1 (put_back (show (Null ∷ r))))
         → IsFilled (unnumbered table (map encode xs)) old.now.trees → IsFilled (unnumbered table (map encode changed)) new.now.trees
@@ -48,9 +48,9 @@ module _ {X : Type 0} (table : Table) (encode : X → Row) (hit : Row → Bool) 
         let bare_put = λ (r : Row). drop 1 (put_back (show (Null ∷ r))) in
         let made = rows_updated hit show put_back db it.found is.apart it.all keeps keeps_put in
         let typed = typed_set encode bare_hit test typed_hit bare_put change typed_change xs (map (drop 1) db) is.rows in
-        let told = subst (IsPermutation (map encode changed)) (sym (told_changed bare_hit hit blind_hit bare_put (λ r. put_back (show r)) blind_put db is.apart.ints)) typed in
+        let given_rows = subst (IsPermutation (map encode changed)) (sym (given_changed bare_hit hit blind_hit bare_put (λ r. put_back (show r)) blind_put db is.apart.ints)) typed in
         record {
-          rows = subst (λ rows. IsPermutation (map encode changed) (map (drop 1) rows)) (sym it.rows) (IsPermutation-trans _ _ _ told (IsPermutation-map (drop 1) _ _ made.0));
+          rows = subst (λ rows. IsPermutation (map encode changed) (map (drop 1) rows)) (sym it.rows) (IsPermutation-trans _ _ _ given_rows (IsPermutation-map (drop 1) _ _ made.0));
           apart = subst AreApart (sym it.rows) made.1;
         }
 
@@ -63,9 +63,9 @@ module _ {X : Type 0} (table : Table) (encode : X → Row) (hit : Row → Bool) 
       let bare_hit = λ (r : Row). hit (Null ∷ r) in
       let left = rows_left hit show db it.found is.apart it.all keeps in
       let typed = typed_left encode bare_hit test typed_hit xs (map (drop 1) db) is.rows in
-      let told = sym (told_left bare_hit hit blind_hit db is.apart.ints) in
+      let given_rows = sym (given_left bare_hit hit blind_hit db is.apart.ints) in
       let rows_are = it.rows ∙ left.0 in
       record {
-        rows = subst (λ rows. IsPermutation (map encode (filter (λ x. not (test x)) xs)) (map (drop 1) rows)) (sym rows_are) (subst (IsPermutation (map encode (filter (λ x. not (test x)) xs))) told typed);
+        rows = subst (λ rows. IsPermutation (map encode (filter (λ x. not (test x)) xs)) (map (drop 1) rows)) (sym rows_are) (subst (IsPermutation (map encode (filter (λ x. not (test x)) xs))) given_rows typed);
         apart = subst AreApart (sym it.rows) left.1;
       }

@@ -20,7 +20,7 @@ use Rattle.sql_base.proofs.Rowids.{put_apart}
 use Rattle.sql_base.proofs.Values.{one_more}
 use Rattle.sql_tables.specs.Tables.{our_schema}
 use Rattle.table_rows.specs.Tables.{Tables}
-use Rattle.sql_rows.specs.Image.{Filled, IsFilled, IsImage, by_rowid, filled, told, unnumbered}
+use Rattle.sql_rows.specs.Image.{Filled, IsFilled, IsImage, by_rowid, filled, given_rows, unnumbered}
 
 module _ (key : ℕ) (old new : Trees) where
   -- all trees but this one stay
@@ -33,7 +33,7 @@ module _ (key : ℕ) (old new : Trees) where
 
   stays : (x : Filled) → new x.table.tree ≡ old x.table.tree → IsFilled x old → IsFilled x new
   stays x same is = record {
-    rows = subst (λ rows. IsPermutation x.rows (told x.by_rowid rows)) (sym same) is.rows;
+    rows = subst (λ rows. IsPermutation x.rows (given_rows x.by_rowid rows)) (sym same) is.rows;
     apart = subst AreApart (sym same) is.apart;
   }
 
@@ -67,7 +67,7 @@ module _ (before after : List Filled) (table : Table) (left : list_all (λ (x : 
   refilled x y is_table is_t is_u are_ours ours sound spared moves image =
       record {
         ours = ours;
-        sound = sound;
+        is_database = sound;
         each = subst (AllByRecursion (λ z. IsFilled z new.now.trees)) (sym is_u)
             (filled_at table.tree old.now.trees new.now.trees before after x y (apart_by table.tree before left) (apart_by table.tree after right)
             (subst (AllByRecursion (Stays table.tree old.now.trees new.now.trees)) (sym are_ours) spared)

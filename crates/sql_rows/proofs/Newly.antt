@@ -9,15 +9,15 @@ use Rattle.sql_base.specs.Rowids.{AreApart}
 use Rattle.sql_tables.specs.Opening.{IsNewlyMade, version_row}
 use Rattle.sql_tables.specs.Tables.{version_table}
 use Rattle.table_rows.specs.Tables.{no_rows}
-use Rattle.sql_rows.specs.Image.{IsFilled, IsImage, by_rowid, told}
+use Rattle.sql_rows.specs.Image.{IsFilled, IsImage, by_rowid, given_rows}
 
-none_told : (by_rowid : Bool) → told by_rowid [] ≡ []
-none_told true = refl
-none_told false = refl
+none_given : (by_rowid : Bool) → given_rows by_rowid [] ≡ []
+none_given true = refl
+none_given false = refl
 
 unfilled : (table : Table) (by_rowid : Bool) (trees : Trees) → trees table.tree ≡ [] → IsFilled (record { table = table; by_rowid = by_rowid; rows = [] }) trees
 unfilled table by_rowid trees none = record {
-  rows = subst (IsPermutation []) (sym (ap (told by_rowid) none)) (subst (IsPermutation []) (sym (none_told by_rowid)) (IsPermutation-refl []));
+  rows = subst (IsPermutation []) (sym (ap (given_rows by_rowid) none)) (subst (IsPermutation []) (sym (none_given by_rowid)) (IsPermutation-refl []));
   apart = subst AreApart (sym none) (record { apart = tt; ints = tt });
 }
 
@@ -33,7 +33,7 @@ newly_filled db new =
     let t = db.trees in
     record {
       ours = new.schema_is;
-      sound = new.sound;
+      is_database = new.is_database;
       each = (
         one_version t new.version,
         (

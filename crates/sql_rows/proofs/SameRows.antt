@@ -23,7 +23,7 @@ same_rows t u db same image =
     let e = image.each in
     record {
       ours = image.ours;
-      sound = image.sound;
+      is_database = image.is_database;
       each = (
         e.0,
         (

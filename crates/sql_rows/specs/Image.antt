@@ -11,7 +11,7 @@ use Rattle.sql_tables.specs.Tables.{batch_table, blank_table, grouping_table, lo
 use Rattle.table_rows.specs.Tables.{Tables}
 use Rattle.sql_rows.specs.Encoding.{batch_row, blank_row, grouping_row, lot_row, mark_row, product_row, record_row, remake_row, reply_row, session_row, word_row}
 
--- a table with the rows in it; they are told with their rowids, or without
+-- a table with the rows in it; they are given with their rowids, or without
 pub record Filled : Type 0 where
   pub table : Table
   pub by_rowid : Bool
@@ -41,19 +41,19 @@ filled t =
     ∷ unnumbered mark_table (map mark_row t.marks)
     ∷ []
 
-abbrev pub told : Bool → List Row → List Row
-told true stored = stored
-told false stored = map (drop 1) stored
+abbrev pub given_rows : Bool → List Row → List Row
+given_rows true stored = stored
+given_rows false stored = map (drop 1) stored
 
 -- the table's tree has these rows, in any order, under rowids of which no two are one
 pub record IsFilled (x : Filled) (trees : Trees) : Type 0 where
-  pub rows : IsPermutation x.rows (told x.by_rowid (trees x.table.tree))
+  pub rows : IsPermutation x.rows (given_rows x.by_rowid (trees x.table.tree))
   pub apart : AreApart (trees x.table.tree)
 
 -- the database has just our tables, as its own catalog lists them, with just these rows
 pub record IsImage (t : Tables) (db : Database) : Type 0 where
   pub ours : db.schema ≡ our_schema
-  pub sound : IsDatabase db
+  pub is_database : IsDatabase db
   pub each : AllByRecursion (λ x. IsFilled x db.trees) (filled t)
 
 -- whatever rows the one has, the other has these of them

@@ -34,7 +34,7 @@ one_more (u ∷ tables) t trees empty new = (empty.0, one_more tables t trees em
 abbrev all_four : {A B C D : Type 0} → A → B → C → D → A × (B × (C × D))
 all_four a b c d = (a, (b, (c, d)))
 
--- all that tells that a text defines a table at a schema, so that `refl` computes it at once
+-- all that shows that a text defines a table at a schema, so that `refl` computes it at once
 abbrev IsRead : List ℕ → Schema → Table → Type 0
 IsRead sql s t =
     IsPlain (understood s sql)

@@ -58,7 +58,7 @@ adds_version old new count ran from =
     inserted add_version_text [] old new our_schema from.schema_is 0 version_table terms 3 command_is plain refl refl refl version_row version_row refl cast_is (none_acts 0) count ran in
     record {
       schema_is = it.kept;
-      sound = it.sound;
+      is_database = it.is_database;
       version = it.rows ∙ rw from.empty.0 refl;
       empty = spared (drop 1 our_schema.tables) old.now.trees new.now.trees it.others.1 others_differ from.empty.1;
     }

@@ -31,11 +31,11 @@ version_row = Int (pos 1) ∷ Null ∷ Int (pos 3) ∷ []
 -- our tables, with the version alone in them
 pub record IsNewlyMade (db : Database) : Type 0 where
   pub schema_is : db.schema ≡ our_schema
-  pub sound : IsDatabase db
+  pub is_database : IsDatabase db
   pub version : db.trees 0 ≡ version_row ∷ []
   pub empty : AllByRecursion (λ t. db.trees t.tree ≡ []) (drop 1 our_schema.tables)
 
--- the version is told where no row is
+-- the version is given where no row is
 abbrev pub AddsVersion : Database → Database → Type 0
 AddsVersion old new = IsEmptyAt our_schema old → IsNewlyMade new
 

@@ -185,7 +185,7 @@ abbrev pub mark_table : Table
 mark_table = mark_at 21
 
 -- which session of a machine runs, which rows a record has and their marks, how the sessions of a
--- batch stand, and what a batch tells without its bytes: no rule, but speed
+-- batch stand, and what a batch gives without its bytes: no rule, but speed
 abbrev pub session_running_at : ℕ → Index
 session_running_at tree = record { name = codes "session_running"; tree = tree; table = 12; columns = 2 ∷ 6 ∷ []; order = plain; is_unique = false }
 

@@ -1,4 +1,4 @@
--- The tables of each version: those of versions 1 and 2 know two marks of encipherment, and version
+-- The tables of each version: those of versions 1 and 2 know two encipherment marks, and version
 -- 1 has no released numbers.
 use Rattle.std.specs.Prelude.{ℕ, List, [], ◌∷◌, ◌++◌, codes, fold, pos}
 use Rattle.sqlite.specs.Change.{created}

@@ -1,5 +1,5 @@
 //! The tables that a store over SQLite keeps its facts and its replies in: they are made in an
-//! empty database, and told from others.
+//! empty database, and distinguished from others.
 #![tactic(auto)]
 
 mod alike;

@@ -39,7 +39,7 @@ fn make_version<S: Alter>(tx: &mut Transaction<'_, S>, version: Version) -> Resu
     run_both::<Making, &str, S>(tx, first, rest)
 }
 
-// Tells the version of the tables, in an open transaction.
+// Returns the version of the tables, in an open transaction.
 fn add_version<S: Alter>(tx: &mut Transaction<'_, S>) -> Result<usize, Error>
     ensures same_reference { tx.new.conn.ghost_name ≡ tx.old.conn.ghost_name }
     ensures made { HasCleanDisk (state S.Store tx.new.conn.now)
@@ -51,8 +51,8 @@ fn add_version<S: Alter>(tx: &mut Transaction<'_, S>) -> Result<usize, Error>
     tx.execute("INSERT INTO version (id, number) VALUES (1, 3)", &[])
 }
 
-/// Makes the tables and the indices and tells their version, in an open transaction. A crash leaves
-/// nothing of it.
+/// Makes the tables and the indices and returns their version, in an open transaction. A crash
+/// leaves nothing of it.
 pub fn make_all<S: Alter>(tx: &mut Transaction<'_, S>) -> Result<(), Error>
     ensures same_reference { tx.new.conn.ghost_name ≡ tx.old.conn.ghost_name }
     ensures made { HasCleanDisk (state S.Store tx.new.conn.now)
@@ -77,8 +77,8 @@ impl UnitOfWork for All {
     }
 }
 
-/// Makes the tables in one transaction, and tells their version. A crash leaves what it could leave
-/// before, or all of it.
+/// Makes the tables in one transaction, and returns their version. A crash leaves what it could
+/// leave before, or all of it.
 pub fn make_tables<S: Alter>(conn: &mut Connection<S>) -> Result<(), Error>
     requires { conn.old.in_transaction ≡ false }
     ensures ok { HasCleanDisk (state S.Store conn.new) → OnOk result

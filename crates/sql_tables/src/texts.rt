@@ -40,7 +40,7 @@ const RECORD: &str =
     INTEGER NOT NULL, remakes INTEGER NOT NULL, PRIMARY KEY (batch, place), UNIQUE (batch, \
     name)) STRICT";
 
-// Version 3 knows a third mark of encipherment, under a name of its own.
+// Version 3 knows a third encipherment mark, under a name of its own.
 const GROUPING: &str =
     "CREATE TABLE grouping2 (batch INTEGER NOT NULL, line INTEGER NOT NULL, place INTEGER NOT \
     NULL, aid BLOB NOT NULL, rank INTEGER NOT NULL CHECK (rank BETWEEN 1 AND 999), enc \

@@ -14,11 +14,11 @@ use std::alloc::Global;
 /// The version of a database's tables.
 #[derive(Clone, Copy, Debug, PartialEq, Eq)]
 pub enum Version {
-    /// It knows two marks of encipherment, and no released numbers.
+    /// It knows two encipherment marks, and no released numbers.
     One,
     /// It knows released numbers.
     Two,
-    /// It knows a third mark of encipherment.
+    /// It knows a third encipherment mark.
     Three,
 }
 

@@ -130,7 +130,7 @@ module _ (f g : Facts) (sound : IsSound f) (same : AreSameFacts f g) where
       (if_alike (not (is_running (session_state f x))) (not (is_running (session_state g x))) _ _ _ _ (ap (λ state. not (is_running state)) (reads.state_alike f g sound same x))
       (refuses _) (each x)))
 
-  -- what a word is told, by its session's commands
+  -- what a status word gets, by its session's commands
   abbrev after_word : List Command → ℕ → ℕ → ℕ → Reply
   after_word commands s k sw =
       if goes_at commands k sw then (if k + 1 == length commands then reply.Good s else reply.Next (command_bytes (slice_get commands (k + 1))) (k + 1) s)
@@ -143,8 +143,8 @@ module _ (f g : Facts) (sound : IsSound f) (same : AreSameFacts f g) where
         facts = sessions_with _ _ (ap (at_session s (worded sw)) same.sessions);
       }
 
-  ended_alike : (s : ℕ) (told : Reply) → AreAlike (with_end f s, told) (with_end g s, told)
-  ended_alike s told = record { reply = refl; facts = sessions_with _ _ (ap (at_session s ended) same.sessions) }
+  ended_alike : (s : ℕ) (given : Reply) → AreAlike (with_end f s, given) (with_end g s, given)
+  ended_alike s given = record { reply = refl; facts = sessions_with _ _ (ap (at_session s ended) same.sessions) }
 
   answer_alike : (client : List ℕ) (s k sw : ℕ) → AreAlike (step_answer f client s k sw) (step_answer g client s k sw)
   answer_alike client s k sw = session_alike client s _ _ (λ x.

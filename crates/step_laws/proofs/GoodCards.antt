@@ -110,7 +110,7 @@ unfolding states_of
 one_good f s t x y sound at_s at_t good_x good_y batch rec =
     let own : Session → Bool = is_for x.batch x.rec in
     let q : Session → Bool = λ z. own z && has_card (session_state f z) in
-    let one : count_by q f.sessions ≤ 1 = omega (arith, (sound.told.records x.batch x.rec).one_card, count_among has_card (session_state f) own f.sessions) in
+    let one : count_by q f.sessions ≤ 1 = omega (arith, (sound.states.records x.batch x.rec).one_card, count_among has_card (session_state f) own f.sessions) in
     let hit_x : q x ≡ true = and_from (own x) (has_card (session_state f x)) (for_own x) (ap has_card good_x) in
     let own_y : own y ≡ true = ap (λ b. bytes_eq y.batch b && bytes_eq y.rec x.rec) (sym batch) ∙ ap (λ r. bytes_eq y.batch y.batch && bytes_eq y.rec r) (sym rec) ∙ for_own y in
     one_of_count q f.sessions s t x y one at_s at_t hit_x (and_from (own y) (has_card (session_state f y)) own_y (ap has_card good_y))

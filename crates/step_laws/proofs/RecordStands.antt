@@ -20,7 +20,7 @@ use Rattle.job_facts.proofs.Lists.{count_by-at, count_by_any, list_any-there, ma
 use Rattle.job_facts.proofs.SessionLemmas.{session_changed, session_split}
 use Rattle.job_facts.proofs.SoundFacts.{is_for, states_among, states_are}
 use Rattle.step_laws.specs.Later.{KnowsMore}
-use Rattle.step_laws.specs.Records.{OtherRecordsStand, is_told, record_by, record_of_session}
+use Rattle.step_laws.specs.Records.{OtherRecordsStand, is_that_record, record_by, record_of_session}
 use Rattle.step_laws.proofs.Kept.{state_kept, step_knows}
 use Rattle.step_laws.proofs.StepCases.{own_there, step_by}
 
@@ -81,7 +81,7 @@ stands_by before after session.Spoiled withdrawn remakes is =
     lt-ltb remakes (count_by is_spoiled (before ++ session.Spoiled ∷ after)) (omega (arith, remade, then_count, now_count)) in
     rw (good, runs, stays, more) refl
 
--- ---- records of which as much is told
+-- ---- records of which as much is known
 
 pub record_same : (f g : Facts) (b r : List ℕ) → states_of g b r ≡ states_of f b r → is_withdrawn g b r ≡ is_withdrawn f b r → remakes_of g b r ≡ remakes_of f b r
     → record_state g b r ≡ record_state f b r
@@ -131,13 +131,13 @@ module _ (f : Facts) (s : ℕ) (x : Session) (change : Session → Session) (the
       ap (λ xs. states_of (record f { sessions = xs }) b r) split.3 ∙ states_elsewhere f split.0 split.1 x (change x) b r batch rec miss
       ∙ sym (ap (λ xs. states_of (record f { sessions = xs }) b r) split.2)
 
-  told_of_session : record_of_session after_change s ≡ Some (record { batch = x.batch; rec = x.rec })
-  told_of_session =
+  record_of_that_session : record_of_session after_change s ≡ Some (record { batch = x.batch; rec = x.rec })
+  record_of_that_session =
       ap (option_map (λ (y : Session). record { batch = y.batch; rec = y.rec })) (session_changed f.sessions s x change there)
       ∙ ap (λ b. Some (record { batch = b; rec = (change x).rec })) batch ∙ ap (λ r. Some (record { batch = x.batch; rec = r })) rec
 
-  changed_stand : (b r : List ℕ) → is_told b r (record_of_session after_change s) ≡ false → record_state after_change b r ≡ record_state f b r
-  changed_stand b r other = record_same f after_change b r (changed_states b r (sym (ap (is_told b r) told_of_session) ∙ other)) refl refl
+  changed_stand : (b r : List ℕ) → is_that_record b r (record_of_session after_change s) ≡ false → record_state after_change b r ≡ record_state f b r
+  changed_stand b r other = record_same f after_change b r (changed_states b r (sym (ap (is_that_record b r) record_of_that_session) ∙ other)) refl refl
 
 pub opened_states : (f : Facts) (new : Session) (b r : List ℕ) → is_for b r new ≡ false → states_of (with_session f new) b r ≡ states_of f b r
 opened_states f new b r miss =
@@ -182,7 +182,7 @@ step_stands f client r sound =
       opens = λ b blank r opens more c q other. let new = new_session client b r blank in record_same f _ c q (opened_states f new c q other) refl refl;
       word = λ s k sw x own turn more.
           let g : Facts = with_word f s sw in
-          let Q : Reply → Type 0 = λ told. OtherRecordsStand f g told in
+          let Q : Reply → Type 0 = λ given. OtherRecordsStand f g given in
           let stand = changed_stand f s x (worded sw) own.there refl refl in
           cond_both {A = Reply} (goes_at (commands_for f x.batch x.rec) k sw) _ _ Q
           (λ goes. cond_both {A = Reply} (k + 1 == length (commands_for f x.batch x.rec)) _ _ Q (λ last. stand) (λ next. stand)) (λ stops. stand);

@@ -31,7 +31,7 @@ use Rattle.job_facts.proofs.SessionLemmas.{session_changed, session_split}
 use Rattle.job_facts.proofs.SoundFacts.{is_for, states_are}
 use Rattle.job_facts.proofs.SoundSessions.{running_numbered, running_parts}
 use Rattle.step_laws.specs.Records.{record_by}
-use Rattle.step_laws.specs.Replies.{IsGivenUp, IsSessionOf, MayBeTold, Says}
+use Rattle.step_laws.specs.Replies.{IsGivenUp, IsSessionOf, MayGetReply, Says}
 use Rattle.step_laws.proofs.Commands.{commands_some}
 use Rattle.step_laws.proofs.GoodCards.{for_own, one_of_count}
 use Rattle.step_laws.proofs.Kept.{commands_same, state_same}
@@ -41,9 +41,9 @@ use Rattle.step_laws.proofs.StepCases.{IsOwn, named_batch, own_there, step_by}
 
 -- ---- of the request
 
-pub step_may : (f : Facts) (client : List ℕ) (r : Request) → MayBeTold r (step f client r).1
+pub step_may : (f : Facts) (client : List ℕ) (r : Request) → MayGetReply r (step f client r).1
 step_may f client r =
-    step_by f client (λ r o. MayBeTold r o.1)
+    step_by f client (λ r o. MayGetReply r o.1)
     (record {
       refuses = λ r why. tt;
       faulty = λ b p raw kept fault is. tt;
@@ -59,7 +59,7 @@ step_may f client r =
       batch = λ b p raw kept rows new there few read. refl;
       opens = λ b blank r opens. (refl, refl);
       word = λ s k sw x own turn.
-          let Q : Reply → Type 0 = MayBeTold (request.Answer s k sw) in
+          let Q : Reply → Type 0 = MayGetReply (request.Answer s k sw) in
           let commands = commands_for f x.batch x.rec in
           cond_both {A = Reply} (goes_at commands k sw) _ _ Q
           (λ goes. cond_both {A = Reply} (k + 1 == length commands) _ _ Q (λ last. refl) (λ next. (refl, refl))) (λ stops. refl);
@@ -115,7 +115,7 @@ module _ (f : Facts) (client b : List ℕ) (blank : ℕ) (r : List ℕ) (sound :
       ∙ ap (λ ts. map (session_state f) (filter (is_for b r) f.sessions) ++ ts) (cond-true (is_for b r new) (session_state f new ∷ []) [] (for_own new) ∙ ap (λ t. t ∷ []) new_runs)
       ∙ ap (λ ts. ts ++ session.Running ∷ []) (sym (states_are f b r)) in
       ap (λ ts. state_by ts w m) now
-      ∙ stands_by states [] session.Running w m (record_opened states session.Running w m (sound.told.records b r) waits)
+      ∙ stands_by states [] session.Running w m (record_opened states session.Running w m (sound.states.records b r) waits)
 
   new_is : IsSessionOf with_new client (length f.sessions + 1) new session.Running
   new_is = record { there = numbered_top f.sessions new; own = refl; stands = state_same f (f.sessions ++ new ∷ []) new ∙ new_runs; rec = new_record }
@@ -148,7 +148,7 @@ changed_record f before after x words over t sound split runs is =
     ∙ ap (λ ts. first ++ ts) (cond-true (is_for b r x) (session_state f x ∷ rest) rest (for_own x)) ∙ ap (λ u. first ++ u ∷ rest) runs in
     let now : states_of (record f { sessions = before ++ y ∷ after }) b r ≡ first ++ t ∷ rest =
     states_around f before after y b r ∙ ap (λ ts. first ++ ts) (cond-true (is_for b r y) (session_state f y ∷ rest) rest (for_own x)) ∙ ap (λ u. first ++ u ∷ rest) is in
-    ap (λ ts. state_by ts w m) now ∙ stands_by first rest t w m (subst (λ ts. IsSoundRecord ts w m) was (sound.told.records b r))
+    ap (λ ts. state_by ts w m) now ∙ stands_by first rest t w m (subst (λ ts. IsSoundRecord ts w m) was (sound.states.records b r))
 
 module _ (f : Facts) (client : List ℕ) (s : ℕ) (x : Session) (sound : IsSound f) (own : IsOwn f client s x) where
   pub word_is : (sw : ℕ) (t : SessionState) → session_state f (worded sw x) ≡ t → IsSessionOf (with_word f s sw) client s (worded sw x) t
@@ -236,7 +236,7 @@ word_says f client s k sw x sound own turn =
 
 -- ---- a record remade or withdrawn
 
--- a record without a card, by the rest of what is told of it
+-- a record without a card, by the rest of what is known of it
 cardless : (states : List SessionState) (withdrawn more : Bool) (remakes : ℕ) → list_any has_card states ≡ false → nat_lt remakes (count_by is_spoiled states) ≡ more
     → state_by states withdrawn remakes ≡ cond withdrawn rec.Withdrawn (cond more rec.Failed rec.Waiting)
 cardless states withdrawn more remakes none last = rw (none_good states none, none_running states none, last) refl
@@ -246,9 +246,9 @@ open_record : (f : Facts) (b r : List ℕ) (failed : Bool) → record_state_of f
     → (list_any (bytes_eq r) (records_named f b) ≡ true) × (list_any has_card (states_of f b r) ≡ false) × (is_withdrawn f b r ≡ false)
 unfolding record_state_of record_state
 open_record f b r failed stands =
-    let told = cond_some (list_any (bytes_eq r) (records_named f b)) (record_state f b r) (cond failed rec.Failed rec.Waiting) stands in
-    let parts = open_parts (states_of f b r) (is_withdrawn f b r) (remakes_of f b r) failed told.1 in
-    (told.0, parts.0, parts.1)
+    let given = cond_some (list_any (bytes_eq r) (records_named f b)) (record_state f b r) (cond failed rec.Failed rec.Waiting) stands in
+    let parts = open_parts (states_of f b r) (is_withdrawn f b r) (remakes_of f b r) failed given.1 in
+    (given.0, parts.0, parts.1)
 
 there_record : (f : Facts) (b r : List ℕ) (state : RecordState) → list_any (bytes_eq r) (records_named f b) ≡ true → record_state f b r ≡ state → record_state_of f b r ≡ Some state
 unfolding record_state_of
@@ -265,7 +265,7 @@ remade_says f b r sound failed =
     let states = states_of f b r in
     let more : remakes_of g b r ≡ remakes_of f b r + cond {A = ℕ} (is_record b r (named b r)) 1 0 = sum_by_push (λ n. cond {A = ℕ} (is_record b r n) 1 0) f.remakes (named b r) in
     let one : cond {A = ℕ} (is_record b r (named b r)) 1 0 ≡ 1 = ap (λ t. cond {A = ℕ} t 1 0) (own_record b r) in
-    let least = (sound.told.records b r).remade_least in
+    let least = (sound.states.records b r).remade_least in
     let enough : nat_lt (remakes_of g b r) (count_by is_spoiled states) ≡ false = le-ltb (remakes_of g b r) (count_by is_spoiled states) (omega (arith, more, one, least)) in
     there_record g b r rec.Waiting was.0
     (ap (λ ts. state_by ts (is_withdrawn f b r) (remakes_of g b r)) (same_states f f.discarded g.remakes f.withdrawn f.closed b r)

@@ -46,7 +46,7 @@ pub record IsOwn (f : Facts) (client : List ℕ) (s : ℕ) (x : Session) : Type 
   pub runs : session_state f x ≡ session.Running
 
 -- each outcome that leaves the facts
-pub record Tells (f : Facts) (client : List ℕ) (P : Request → Outcome → Type 0) : Type 0 where
+pub record LeavesFacts (f : Facts) (client : List ℕ) (P : Request → Outcome → Type 0) : Type 0 where
   pub refuses : (r : Request) (why : Refusal) → P r (f, reply.Refused why)
   pub faulty : (b p raw : List ℕ) (kept : Product) (fault : RowFault) → batch_of kept raw ≡ Err fault → P (request.Import b p raw) (f, reply.Faulty fault)
   pub product : (p kept : Product) → product_named f.products p.code ≡ Some kept → P (request.Product p) (f, reply.Product p.code Known)
@@ -84,53 +84,53 @@ running_is session.Running h = refl
 running_is session.Good h = absurd (false≢true h)
 running_is session.Spoiled h = absurd (false≢true h)
 
-module _ (f : Facts) (client : List ℕ) (P : Request → Outcome → Type 0) (tells : Tells f client P) (adds : Adds f client P) where
+module _ (f : Facts) (client : List ℕ) (P : Request → Outcome → Type 0) (leaves : LeavesFacts f client P) (adds : Adds f client P) where
   product_by : (p : Product) → P (request.Product p) (step_product f p)
   product_by p =
       let Q : Outcome → Type 0 = P (request.Product p) in
       option_both (product_named f.products p.code) _ _ Q
-      (λ new. cond_both {A = Outcome} (nat_le 256 (length f.products)) _ _ Q (λ yes. tells.refuses _ _)
+      (λ new. cond_both {A = Outcome} (nat_le 256 (length f.products)) _ _ Q (λ yes. leaves.refuses _ _)
       (λ few. adds.product p new (leb-false 256 (length f.products) few)))
-      (λ kept is. cond_both {A = Outcome} (same_product kept p) _ _ Q (λ yes. tells.product p kept is) (λ no. tells.refuses _ _))
+      (λ kept is. cond_both {A = Outcome} (same_product kept p) _ _ Q (λ yes. leaves.product p kept is) (λ no. leaves.refuses _ _))
 
   lot_by : (l : Lot) → P (request.Lot l) (step_lot f l)
   lot_by l =
       let Q : Outcome → Type 0 = P (request.Lot l) in
       option_both (lot_named f.lots l.name) _ _ Q
-      (λ new. option_both (product_named f.products l.product) _ _ Q (λ none. tells.refuses _ _) (λ p is.
-      cond_both {A = Outcome} (any_overlaps f.lots l.first l.count) _ _ Q (λ yes. tells.refuses _ _) (λ apart.
-      cond_both {A = Outcome} (nat_le 4096 (length f.lots)) _ _ Q (λ yes. tells.refuses _ _)
+      (λ new. option_both (product_named f.products l.product) _ _ Q (λ none. leaves.refuses _ _) (λ p is.
+      cond_both {A = Outcome} (any_overlaps f.lots l.first l.count) _ _ Q (λ yes. leaves.refuses _ _) (λ apart.
+      cond_both {A = Outcome} (nat_le 4096 (length f.lots)) _ _ Q (λ yes. leaves.refuses _ _)
       (λ few. adds.lot l p new is apart (leb-false 4096 (length f.lots) few)))))
-      (λ kept is. cond_both {A = Outcome} (same_lot kept l) _ _ Q (λ yes. tells.lot l kept is) (λ no. tells.refuses _ _))
+      (λ kept is. cond_both {A = Outcome} (same_lot kept l) _ _ Q (λ yes. leaves.lot l kept is) (λ no. leaves.refuses _ _))
 
   taken_by : (b p raw : List ℕ) (kept : Product) → batch_named f.batches b ≡ None → product_named f.products p ≡ Some kept → length f.batches < 4096
       → (read : Result (List Row) RowFault) → batch_of kept raw ≡ read → P (request.Import b p raw) (taken_in f b p raw read)
   taken_by b p raw kept new there few (Ok rows) is = adds.batch b p raw kept rows new there few is
-  taken_by b p raw kept new there few (Err fault) is = tells.faulty b p raw kept fault is
+  taken_by b p raw kept new there few (Err fault) is = leaves.faulty b p raw kept fault is
 
   import_by : (b p raw : List ℕ) → P (request.Import b p raw) (step_import f b p raw)
   import_by b p raw =
       let Q : Outcome → Type 0 = P (request.Import b p raw) in
       option_both (batch_named f.batches b) _ _ Q
-      (λ new. option_both (product_named f.products p) _ _ Q (λ none. tells.refuses _ _) (λ kept there.
-      cond_both {A = Outcome} (nat_le 4096 (length f.batches)) _ _ Q (λ yes. tells.refuses _ _) (λ few.
+      (λ new. option_both (product_named f.products p) _ _ Q (λ none. leaves.refuses _ _) (λ kept there.
+      cond_both {A = Outcome} (nat_le 4096 (length f.batches)) _ _ Q (λ yes. leaves.refuses _ _) (λ few.
       taken_by b p raw kept new there (leb-false 4096 (length f.batches) few) (batch_of kept raw) refl)))
-      (λ kept is. cond_both {A = Outcome} (same_batch kept p raw) _ _ Q (λ yes. tells.batch b p raw kept is) (λ no. tells.refuses _ _))
+      (λ kept is. cond_both {A = Outcome} (same_batch kept p raw) _ _ Q (λ yes. leaves.batch b p raw kept is) (λ no. leaves.refuses _ _))
 
   batch_by : (r : Request) (b : List ℕ) (act : Batch → Outcome) → ((batch : Batch) → batch_named f.batches b ≡ Some batch → is_closed f b ≡ false → P r (act batch))
       → P r (in_batch f b act)
   batch_by r b act acts =
-      option_both (batch_named f.batches b) _ _ (P r) (λ none. tells.refuses _ _) (λ batch there.
-      cond_both {A = Outcome} (is_closed f b) _ _ (P r) (λ yes. tells.refuses _ _) (λ more. acts batch there more))
+      option_both (batch_named f.batches b) _ _ (P r) (λ none. leaves.refuses _ _) (λ batch there.
+      cond_both {A = Outcome} (is_closed f b) _ _ (P r) (λ yes. leaves.refuses _ _) (λ more. acts batch there more))
 
   open_by : (b : List ℕ) (blank : ℕ) → P (request.Open b blank) (step_open f client b blank)
   open_by b blank = batch_by (request.Open b blank) b _ (λ batch there more.
       let Q : Outcome → Type 0 = P (request.Open b blank) in
       option_both (running_session f client) _ _ Q
-      (λ idle. option_both (lot_of f.lots blank) _ _ Q (λ none. tells.refuses _ _) (λ l lot_is.
-      cond_both {A = Outcome} (not (bytes_eq l.product batch.product)) _ _ Q (λ other. tells.refuses _ _) (λ same.
-      cond_both {A = Outcome} (is_charged f blank) _ _ Q (λ used. tells.refuses _ _) (λ free.
-      option_both (first_waiting f b) _ _ Q (λ none. tells.refuses _ _) (λ r waits.
+      (λ idle. option_both (lot_of f.lots blank) _ _ Q (λ none. leaves.refuses _ _) (λ l lot_is.
+      cond_both {A = Outcome} (not (bytes_eq l.product batch.product)) _ _ Q (λ other. leaves.refuses _ _) (λ same.
+      cond_both {A = Outcome} (is_charged f blank) _ _ Q (λ used. leaves.refuses _ _) (λ free.
+      option_both (first_waiting f b) _ _ Q (λ none. leaves.refuses _ _) (λ r waits.
       adds.opens b blank r (record {
         batch = batch;
         there = there;
@@ -142,13 +142,13 @@ module _ (f : Facts) (client : List ℕ) (P : Request → Outcome → Type 0) (t
         free = free;
         waits = waits;
       }))))))
-      (λ s runs. tells.busy b blank s runs))
+      (λ s runs. leaves.busy b blank s runs))
 
   session_by : (r : Request) (s : ℕ) (act : Session → Outcome) → ((x : Session) → IsOwn f client s x → P r (act x)) → P r (in_session f client s act)
   session_by r s act acts =
-      option_both (session_numbered f.sessions s) _ _ (P r) (λ none. tells.refuses _ _) (λ x is.
-      cond_both {A = Outcome} (not (bytes_eq x.machine client)) _ _ (P r) (λ other. tells.refuses _ _) (λ own.
-      cond_both {A = Outcome} (not (is_running (session_state f x))) _ _ (P r) (λ over. tells.refuses _ _) (λ runs.
+      option_both (session_numbered f.sessions s) _ _ (P r) (λ none. leaves.refuses _ _) (λ x is.
+      cond_both {A = Outcome} (not (bytes_eq x.machine client)) _ _ (P r) (λ other. leaves.refuses _ _) (λ own.
+      cond_both {A = Outcome} (not (is_running (session_state f x))) _ _ (P r) (λ over. leaves.refuses _ _) (λ runs.
       acts x (record {
         there = is;
         own = same-bytes_eq x.machine client (not-false (bytes_eq x.machine client) own);
@@ -157,30 +157,30 @@ module _ (f : Facts) (client : List ℕ) (P : Request → Outcome → Type 0) (t
 
   answer_by : (s k sw : ℕ) → P (request.Answer s k sw) (step_answer f client s k sw)
   answer_by s k sw = session_by (request.Answer s k sw) s _ (λ x own.
-      cond_both {A = Outcome} (k == length x.words) _ _ (P (request.Answer s k sw)) (λ turn. adds.word s k sw x own (eqb-true k (length x.words) turn)) (λ no. tells.refuses _ _))
+      cond_both {A = Outcome} (k == length x.words) _ _ (P (request.Answer s k sw)) (λ turn. adds.word s k sw x own (eqb-true k (length x.words) turn)) (λ no. leaves.refuses _ _))
 
   reset_by : P request.Reset (step_reset f client)
-  reset_by = option_both (running_session f client) _ _ (P request.Reset) tells.idle adds.reset
+  reset_by = option_both (running_session f client) _ _ (P request.Reset) leaves.idle adds.reset
 
   discard_by : (blank : ℕ) → P (request.Discard blank) (step_discard f blank)
   discard_by blank =
       let Q : Outcome → Type 0 = P (request.Discard blank) in
-      option_both (lot_of f.lots blank) _ _ Q (λ none. tells.refuses _ _) (λ l is.
-      cond_both {A = Outcome} (is_charged f blank) _ _ Q (λ used. tells.refuses _ _) (λ free. adds.discard blank l is free))
+      option_both (lot_of f.lots blank) _ _ Q (λ none. leaves.refuses _ _) (λ l is.
+      cond_both {A = Outcome} (is_charged f blank) _ _ Q (λ used. leaves.refuses _ _) (λ free. adds.discard blank l is free))
 
   remade_by : (b r : List ℕ) → is_closed f b ≡ false → (state : RecordState) → record_state_of f b r ≡ Some state → P (request.Remake b r) (remade f b r state)
   remade_by b r more rec.Failed is = adds.remake b r more is
-  remade_by b r more rec.Waiting is = tells.refuses _ _
-  remade_by b r more rec.Running is = tells.refuses _ _
-  remade_by b r more rec.Withdrawn is = tells.refuses _ _
-  remade_by b r more rec.Good is = tells.refuses _ _
+  remade_by b r more rec.Waiting is = leaves.refuses _ _
+  remade_by b r more rec.Running is = leaves.refuses _ _
+  remade_by b r more rec.Withdrawn is = leaves.refuses _ _
+  remade_by b r more rec.Good is = leaves.refuses _ _
 
   withdrawn_by : (b r : List ℕ) → is_closed f b ≡ false → (state : RecordState) → record_state_of f b r ≡ Some state → P (request.Withdraw b r) (withdrawn f b r state)
   withdrawn_by b r more rec.Waiting is = adds.withdraw b r false more is
   withdrawn_by b r more rec.Failed is = adds.withdraw b r true more is
-  withdrawn_by b r more rec.Running is = tells.refuses _ _
-  withdrawn_by b r more rec.Withdrawn is = tells.refuses _ _
-  withdrawn_by b r more rec.Good is = tells.refuses _ _
+  withdrawn_by b r more rec.Running is = leaves.refuses _ _
+  withdrawn_by b r more rec.Withdrawn is = leaves.refuses _ _
+  withdrawn_by b r more rec.Good is = leaves.refuses _ _
 
   pub step_by : (r : Request) → P r (step f client r)
   unfolding step
@@ -193,11 +193,11 @@ module _ (f : Facts) (client : List ℕ) (P : Request → Outcome → Type 0) (t
   step_by request.Reset = reset_by
   step_by (request.Discard blank) = discard_by blank
   step_by (request.Remake b r) = batch_by (request.Remake b r) b _ (λ batch there more.
-      option_both (record_state_of f b r) _ _ (P (request.Remake b r)) (λ none. tells.refuses _ _) (remade_by b r more))
+      option_both (record_state_of f b r) _ _ (P (request.Remake b r)) (λ none. leaves.refuses _ _) (remade_by b r more))
   step_by (request.Withdraw b r) = batch_by (request.Withdraw b r) b _ (λ batch there more.
-      option_both (record_state_of f b r) _ _ (P (request.Withdraw b r)) (λ none. tells.refuses _ _) (withdrawn_by b r more))
+      option_both (record_state_of f b r) _ _ (P (request.Withdraw b r)) (λ none. leaves.refuses _ _) (withdrawn_by b r more))
   step_by (request.Close b) = batch_by (request.Close b) b _ (λ batch there more.
-      cond_both {A = Outcome} (is_batch_finished f b) _ _ (P (request.Close b)) (λ done. adds.close b batch more there done) (λ no. tells.refuses _ _))
+      cond_both {A = Outcome} (is_batch_finished f b) _ _ (P (request.Close b)) (λ done. adds.close b batch more there done) (λ no. leaves.refuses _ _))
 
 -- ---- what holds of facts alone
 

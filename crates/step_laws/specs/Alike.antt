@@ -1,4 +1,4 @@
--- Outcomes and accounts that tell the same.
+-- Outcomes and accounts that say the same.
 use Rattle.std.specs.Prelude.{◌≡◌, ℕ, List}
 use Rattle.job_facts.specs.Accounts.{batch_totals, blank_totals, record_lines}
 use Rattle.job_facts.specs.Contents.{AreSameFacts}

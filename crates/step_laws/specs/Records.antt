@@ -1,4 +1,4 @@
--- What the sessions of a record say of it, and of which record a reply and a change tell.
+-- What the sessions of a record say of it, and which record a reply and a change name.
 use Rattle.std.specs.Prelude.{◌≡◌, ℕ, Bool, false, List, slice_get, IsTrue, Option, Some, None, option_map}
 use Rattle.job_facts.specs.declared.change.Change.{Change}
 use Rattle.job_facts.specs.declared.change.Change.TheVariants as change
@@ -28,25 +28,25 @@ record_by session.Spoiled = rec.Failed
 abbrev pub record_of_session : Facts → ℕ → Option RecordName
 record_of_session f s = option_map (λ (x : Session). record { batch = x.batch; rec = x.rec }) (session_numbered f.sessions s)
 
--- the record of which a reply tells, by the facts after it
-abbrev pub record_told : Facts → Reply → Option RecordName
-record_told g (reply.Opened b blank command r s) = Some (record { batch = b; rec = r })
-record_told g (reply.Next command k s) = record_of_session g s
-record_told g (reply.Good s) = record_of_session g s
-record_told g (reply.Spoiled s) = record_of_session g s
-record_told g (reply.Reset s) = record_of_session g s
-record_told g (reply.Waiting b r) = Some (record { batch = b; rec = r })
-record_told g (reply.Withdrawn b r) = Some (record { batch = b; rec = r })
-record_told g _ = None
+-- the record that a reply names, by the facts after it
+abbrev pub record_of_reply : Facts → Reply → Option RecordName
+record_of_reply g (reply.Opened b blank command r s) = Some (record { batch = b; rec = r })
+record_of_reply g (reply.Next command k s) = record_of_session g s
+record_of_reply g (reply.Good s) = record_of_session g s
+record_of_reply g (reply.Spoiled s) = record_of_session g s
+record_of_reply g (reply.Reset s) = record_of_session g s
+record_of_reply g (reply.Waiting b r) = Some (record { batch = b; rec = r })
+record_of_reply g (reply.Withdrawn b r) = Some (record { batch = b; rec = r })
+record_of_reply g _ = None
 
 -- it is this record
-abbrev pub is_told : List ℕ → List ℕ → Option RecordName → Bool
-is_told b r None = false
-is_told b r (Some n) = is_record b r n
+abbrev pub is_that_record : List ℕ → List ℕ → Option RecordName → Bool
+is_that_record b r None = false
+is_that_record b r (Some n) = is_record b r n
 
 -- all other records stand as they did
 abbrev pub OtherRecordsStand : Facts → Facts → Reply → Type 0
-OtherRecordsStand f g reply = (b r : List ℕ) → is_told b r (record_told g reply) ≡ false → record_state g b r ≡ record_state f b r
+OtherRecordsStand f g reply = (b r : List ℕ) → is_that_record b r (record_of_reply g reply) ≡ false → record_state g b r ≡ record_state f b r
 
 -- ---- the record of a change
 
@@ -77,7 +77,7 @@ stands_after (change.Remakes b r) = Some rec.Waiting
 stands_after (change.Withdraws b r was) = Some rec.Withdrawn
 stands_after _ = None
 
--- as much is told of the record
+-- as much is known of the record
 pub record StandsSame (f g : Facts) (b r : List ℕ) : Type 0 where
   pub states : states_of g b r ≡ states_of f b r
   pub withdrawn : is_withdrawn g b r ≡ is_withdrawn f b r
@@ -86,7 +86,7 @@ pub record StandsSame (f g : Facts) (b r : List ℕ) : Type 0 where
 
 -- of each record that the change does not touch
 abbrev pub OthersStandSame : Facts → Change → Type 0
-OthersStandSame f change = (b r : List ℕ) → is_told b r (touches f change) ≡ false → StandsSame f (changed f change) b r
+OthersStandSame f change = (b r : List ℕ) → is_that_record b r (touches f change) ≡ false → StandsSame f (changed f change) b r
 
 -- the record that it touches stands so in these facts
 abbrev pub TouchedStands : Facts → Facts → Change → Option RecordState → Type 0

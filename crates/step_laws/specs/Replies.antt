@@ -14,26 +14,26 @@ use Rattle.job_facts.specs.Facts.{Batch, Facts, Session, new_session}
 use Rattle.job_facts.specs.States.{batch_named, command_at, is_charged, is_closed, lot_named, product_named, record_state, record_state_of, rows_of, running_session, session_numbered, session_state}
 use Rattle.step_laws.specs.Records.{record_by}
 
--- ---- to which request it may be told
+-- ---- which request may get it
 
-abbrev pub MayBeTold : Request → Reply → Type 0
-MayBeTold r (reply.Refused why) = ⊤
-MayBeTold (request.Product p) (reply.Product code made) = code ≡ p.code
-MayBeTold (request.Lot l) (reply.Lot name made) = name ≡ l.name
-MayBeTold (request.Import b p raw) (reply.Import name records made rows) = name ≡ b
-MayBeTold (request.Import b p raw) (reply.Faulty fault) = ⊤
-MayBeTold (request.Open b blank) (reply.Opened name serial command r s) = (name ≡ b) × (serial ≡ blank)
-MayBeTold (request.Open b blank) (reply.Busy s) = ⊤
-MayBeTold (request.Answer s k sw) (reply.Next command index told) = (told ≡ s) × (index ≡ k + 1)
-MayBeTold (request.Answer s k sw) (reply.Good told) = told ≡ s
-MayBeTold (request.Answer s k sw) (reply.Spoiled told) = told ≡ s
-MayBeTold (request.Abort s) (reply.Spoiled told) = told ≡ s
-MayBeTold request.Reset (reply.Reset told) = ⊤
-MayBeTold (request.Discard blank) (reply.Discarded told) = told ≡ blank
-MayBeTold (request.Remake b r) (reply.Waiting c q) = (c ≡ b) × (q ≡ r)
-MayBeTold (request.Withdraw b r) (reply.Withdrawn c q) = (c ≡ b) × (q ≡ r)
-MayBeTold (request.Close b) (reply.Closed c) = c ≡ b
-MayBeTold _ _ = ⊥
+abbrev pub MayGetReply : Request → Reply → Type 0
+MayGetReply r (reply.Refused why) = ⊤
+MayGetReply (request.Product p) (reply.Product code made) = code ≡ p.code
+MayGetReply (request.Lot l) (reply.Lot name made) = name ≡ l.name
+MayGetReply (request.Import b p raw) (reply.Import name records made rows) = name ≡ b
+MayGetReply (request.Import b p raw) (reply.Faulty fault) = ⊤
+MayGetReply (request.Open b blank) (reply.Opened name serial command r s) = (name ≡ b) × (serial ≡ blank)
+MayGetReply (request.Open b blank) (reply.Busy s) = ⊤
+MayGetReply (request.Answer s k sw) (reply.Next command index given) = (given ≡ s) × (index ≡ k + 1)
+MayGetReply (request.Answer s k sw) (reply.Good given) = given ≡ s
+MayGetReply (request.Answer s k sw) (reply.Spoiled given) = given ≡ s
+MayGetReply (request.Abort s) (reply.Spoiled given) = given ≡ s
+MayGetReply request.Reset (reply.Reset given) = ⊤
+MayGetReply (request.Discard blank) (reply.Discarded given) = given ≡ blank
+MayGetReply (request.Remake b r) (reply.Waiting c q) = (c ≡ b) × (q ≡ r)
+MayGetReply (request.Withdraw b r) (reply.Withdrawn c q) = (c ≡ b) × (q ≡ r)
+MayGetReply (request.Close b) (reply.Closed c) = c ≡ b
+MayGetReply _ _ = ⊥
 
 -- ---- what it says of the facts
 

@@ -5,17 +5,17 @@ ghost use Rattle.job_facts.specs.Facts.{Facts};
 ghost use Rattle.job_facts.specs.Sound.{IsSound};
 ghost use Rattle.job_facts.specs.Steps.{step};
 ghost use Rattle.step_laws.specs.Ranges.{IsRanged, IsRangedReply};
-ghost use Rattle.step_laws.specs.Replies.{MayBeTold, Says};
+ghost use Rattle.step_laws.specs.Replies.{MayGetReply, Says};
 
-/// A request is told what may be told to it, of what it names.
+/// A request gets what it may get, of what it names.
 pub fn replies_are_to_requests()
     ensures { (f : Facts) (client : List ℕ) (r : RequestValue)
-        → MayBeTold r (step f client r).1 }
+        → MayGetReply r (step f client r).1 }
 {}
 
 /// What a reply says holds of the facts after it: of the session that it names, its record and its
 /// next command, and of what was made, discarded, withdrawn or closed. A refusal leaves the facts.
-pub fn replies_tell_the_facts()
+pub fn replies_state_the_facts()
     ensures { (f : Facts) (client : List ℕ) (r : RequestValue) → IsSound f
         → Says f (step f client r).0 client (step f client r).1 }
 {}

@@ -1,4 +1,4 @@
--- What is told of contents by what is known of a record.
+-- What is read of contents by what is known of a record.
 use Rattle.std.proofs.Common.{◌≡◌, ℕ, List, Contains, Option, Some, None, Result, Ok, Err, IfOk, IfSome, IsTrue, map, sym, ap, subst, ◌∙◌, arith}
 use Rattle.std.specs.Prelude.{filter, find, option_map}
 use Rattle.std.specs.List.{flat_map}
@@ -18,28 +18,28 @@ use Rattle.job_facts.specs.States.{first_waiting, plan_for}
 use Rattle.table_rows.specs.Keys.{is_batch, is_batch_named, is_grouping_at, is_record_at, is_record_named, is_session, is_waiting_of}
 use Rattle.table_rows.specs.Tables.{PassesOnce, StoredBatch, StoredRecord}
 use Rattle.image_laws.specs.Image.{image, stored_batches, stored_groupings, stored_records, stored_sessions}
-use Rattle.row_laws.specs.Telling.{plan_in, session_in, waiting_in}
+use Rattle.row_laws.specs.RowValues.{plan_in, session_in, waiting_in}
 use Rattle.row_reads.specs.declared.groupings.CodedAt.{CodedAt}
 use Rattle.row_reads.specs.declared.sessions.SessionAt.{SessionAt}
 use Rattle.row_reads.specs.CardDecoding.{coded_at, coded_line, grouping_at, is_of_segment, line_of, place_of, record_at, session_at}
 use Rattle.row_reads.specs.Extremes.{AreSorted}
-use Rattle.row_reads.specs.Reads.{Looks, TellsRows}
+use Rattle.row_reads.specs.Reads.{Looks, ReadsRows}
 use Rattle.sql_rows.specs.Image.{IsImage}
 use Rattle.store_reads.specs.declared.known.Known.{Known}
 use Rattle.store_reads.specs.declared.known.KnownRecord.{KnownRecord}
 use Rattle.store_reads.specs.declared.plans.SegmentHead.{SegmentHead}
 use Rattle.store_reads.specs.declared.segments.BatchProduct.{BatchProduct}
 use Rattle.store_reads.specs.Fixed.{AreNamedApart, fixed}
-use Rattle.store_reads.specs.Known.{IsAllKnownIn, IsKnownIn, Knows, TellsKnown, TellsSome, known_records}
+use Rattle.store_reads.specs.Known.{IsAllKnownIn, IsKnownIn, Knows, ReadsKnown, ReadsSome, known_records}
 use Rattle.store_reads.specs.Segments.{head_at, plan_at, row_in_plan}
 use Rattle.store_reads.specs.Sessions.{row_named}
-use Rattle.store_reads.specs.Tells.{Tells}
+use Rattle.store_reads.specs.ReadsContents.{ReadsContents}
 use Rattle.store_reads.specs.Waiting.{IsFirstWaiting}
-use Rattle.store_reads.proofs.Found.{session_told}
+use Rattle.store_reads.proofs.Found.{session_read}
 use Rattle.store_reads.proofs.KnownRows.{all_known_in, batch_with_id, id_with_name, known_in, names_apart, product_with_name, record_with_name, record_with_place}
 use Rattle.store_reads.proofs.Ordered.{Rises}
-use Rattle.store_reads.proofs.SegmentRows.{row_of_head, row_with_head, row_without_head, segment_told}
-use Rattle.store_reads.proofs.Telling.{Shows, ShowsRows}
+use Rattle.store_reads.proofs.SegmentRows.{row_of_head, row_with_head, row_without_head, segment_read}
+use Rattle.store_reads.proofs.ReadContents.{Shows, ShowsRows}
 use Rattle.store_reads.proofs.Waiting.{first_waits}
 
 pub sound_apart : ((f : Facts) (n : List ℕ) → IsSound f → PassesOnce (is_batch_named n) (stored_batches f)) → ((f : Facts) (id : ℕ) (n : List ℕ) → PassesOnce (is_record_named id n) (stored_records f))
@@ -64,7 +64,7 @@ module _ (c : Contents) (k : KnownRecord) (known : ∥ IsKnownIn (fixed (image c
   pub session_by_known : (id : ℕ) (s : SessionAt) → Some s ≡ option_map session_at (find (is_session id) (stored_sessions c.facts)) → k.id ≡ s.batch → k.place ≡ s.place
       → Some (row_named s k.batch k.rec) ≡ session_in (stored_sessions c.facts) (stored_batches c.facts) (stored_records c.facts) id
   session_by_known id s s_is id_is place_is =
-      session_told (stored_sessions c.facts) (stored_batches c.facts) (stored_records c.facts) id s s_is k.batch (batch_named s.batch id_is) k.rec (record_named s.batch s.place id_is place_is)
+      session_read (stored_sessions c.facts) (stored_batches c.facts) (stored_records c.facts) id s s_is k.batch (batch_named s.batch id_is) k.rec (record_named s.batch s.place id_is place_is)
 
 -- ---- the first record that waits
 
@@ -72,11 +72,11 @@ module _ (c : Contents) (k : KnownRecord) (known : ∥ IsKnownIn (fixed (image c
 pub waiting_by_known : (old new : State) (known : Known) (k : KnownRecord) (b : List ℕ) → Knows old known → Contains (known_records known) k → k.batch ≡ b → Looks old new
     → ((c : Contents) → AreSound c → AreNamedApart (fixed (image c))) → ((f : Facts) → Rises record_at place_of (filter (is_waiting_of k.id) (stored_records f)))
     → ((f : Facts) → first_waiting f b ≡ waiting_in (stored_batches f) (stored_records f) b)
-    → (result : Result (Option (List ℕ)) Error) → TellsRows old new result (IsFirstWaiting k.id) → Tells old new result (λ c answer. answer ≡ first_waiting c.facts b)
-waiting_by_known old new known k b knows there is looks apart rising law (Err e) told = λ clean. tt
-waiting_by_known old new known k b knows there is looks apart rising law (Ok name) told = λ clean.
+    → (result : Result (Option (List ℕ)) Error) → ReadsRows old new result (IsFirstWaiting k.id) → ReadsContents old new result (λ c answer. answer ≡ first_waiting c.facts b)
+waiting_by_known old new known k b knows there is looks apart rising law (Err e) as_read = λ clean. tt
+waiting_by_known old new known k b knows there is looks apart rising law (Ok name) as_read = λ clean.
     let early : HasCleanDisk old = omega (arith, clean, looks.survives.clean) in
-    let s = told clean in (
+    let s = as_read clean in (
       s.0,
       λ c sound image_is.
           let id : Some k.id ≡ option_map (λ (row : StoredBatch). row.id) (find (is_batch_named b) (stored_batches c.facts)) =
@@ -92,20 +92,20 @@ module _ (c : Contents) (k : KnownRecord) (it : IsKnownIn (fixed (image c)) k) (
   abbrev under : BatchProduct
   under = record { id = k.id; product = k.product }
 
-  row_told : (found : Option SegmentRow) → found ≡ row_in_plan (plan_at c.facts under k.place k.rec) a q → found ≡ segment_row_of c.facts k.batch k.rec a q
-  row_told found is =
+  row_read : (found : Option SegmentRow) → found ≡ row_in_plan (plan_at c.facts under k.place k.rec) a q → found ≡ segment_row_of c.facts k.batch k.rec a q
+  row_read found is =
       let x = record_with_name (image c) k it apart in
-      segment_told c.facts k.batch k.rec a q law under (product_with_name (image c) k it apart) x.0 x.1 found (is ∙ ap (λ n. row_in_plan (plan_at c.facts under n k.rec) a q) (sym x.2))
+      segment_read c.facts k.batch k.rec a q law under (product_with_name (image c) k it apart) x.0 x.1 found (is ∙ ap (λ n. row_in_plan (plan_at c.facts under n k.rec) a q) (sym x.2))
 
   module _ (rising : Rises grouping_at line_of (filter (is_grouping_at k.id k.place) (stored_groupings c.facts))) where
     pub without_head : None ≡ head_at k.groupings.items a q → None ≡ segment_row_of c.facts k.batch k.rec a q
-    without_head none = row_told None (row_without_head c.facts under k.place a q k.rec rising k.groupings.items it.groupings none)
+    without_head none = row_read None (row_without_head c.facts under k.place a q k.rec rising k.groupings.items it.groupings none)
 
     pub with_head : (h : SegmentHead) → Some h ≡ head_at k.groupings.items a q
         → (cs : List CodedAt) → AreSorted coded_line (map coded_at (filter (is_of_segment k.id k.place h.aid h.rank) (stored_groupings c.facts))) cs
         → Some (row_of_head under h (flat_map (λ (g : CodedAt). g.coded) cs)) ≡ segment_row_of c.facts k.batch k.rec a q
     with_head h h_is cs coded =
-        row_told (Some (row_of_head under h (flat_map (λ (g : CodedAt). g.coded) cs))) (row_with_head c.facts under k.place a q k.rec rising k.groupings.items it.groupings h h_is cs coded)
+        row_read (Some (row_of_head under h (flat_map (λ (g : CodedAt). g.coded) cs))) (row_with_head c.facts under k.place a q k.rec rising k.groupings.items it.groupings h h_is cs coded)
 
 module _ (k : KnownRecord) (b r : List ℕ) (b_is : k.batch ≡ b) (r_is : k.rec ≡ r) (a q : ℕ) where
   of_names : (f : Facts) → segment_row_of f k.batch k.rec a q ≡ segment_row_of f b r a q
@@ -113,16 +113,16 @@ module _ (k : KnownRecord) (b r : List ℕ) (b_is : k.batch ≡ b) (r_is : k.rec
 
   -- a record that was known
   pub segment_by_known : (old new : State) (known : Known) → Knows old known → Contains (known_records known) k → Looks old new → ((c : Contents) → AreSound c → AreNamedApart (fixed (image c)))
-      → (result : Result (Option SegmentRow) Error) → TellsKnown k old new result (λ c answer. answer ≡ segment_row_of c.facts k.batch k.rec a q)
+      → (result : Result (Option SegmentRow) Error) → ReadsKnown k old new result (λ c answer. answer ≡ segment_row_of c.facts k.batch k.rec a q)
       → (HasCleanDisk new → IfOk result (λ answer. IfSome answer (λ (row : SegmentRow). IsTrue old.is_open)))
-      → TellsSome old new result (λ c row. Some row ≡ segment_row_of c.facts b r a q)
-  segment_by_known old new known knows there looks apart (Err e) told live = λ clean. tt
-  segment_by_known old new known knows there looks apart (Ok None) told live = λ clean. tt
-  segment_by_known old new known knows there looks apart (Ok (Some row)) told live = λ clean.
+      → ReadsSome old new result (λ c row. Some row ≡ segment_row_of c.facts b r a q)
+  segment_by_known old new known knows there looks apart (Err e) as_read live = λ clean. tt
+  segment_by_known old new known knows there looks apart (Ok None) as_read live = λ clean. tt
+  segment_by_known old new known knows there looks apart (Ok (Some row)) as_read live = λ clean.
       let early : HasCleanDisk old = omega (arith, clean, looks.survives.clean) in (
         live clean,
         λ c sound is.
-            ∥∥₁_elim (known_in old known knows early (live clean) k there (image c) is (apart c sound)) (Coded-set (coded_option the_row.coded) _ _) (λ it. told clean c sound (λ _. is) it)
+            ∥∥₁_elim (known_in old known knows early (live clean) k there (image c) is (apart c sound)) (Coded-set (coded_option the_row.coded) _ _) (λ it. as_read clean c sound (λ _. is) it)
             ∙ of_names c.facts,
       )
 
@@ -131,13 +131,13 @@ module _ (k : KnownRecord) (b r : List ℕ) (b_is : k.batch ≡ b) (r_is : k.rec
       → (HasCleanDisk mid → ShowsRows old (λ t. AreNamedApart (fixed t) → IsAllKnownIn t known → IsKnownIn (fixed t) k)) → ((c : Contents) → AreSound c → AreNamedApart (fixed (image c)))
       → (answer : Option SegmentRow) → (HasCleanDisk new → (c : Contents) → AreSound c → (IsTrue mid.is_open → IsImage (image c) mid.now) → IsKnownIn (fixed (image c)) k → answer ≡ segment_row_of c.facts k.batch k.rec a q)
       → HasCleanDisk new → Shows old (λ c. answer ≡ segment_row_of c.facts b r a q)
-  segment_by_read old mid new known knows one two shows apart answer told clean =
+  segment_by_read old mid new known knows one two shows apart answer as_read clean =
       let early : HasCleanDisk mid = omega (arith, clean, two.survives.clean) in
       let first : HasCleanDisk old = omega (arith, early, one.survives.clean) in
       let s = shows early in (
         s.0,
         λ c sound is.
             ∥∥₁_elim (all_known_in old known knows first s.0 (image c) is) (Coded-set (coded_option the_row.coded) _ _)
-            (λ all. told clean c sound (λ live. subst (IsImage (image c)) (sym ((one.kept early).now_is live)) is) (s.1 (image c) is (apart c sound) all))
+            (λ all. as_read clean c sound (λ live. subst (IsImage (image c)) (sym ((one.kept early).now_is live)) is) (s.1 (image c) is (apart c sound) all))
             ∙ of_names c.facts,
       )

@@ -1,4 +1,4 @@
--- What the rows are that were found, by what is told of them.
+-- What the rows are that were found, by what is read of them.
 use Rattle.std.proofs.Common.{◌≡◌, ℕ, List, Option, Some, None, refl, sym, ap, subst, ◌∙◌}
 use Rattle.std.specs.Prelude.{find, option_map}
 use Rattle.job_facts.proofs.Lists.{mapped, unmapped}
@@ -7,7 +7,7 @@ use Rattle.row_reads.specs.declared.sessions.SessionAt.{SessionAt}
 use Rattle.row_reads.specs.CardDecoding.{record_at, session_at}
 use Rattle.table_rows.specs.Keys.{is_batch, is_batch_named, is_record_at, is_record_named, is_session}
 use Rattle.table_rows.specs.Tables.{StoredBatch, StoredRecord, StoredSession}
-use Rattle.row_laws.specs.Telling.{record_row, session_in, session_of}
+use Rattle.row_laws.specs.RowValues.{record_row, session_in, session_of}
 use Rattle.row_laws.proofs.Finding.{option_map-map}
 use Rattle.store_reads.specs.Sessions.{row_named}
 
@@ -43,9 +43,9 @@ module _ (sessions : List StoredSession) (batches : List StoredBatch) (records :
           let none_at = subst (λ (t : SessionAt). find (is_record_at t.batch t.place) records ≡ None) x.2 (unmapped record_at (find (is_record_at s.batch s.place) records) (sym none)) in
           rw (x.1, b_at, none_at) refl
 
-      pub session_told : (m : List ℕ) → Some m ≡ option_map (λ (y : StoredRecord). y.name) (find (is_record_at s.batch s.place) records)
+      pub session_read : (m : List ℕ) → Some m ≡ option_map (λ (y : StoredRecord). y.name) (find (is_record_at s.batch s.place) records)
           → Some (row_named s n m) ≡ session_in sessions batches records id
-      session_told m m_is =
+      session_read m m_is =
           let x = found_some session_at (find (is_session id) sessions) s s_is in
           let b = found_some (λ (b : StoredBatch). b.name) (find (is_batch s.batch) batches) n n_is in
           let y = found_some (λ (y : StoredRecord). y.name) (find (is_record_at s.batch s.place) records) m m_is in
@@ -53,9 +53,9 @@ module _ (sessions : List StoredSession) (batches : List StoredBatch) (records :
           let y_at = subst (λ (t : SessionAt). find (is_record_at t.batch t.place) records ≡ Some y.0) x.2 y.1 in
           ap Some (same_row s n m x.0 b.0 y.0 x.2 b.2 y.2) ∙ sym (session_is x.0 b.0 y.0 x.1 b_at y_at)
 
--- what is told of a record tells its name
-pub name_told : (o : Option StoredRecord) (r : RecordAt) → Some r ≡ option_map record_at o → Some r.name ≡ option_map (λ (y : StoredRecord). y.name) o
-name_told o r is = ap (option_map (λ (x : RecordAt). x.name)) is ∙ option_map-map (λ (x : RecordAt). x.name) record_at o
+-- what is known of a record gives its name
+pub name_read : (o : Option StoredRecord) (r : RecordAt) → Some r ≡ option_map record_at o → Some r.name ≡ option_map (λ (y : StoredRecord). y.name) o
+name_read o r is = ap (option_map (λ (x : RecordAt). x.name)) is ∙ option_map-map (λ (x : RecordAt). x.name) record_at o
 
 -- ---- records
 
@@ -63,9 +63,9 @@ module _ (batches : List StoredBatch) (records : List StoredRecord) (b r : List 
   pub no_batch_of : None ≡ option_map (λ (row : StoredBatch). row.id) (find (is_batch_named b) batches) → None ≡ option_map (λ (x : StoredRecord). x.state) (record_row batches records b r)
   no_batch_of none = rw (unmapped (λ (row : StoredBatch). row.id) (find (is_batch_named b) batches) (sym none)) refl
 
-  pub state_told : (id : ℕ) → Some id ≡ option_map (λ (row : StoredBatch). row.id) (find (is_batch_named b) batches) → (found : Option RecordAt) → found ≡ option_map record_at (find (is_record_named id r) records)
+  pub state_read : (id : ℕ) → Some id ≡ option_map (λ (row : StoredBatch). row.id) (find (is_batch_named b) batches) → (found : Option RecordAt) → found ≡ option_map record_at (find (is_record_named id r) records)
       → option_map (λ (x : RecordAt). x.stands) found ≡ option_map (λ (x : StoredRecord). x.state) (record_row batches records b r)
-  state_told id id_is found is =
+  state_read id id_is found is =
       let row = found_some (λ (row : StoredBatch). row.id) (find (is_batch_named b) batches) id id_is in
       let is_at = subst (λ (k : ℕ). found ≡ option_map record_at (find (is_record_named k r) records)) row.2 is in
       rw (row.1, is_at) (option_map-map (λ (x : RecordAt). x.stands) record_at (find (is_record_named row.0.id r) records))

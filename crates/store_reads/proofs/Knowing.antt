@@ -15,9 +15,9 @@ use Rattle.store_reads.specs.declared.known.Known.{Known}
 use Rattle.store_reads.specs.declared.known.KnownRecord.{KnownRecord}
 use Rattle.store_reads.specs.declared.known.StandingRecord.{StandingRecord}
 use Rattle.store_reads.specs.Fixed.{AreNamedApart, fixed, leaves_fixed}
-use Rattle.store_reads.specs.Known.{AreKnownIn, HasKnown, IsAllKnownIn, IsKnownIn, Knows, StandsIn, known_records, standing_record}
+use Rattle.store_reads.specs.Known.{AreKnownIn, HasKnown, IsAllKnownIn, IsKnownIn, Knows, IsStandingIn, known_records, standing_record}
 use Rattle.store_reads.proofs.Fixing.{written_fixed}
-use Rattle.store_reads.proofs.Telling.{ShowsRows}
+use Rattle.store_reads.proofs.ReadContents.{ShowsRows}
 
 pub known_after : (w : Writing) (entry : Entry) (t : Tables) (records : List KnownRecord) → leaves_fixed w ≡ true → AreKnownIn t records → AreKnownIn (rows_written w entry t) records
 known_after w entry t records leaves known = subst (λ x. AreNamedApart x → All (IsKnownIn x) records) (sym (written_fixed w entry t leaves)) known
@@ -48,13 +48,13 @@ knows_more a b c old new read one two shows knows each same clean live =
                 | inr before ↦ All-contains (IsKnownIn (fixed it.0)) (known_records old) x (it.2.records apart) before
               ])
               (known_records new) (All-contains_itself (known_records new));
-          standing = subst (λ o. IfSome o (StandsIn it.0)) (sym same) it.2.standing;
+          standing = subst (λ o. IfSome o (IsStandingIn it.0)) (sym same) it.2.standing;
         },
       ));
     }
 
 -- and how a record stands, in place of another
-pub knows_standing : (a b : State) (old new : Known) (id : ℕ) (card : RecordAt) → Looks a b → (HasCleanDisk b → ShowsRows a (λ t. StandsIn t (let s : StandingRecord = record { batch = id; card = card } in s)))
+pub knows_standing : (a b : State) (old new : Known) (id : ℕ) (card : RecordAt) → Looks a b → (HasCleanDisk b → ShowsRows a (λ t. IsStandingIn t (let s : StandingRecord = record { batch = id; card = card } in s)))
     → Knows a old → known_records new ≡ known_records old → standing_record new ≡ Some (let s : StandingRecord = record { batch = id; card = card } in s) → Knows b new
 knows_standing a b old new id card looks shows knows same is clean live =
     let k = looks.kept clean in
@@ -65,7 +65,7 @@ knows_standing a b old new id card looks shows knows same is clean live =
         subst (IsImage it.0) (sym (k.now_is live)) it.1,
         record {
           records = subst (AreKnownIn it.0) (sym same) it.2.records;
-          standing = subst (λ o. IfSome o (StandsIn it.0)) (sym is) ((shows clean).1 it.0 it.1);
+          standing = subst (λ o. IfSome o (IsStandingIn it.0)) (sym is) ((shows clean).1 it.0 it.1);
         },
       ));
     }

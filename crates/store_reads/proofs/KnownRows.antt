@@ -34,7 +34,7 @@ use Rattle.store_reads.specs.declared.known.Known.{Known}
 use Rattle.store_reads.specs.declared.known.KnownRecord.{KnownRecord}
 use Rattle.store_reads.specs.declared.known.StandingRecord.{StandingRecord}
 use Rattle.store_reads.specs.Fixed.{AreNamedApart, FixedBatch, FixedRecord, fixed, fixed_batch, fixed_record, is_named, is_named_in}
-use Rattle.store_reads.specs.Known.{IsAllKnownIn, IsKnownIn, IsStandingOf, Knows, StandsIn, known_records, standing_of, standing_record}
+use Rattle.store_reads.specs.Known.{IsAllKnownIn, IsKnownIn, IsStandingOf, Knows, IsStandingIn, known_records, standing_of, standing_record}
 use Rattle.store_reads.specs.declared.segments.BatchProduct.{BatchProduct}
 use Rattle.store_reads.specs.Segments.{product_in, product_under}
 use Rattle.store_reads.proofs.Found.{found_some}
@@ -82,7 +82,7 @@ module _ (t u : Tables) (same : HaveSameRows t u) where
     );
   }
 
-  standing_moved : (o : Option StandingRecord) → IfSome o (StandsIn t) → IfSome o (StandsIn u)
+  standing_moved : (o : Option StandingRecord) → IfSome o (IsStandingIn t) → IfSome o (IsStandingIn u)
   standing_moved None there = tt
   standing_moved (Some s) there = Contains-permutation _ _ _ (IsPermutation-map standing_of _ _ same.records) there
 
@@ -232,12 +232,12 @@ pub standing_told : (t : Tables) (known : Known) → IsAllKnownIn t known → (i
 standing_told t known all id n card is =
     subst (λ m. PassesOnce (is_record_named id m) t.records → Some card ≡ option_map record_at (find (is_record_named id m) t.records)) is.1 (λ once.
     let s : StandingRecord = record { batch = id; card = card } in
-    let r = found_by_part standing_of (λ (x : StandingRecord). (x.batch == id) && bytes_eq x.card.name card.name) t.records s (subst (λ o. IfSome o (StandsIn t)) is.0 all.standing) once
+    let r = found_by_part standing_of (λ (x : StandingRecord). (x.batch == id) && bytes_eq x.card.name card.name) t.records s (subst (λ o. IfSome o (IsStandingIn t)) is.0 all.standing) once
     (and_from (id == id) (bytes_eq card.name card.name) (same_number id) (bytes_eq-same card.name)) in
     ap (λ (x : StandingRecord). Some x.card) r.2 ∙ sym (ap (option_map record_at) r.1))
 
 -- no change touches its place
-stands_there : (t : Tables) (id : ℕ) (card : RecordAt) → StandsIn t (let s : StandingRecord = record { batch = id; card = card } in s)
+stands_there : (t : Tables) (id : ℕ) (card : RecordAt) → IsStandingIn t (let s : StandingRecord = record { batch = id; card = card } in s)
     → Contains (map fixed_record t.records) (let r : FixedRecord = record { batch = id; place = card.place; name = card.name } in r)
 stands_there t id card there =
     let part : StandingRecord → FixedRecord = λ s. record { batch = s.batch; place = s.card.place; name = s.card.name } in
@@ -249,7 +249,7 @@ pub read_beside : (t : Tables) (known : Known) → AreNamedApart (fixed t) → I
     → k.id ≡ o.id → k.batch ≡ o.batch → k.product ≡ o.product → k.place ≡ card.place → k.rec ≡ n → IsKnownIn (fixed t) k
 read_beside t known apart all o k there n card is gs sorted same id_is batch_is product_is place_is rec_is =
     let it = All-contains (IsKnownIn (fixed t)) (known_records known) o (all.records apart) there in
-    let stands : StandsIn t (let s : StandingRecord = record { batch = o.id; card = card } in s) = subst (λ s. IfSome s (StandsIn t)) is.0 all.standing in
+    let stands : IsStandingIn t (let s : StandingRecord = record { batch = o.id; card = card } in s) = subst (λ s. IfSome s (IsStandingIn t)) is.0 all.standing in
     record {
       batch = subst (Contains (map fixed_batch t.batches)) (same_batch_part _ _ _ _ _ _ (sym id_is) (sym batch_is) (sym (ap (λ (p : Product). p.code) product_is))) it.batch;
       product = subst (Contains t.products) (sym product_is) it.product;
@@ -279,7 +279,7 @@ module _ (id : ℕ) (all : List StoredRecord) where
       (each_there xs (All-tail (λ y. is_waiting_of id y ≡ true) x xs waits) (All-tail (Contains all) x xs there))
 
 pub waiting_stands : (t : Tables) (id : ℕ) (card : RecordAt) → IsLeastBy place_of (map record_at (filter (is_waiting_of id) t.records)) (Some card)
-    → StandsIn t (let s : StandingRecord = record { batch = id; card = card } in s)
+    → IsStandingIn t (let s : StandingRecord = record { batch = id; card = card } in s)
 waiting_stands t id card least =
     All-contains (IsThere id t.records) (map record_at (filter (is_waiting_of id) t.records)) card
     (each_there id t.records (filter (is_waiting_of id) t.records) (filter_passes (is_waiting_of id) t.records) (All-filter (is_waiting_of id) (Contains t.records) t.records (All-contains_itself t.records)))

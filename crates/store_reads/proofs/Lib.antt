@@ -1,9 +1,9 @@
-pub mod Telling
+pub mod ReadContents
 pub mod Found
 pub mod Placed
 pub mod Counting
 pub mod Sizes
-pub mod Told
+pub mod ReadShown
 pub mod Ordered
 pub mod Ranks
 pub mod SegmentHeads

@@ -1,4 +1,4 @@
--- Rows by rising numbers: what is told of them in the order of their numbers, and of the first of
+-- Rows by rising numbers: what is read of them in the order of their numbers, and of the first of
 -- them.
 use Rattle.std.proofs.Common.{◌≡◌, ℕ, zero, suc, ◌<◌, ◌≤◌, Bool, cond, true, false, List, [], ◌∷◌, map, length, get_or, Option, Some, None, refl, sym, ap, arith}
 use Rattle.std.specs.Prelude.{AllPairs, filter, find, option_map}
@@ -20,27 +20,27 @@ first_passing p (x ∷ xs) = elim (p x) as (λ b. first_of (cond b (x ∷ filter
   | false ↦ first_passing p xs
 ]
 
-module _ {X Y : Type 0} (tell : X → Y) (rank : Y → ℕ) where
+module _ {X Y : Type 0} (view : X → Y) (rank : Y → ℕ) where
   abbrev pub Rises : List X → Type 0
-  Rises xs = AllPairs (λ x y. rank (tell x) < rank (tell y)) xs
+  Rises xs = AllPairs (λ x y. rank (view x) < rank (view y)) xs
 
-  -- what is told in the order of the numbers is told of each row in turn
-  pub told_in_order : (xs : List X) → Rises xs → (ys : List Y) → AreSorted rank (map tell xs) ys → ys ≡ map tell xs
-  told_in_order xs rising ys sorted =
-      in_order rank ys (map tell xs) (IsPermutation-sym (map tell xs) ys sorted.0) (λ i j d before within. sorted.1 i j d (omega (arith, before)) within)
-      (AllPairs-map (λ x y. rank x < rank y) tell xs rising)
+  -- what is given in the order of the numbers is given of each row in turn
+  pub read_in_order : (xs : List X) → Rises xs → (ys : List Y) → AreSorted rank (map view xs) ys → ys ≡ map view xs
+  read_in_order xs rising ys sorted =
+      in_order rank ys (map view xs) (IsPermutation-sym (map view xs) ys sorted.0) (λ i j d before within. sorted.1 i j d (omega (arith, before)) within)
+      (AllPairs-map (λ x y. rank x < rank y) view xs rising)
 
-  -- what has the least number is told of the first
-  pub told_of_first : (xs : List X) → Rises xs → (found : Option Y) → IsLeastBy rank (map tell xs) found → found ≡ option_map tell (first_of xs)
-  told_of_first [] rising None none = refl
-  told_of_first [] rising (Some y) least = absurd (omega (arith, least.0.1))
-  told_of_first (x ∷ xs) rising None none = absurd cc
-  told_of_first (x ∷ xs) rising (Some y) least =
-      let at = at_from_Contains (map tell (x ∷ xs)) y least.0 in
-      let rises : AllPairs (λ v w. rank v < rank w) (map tell (x ∷ xs)) = AllPairs-map (λ v w. rank v < rank w) tell (x ∷ xs) rising in
-      let first : rank y ≤ rank (tell x) = least.1 0 y (omega arith) in
+  -- what has the least number is given of the first
+  pub first_read : (xs : List X) → Rises xs → (found : Option Y) → IsLeastBy rank (map view xs) found → found ≡ option_map view (first_of xs)
+  first_read [] rising None none = refl
+  first_read [] rising (Some y) least = absurd (omega (arith, least.0.1))
+  first_read (x ∷ xs) rising None none = absurd cc
+  first_read (x ∷ xs) rising (Some y) least =
+      let at = at_from_Contains (map view (x ∷ xs)) y least.0 in
+      let rises : AllPairs (λ v w. rank v < rank w) (map view (x ∷ xs)) = AllPairs-map (λ v w. rank v < rank w) view (x ∷ xs) rising in
+      let first : rank y ≤ rank (view x) = least.1 0 y (omega arith) in
       here at.0 at.1 (at.2 y) rises first
     where
-      here : (k : ℕ) → k < length (map tell (x ∷ xs)) → get_or (map tell (x ∷ xs)) k y ≡ y → AllPairs (λ v w. rank v < rank w) (map tell (x ∷ xs)) → rank y ≤ rank (tell x) → Some y ≡ Some (tell x)
+      here : (k : ℕ) → k < length (map view (x ∷ xs)) → get_or (map view (x ∷ xs)) k y ≡ y → AllPairs (λ v w. rank v < rank w) (map view (x ∷ xs)) → rank y ≤ rank (view x) → Some y ≡ Some (view x)
       here zero within is rises first = ap (λ z. Some z) (sym is)
       here (suc k) within is rises first = absurd (omega (arith, first, ap rank is, rises 0 (suc k) y (omega arith) within))

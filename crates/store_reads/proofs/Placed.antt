@@ -1,4 +1,4 @@
--- What is told before a change of what it touches.
+-- What is given before a change of what it touches.
 use Rattle.std.proofs.Common.{◌≡◌, ℕ, List, Some, sym, subst}
 use Rattle.std.specs.Prelude.{find, option_map}
 use Rattle.job_facts.specs.declared.facts.Lot.{Lot}
@@ -13,8 +13,8 @@ use Rattle.row_reads.specs.declared.batches.BatchHead.{BatchHead}
 use Rattle.row_reads.specs.declared.lots.LotRow.{LotRow}
 use Rattle.row_reads.specs.declared.records.RecordAt.{RecordAt}
 use Rattle.row_reads.specs.CardDecoding.{record_at}
-use Rattle.row_reads.specs.Telling.{head_of, lot_row_of}
-use Rattle.row_laws.specs.Telling.{place_of}
+use Rattle.row_reads.specs.RowValues.{head_of, lot_row_of}
+use Rattle.row_laws.specs.RowValues.{place_of}
 use Rattle.image_laws.specs.WritingOf.{IsPlaceOf, IsPlaceOfSession}
 use Rattle.image_laws.specs.Image.{stored_batches, stored_lots, stored_records}
 use Rattle.step_laws.specs.Sums.{discarded_in}
@@ -40,5 +40,5 @@ module _ (f : Facts) where
       → (l : LotRow) → Some l ≡ option_map lot_row_of (find (is_lot_named n) (stored_lots f)) → (lot : Lot) × (lot_named f.lots n ≡ Some lot) × (l.discarded ≡ discarded_in f lot)
   lot_discarded n law l is =
       let row = found_some lot_row_of (find (is_lot_named n) (stored_lots f)) l is in
-      let told = law row.0 row.1 in
-      (row.0.lot, told.0, subst (λ (k : LotRow). k.discarded ≡ discarded_in f row.0.lot) (sym row.2) told.1)
+      let as_read = law row.0 row.1 in
+      (row.0.lot, as_read.0, subst (λ (k : LotRow). k.discarded ≡ discarded_in f row.0.lot) (sym row.2) as_read.1)

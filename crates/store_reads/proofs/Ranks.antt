@@ -75,9 +75,9 @@ module _ (p : ℕ → Bool) (k : ℕ) (least : 1 ≤ k) (before after : List ℕ
 abbrev pub head_with : ℕ → Bool → GroupingAt → SegmentHead
 head_with rank last g = record { aid = g.aid; rank = rank; enc = g.enc; tol = g.tol; last = last }
 
-pub head_told : (gs : List GroupingAt) (q place count rank : ℕ) → place ≡ q → count ≡ length (ranks_of gs) → slice_get (ranks_of gs) q ≡ Some rank
+pub head_read : (gs : List GroupingAt) (q place count rank : ℕ) → place ≡ q → count ≡ length (ranks_of gs) → slice_get (ranks_of gs) q ≡ Some rank
     → (found : Option GroupingAt) → found ≡ find (λ (g : GroupingAt). g.rank == rank) gs → (made : Option SegmentHead) → made ≡ option_map (head_with rank (place + 1 == count)) found → made ≡ head_of gs q
-head_told gs q place count rank at many is found found_is made made_is =
+head_read gs q place count rank at many is found found_is made made_is =
     made_is ∙ ap (option_map (head_with rank (place + 1 == count))) found_is
     ∙ ap (λ n. option_map (head_with rank (n + 1 == count)) (find (λ (g : GroupingAt). g.rank == rank) gs)) at
     ∙ ap (λ n. option_map (head_with rank (q + 1 == n)) (find (λ (g : GroupingAt). g.rank == rank) gs)) many

@@ -21,13 +21,13 @@ use Rattle.sql_base.proofs.Selecting.{map_map}
 use Rattle.step_laws.proofs.Permuted.{count_moved, find_moved}
 use Rattle.table_rows.specs.Keys.{is_batch_named, is_good_of, is_record_of}
 use Rattle.table_rows.specs.Tables.{StoredBatch, StoredRecord, StoredSession}
-use Rattle.row_laws.specs.Telling.{line_of, lines_at, lines_in}
+use Rattle.row_laws.specs.RowValues.{line_of, lines_at, lines_in}
 use Rattle.row_laws.proofs.Finding.{find-map, option_map-map}
-use Rattle.store_reads.specs.Lines.{blank_of, is_card_at, line_told, lines_with}
+use Rattle.store_reads.specs.Lines.{blank_of, is_card_at, line_for, lines_with}
 use Rattle.store_reads.proofs.Found.{found_some}
-use Rattle.store_reads.proofs.Ordered.{told_in_order}
+use Rattle.store_reads.proofs.Ordered.{read_in_order}
 
--- ---- what is told of rows
+-- ---- what is read of rows
 
 module _ (sessions : List StoredSession) (good : List GoodCard) (moved : IsPermutation (map good_at sessions) good) (once : (k : ℕ) → count_by (is_card_at k) good ≤ 1) where
   blank_same : (k : ℕ) → blank_of good k ≡ option_map (λ (s : StoredSession). s.serial) (find (λ (s : StoredSession). s.place == k) sessions)
@@ -36,13 +36,13 @@ module _ (sessions : List StoredSession) (good : List GoodCard) (moved : IsPermu
       ap (option_map (λ (g : GoodCard). g.serial)) (sym (find_moved (is_card_at k) (map good_at sessions) good moved few) ∙ find-map (is_card_at k) good_at sessions)
       ∙ option_map-map (λ (g : GoodCard). g.serial) good_at (find (λ (s : StoredSession). s.place == k) sessions)
 
-  lines_same : (xs : List StoredRecord) → map (λ (x : StoredRecord). line_told good (record_at x)) xs ≡ map (line_of sessions) xs
+  lines_same : (xs : List StoredRecord) → map (λ (x : StoredRecord). line_for good (record_at x)) xs ≡ map (line_of sessions) xs
   lines_same [] = refl
   lines_same (x ∷ xs) = rw (blank_same x.place, lines_same xs) refl
 
   pub lines_are : (xs : List StoredRecord) → AllPairs (λ (x y : StoredRecord). x.place < y.place) xs → (all : List RecordAt) → AreSorted place_of (map record_at xs) all
-      → map (line_told good) all ≡ map (line_of sessions) xs
-  lines_are xs rising all sorted = ap (map (line_told good)) (told_in_order record_at place_of xs rising all sorted) ∙ map_map (line_told good) record_at xs ∙ lines_same xs
+      → map (line_for good) all ≡ map (line_of sessions) xs
+  lines_are xs rising all sorted = ap (map (line_for good)) (read_in_order record_at place_of xs rising all sorted) ∙ map_map (line_for good) record_at xs ∙ lines_same xs
 
 -- ---- a batch that is not there
 

@@ -19,7 +19,7 @@ use Rattle.sql_base.proofs.Selecting.{map_map}
 use Rattle.row_reads.specs.declared.groupings.GroupingAt.{GroupingAt}
 use Rattle.row_reads.specs.CardDecoding.{grouping_at}
 use Rattle.table_rows.specs.Tables.{StoredGrouping}
-use Rattle.row_laws.specs.Telling.{row_of}
+use Rattle.row_laws.specs.RowValues.{row_of}
 use Rattle.row_laws.proofs.Finding.{find-map}
 use Rattle.store_reads.specs.declared.plans.SegmentHead.{SegmentHead}
 use Rattle.store_reads.specs.Segments.{head_at, head_of, head_of_rank, of_application, ranks_of}
@@ -154,26 +154,26 @@ module _ (r : List ℕ) (all : List StoredGrouping) (key : List ℕ) where
     abbrev placed : Segment → PlacedSegment
     placed s = placed_as (aid_of (map (row_of r) own)) s last
 
-    found_told : (k : ℕ) (o : Option StoredGrouping) → find (has_rank k) own ≡ o
+    found_read : (k : ℕ) (o : Option StoredGrouping) → find (has_rank k) own ≡ o
         → option_map placed (option_map (segment_with (filter (has_rank k) own)) o)
         ≡ option_map (with_bytes all) (option_map (λ (g : GroupingAt). let h : SegmentHead = record { aid = g.aid; rank = k; enc = g.enc; tol = g.tol; last = last } in h) (option_map grouping_at o))
-    found_told k None is = refl
-    found_told k (Some g) is =
+    found_read k None is = refl
+    found_read k (Some g) is =
         let each : All HasKey own = filter_passes (λ (x : StoredGrouping). bytes_eq x.aid key) all in
         ap (λ aid. Some (placed_as aid (segment_with (filter (has_rank k) own) g) last)) (first_aid own each (has_rank k) g is)
         ∙ ap (λ gs. Some (placed_as g.aid (segment_with gs g) last)) (of_rank k g (same-bytes_eq g.aid key (found_has HasKey (has_rank k) own g each is)))
 
-    rank_told : (o : Option ℕ) → option_map placed (option_and_then (pick r own) o) ≡ option_map (with_bytes all) (option_and_then (head_of_rank heads q) o)
-    rank_told None = refl
-    rank_told (Some k) =
-        found_told k (find (has_rank k) own) refl
+    rank_read : (o : Option ℕ) → option_map placed (option_and_then (pick r own) o) ≡ option_map (with_bytes all) (option_and_then (head_of_rank heads q) o)
+    rank_read None = refl
+    rank_read (Some k) =
+        found_read k (find (has_rank k) own) refl
         ∙ sym (ap (λ o. option_map (with_bytes all) (option_map (λ (g : GroupingAt). let h : SegmentHead = record { aid = g.aid; rank = k; enc = g.enc; tol = g.tol; last = last } in h) o))
         (find-map (λ (g : GroupingAt). g.rank == k) grouping_at own))
 
-    application_told : placed_segment (application_of (map (row_of r) own)) q ≡ option_map (with_bytes all) (head_of heads q)
-    application_told =
+    application_read : placed_segment (application_of (map (row_of r) own)) q ≡ option_map (with_bytes all) (head_of heads q)
+    application_read =
         ap (λ n. option_map (λ (s : Segment). placed_as (aid_of (map (row_of r) own)) s (q + 1 == n)) (slice_get (segments_of (map (row_of r) own)) q)) (segments_length r own)
-        ∙ ap (option_map placed) (segments_item r own q) ∙ rank_told (slice_get (ranks_of heads) q)
+        ∙ ap (option_map placed) (segments_item r own q) ∙ rank_read (slice_get (ranks_of heads) q)
 
 module _ (r : List ℕ) (all : List StoredGrouping) (p : Product) (a q : ℕ) where
   abbrev keys : List (List ℕ)
@@ -185,13 +185,13 @@ module _ (r : List ℕ) (all : List StoredGrouping) (p : Product) (a q : ℕ) wh
   head_keys : first_appearances (map (λ (g : GroupingAt). g.aid) (map grouping_at all)) ≡ keys
   head_keys = ap first_appearances (map_map (λ (g : GroupingAt). g.aid) grouping_at all)
 
-  key_told : (o : Option (List ℕ))
+  key_read : (o : Option (List ℕ))
       → option_and_then (λ (x : Application). placed_segment x q) (option_map application_of (option_map (with_the_key (λ (row : Row). row.aid) (map (row_of r) all)) o))
       ≡ option_map (with_bytes all) (option_and_then (λ aid. head_of (of_application (map grouping_at all) aid) q) o)
-  key_told None = refl
-  key_told (Some key) =
+  key_read None = refl
+  key_read (Some key) =
       ap (λ rows. placed_segment (application_of rows) q) (filter-map (λ (row : Row). bytes_eq row.aid key) (row_of r) all)
-      ∙ application_told r all key q
+      ∙ application_read r all key q
       ∙ sym (ap (λ gs. option_map (with_bytes all) (head_of gs q)) (filter-map (λ (g : GroupingAt). bytes_eq g.aid key) grouping_at all))
 
   -- a segment is what the marks say, with the bytes of the groupings of its application and rank
@@ -202,5 +202,5 @@ module _ (r : List ℕ) (all : List StoredGrouping) (p : Product) (a q : ℕ) wh
       ∙ ap (option_and_then (λ (x : Application). placed_segment x q))
       (slice_get-map application_of (map (with_the_key (λ (row : Row). row.aid) (map (row_of r) all)) keys) a
       ∙ ap (option_map application_of) (slice_get-map (with_the_key (λ (row : Row). row.aid) (map (row_of r) all)) keys a))
-      ∙ key_told (slice_get keys a)
+      ∙ key_read (slice_get keys a)
       ∙ sym (ap (λ ks. option_map (with_bytes all) (option_and_then (λ aid. head_of (of_application (map grouping_at all) aid) q) (slice_get ks a))) head_keys)

@@ -15,35 +15,35 @@ use Rattle.job_facts.specs.Facts.{Facts}
 use Rattle.job_facts.specs.Rows.{segment_row, segment_row_of}
 use Rattle.job_facts.specs.States.{plan_for, product_named}
 use Rattle.job_facts.proofs.Lists.{unmapped}
-use Rattle.row_reads.specs.declared.batches.BatchTold.{BatchTold}
+use Rattle.row_reads.specs.declared.batches.BatchAt.{BatchAt}
 use Rattle.row_reads.specs.declared.groupings.CodedAt.{CodedAt}
 use Rattle.row_reads.specs.declared.groupings.GroupingAt.{GroupingAt}
 use Rattle.row_reads.specs.declared.records.RecordAt.{RecordAt}
 use Rattle.row_reads.specs.CardDecoding.{coded_at, coded_line, grouping_at, is_of_segment, line_of, record_at}
 use Rattle.row_reads.specs.Extremes.{AreSorted}
-use Rattle.row_reads.specs.Telling.{told_of}
+use Rattle.row_reads.specs.RowValues.{batch_at}
 use Rattle.image_laws.specs.Image.{stored_batches, stored_groupings, stored_records}
 use Rattle.table_rows.specs.Keys.{is_batch_named, is_grouping_at, is_record_named}
 use Rattle.table_rows.specs.Tables.{StoredBatch, StoredGrouping, StoredRecord}
 use Rattle.table_rows.proofs.Found.{find_passes}
-use Rattle.row_laws.specs.Telling.{groupings_for, plan_in, row_of}
+use Rattle.row_laws.specs.RowValues.{groupings_for, plan_in, row_of}
 use Rattle.store_reads.specs.declared.plans.SegmentHead.{SegmentHead}
 use Rattle.store_reads.specs.declared.segments.BatchProduct.{BatchProduct}
 use Rattle.store_reads.specs.Segments.{head_at, plan_at, product_in, product_under, row_in_plan}
 use Rattle.store_reads.proofs.Found.{found_some}
-use Rattle.store_reads.proofs.Ordered.{Rises, told_in_order}
+use Rattle.store_reads.proofs.Ordered.{Rises, read_in_order}
 use Rattle.store_reads.proofs.SegmentHeads.{bytes_of, filter_both, is_under, segment_by_head, with_bytes}
 
 module _ (products : List Product) (batches : List StoredBatch) (b : List ℕ) where
-  pub no_product : None ≡ option_map told_of (find (is_batch_named b) batches) → None ≡ product_in products batches b
-  no_product none = rw (unmapped told_of (find (is_batch_named b) batches) (sym none)) refl
+  pub no_product : None ≡ option_map batch_at (find (is_batch_named b) batches) → None ≡ product_in products batches b
+  no_product none = rw (unmapped batch_at (find (is_batch_named b) batches) (sym none)) refl
 
-  pub product_told : (h : BatchTold) → Some h ≡ option_map told_of (find (is_batch_named b) batches) → (found : Option Product) → found ≡ product_named products h.product
+  pub product_read : (h : BatchAt) → Some h ≡ option_map batch_at (find (is_batch_named b) batches) → (found : Option Product) → found ≡ product_named products h.product
       → option_map (λ (p : Product). let e : BatchProduct = record { id = h.id; product = p } in e) found ≡ product_in products batches b
-  product_told h h_is found is =
-      let row = found_some told_of (find (is_batch_named b) batches) h h_is in
+  product_read h h_is found is =
+      let row = found_some batch_at (find (is_batch_named b) batches) h h_is in
       ap (option_map (λ (p : Product). let e : BatchProduct = record { id = h.id; product = p } in e)) is
-      ∙ ap (λ (k : BatchTold). option_map (λ (p : Product). let e : BatchProduct = record { id = k.id; product = p } in e) (product_named products k.product)) row.2
+      ∙ ap (λ (k : BatchAt). option_map (λ (p : Product). let e : BatchProduct = record { id = k.id; product = p } in e) (product_named products k.product)) row.2
       ∙ sym (ap (option_and_then (product_under products)) row.1)
 
 both_left : (x y : Bool) → (x && y) ≡ true → x ≡ true
@@ -92,19 +92,19 @@ module _ (f : Facts) (b r : List ℕ) (a q : ℕ) where
   rows_same None = refl
   rows_same (Some x) = refl
 
-  abbrev plan_told : BatchProduct → Plan
-  plan_told e = plan_of e.product (own_rows (rows_in f e.id r))
+  abbrev plan_read : BatchProduct → Plan
+  plan_read e = plan_of e.product (own_rows (rows_in f e.id r))
 
   by_product : (o : Option StoredBatch)
       → option_and_then (λ (row : StoredBatch).
       option_map (λ (p : Product). plan_of p (map (row_of r) (groupings_for (stored_groupings f) (find (is_record_named row.id r) (stored_records f))))) (product_named f.products row.product)) o
-      ≡ option_map plan_told (option_and_then (product_under f.products) o)
+      ≡ option_map plan_read (option_and_then (product_under f.products) o)
   by_product None = refl
   by_product (Some row) = under (product_named f.products row.product)
     where
       under : (o : Option Product)
           → option_map (λ (p : Product). plan_of p (map (row_of r) (groupings_for (stored_groupings f) (find (is_record_named row.id r) (stored_records f))))) o
-          ≡ option_map plan_told (option_map (λ (p : Product). let e : BatchProduct = record { id = row.id; product = p } in e) o)
+          ≡ option_map plan_read (option_map (λ (p : Product). let e : BatchProduct = record { id = row.id; product = p } in e) o)
       under None = refl
       under (Some p) = ap (λ rows. Some (plan_of p rows)) (rows_same (find (is_record_named row.id r) (stored_records f)))
 
@@ -118,7 +118,7 @@ module _ (f : Facts) (b r : List ℕ) (a q : ℕ) where
       under p None = ap (option_map (segment_row (plan_of p []))) (no_segment p a q)
       under p (Some rows) = refl
 
-      at : (o : Option BatchProduct) → option_and_then (λ (plan : Plan). option_map (segment_row plan) (segment_at plan a q)) (option_map plan_told o)
+      at : (o : Option BatchProduct) → option_and_then (λ (plan : Plan). option_map (segment_row plan) (segment_at plan a q)) (option_map plan_read o)
           ≡ option_and_then (λ (e : BatchProduct). segment_under e.product (rows_in f e.id r) a q) o
       at None = refl
       at (Some e) = under e.product (rows_in f e.id r)
@@ -136,9 +136,9 @@ module _ (f : Facts) (b r : List ℕ) (a q : ℕ) (law : plan_for f b r ≡ plan
     pub segment_without_record : None ≡ option_map record_at (find (is_record_named e.id r) (stored_records f)) → None ≡ segment_row_of f b r a q
     segment_without_record none = ap (λ rows. segment_under e.product rows a q) (no_rows f e.id r none) ∙ ap under_product e_is ∙ sym (segment_by f b r a q law)
 
-    pub segment_told : (x : RecordAt) → Some x ≡ option_map record_at (find (is_record_named e.id r) (stored_records f)) → (found : Option SegmentRow)
+    pub segment_read : (x : RecordAt) → Some x ≡ option_map record_at (find (is_record_named e.id r) (stored_records f)) → (found : Option SegmentRow)
         → found ≡ row_in_plan (plan_at f e x.place r) a q → found ≡ segment_row_of f b r a q
-    segment_told x x_is found found_is = found_is ∙ ap (λ o. segment_under e.product o a q) (rows_at f e.id r x x_is) ∙ ap under_product e_is ∙ sym (segment_by f b r a q law)
+    segment_read x x_is found found_is = found_is ∙ ap (λ o. segment_under e.product o a q) (rows_at f e.id r x x_is) ∙ ap under_product e_is ∙ sym (segment_by f b r a q law)
 
 -- ---- a segment of a record, by its groupings
 
@@ -150,16 +150,16 @@ module _ (f : Facts) (e : BatchProduct) (place a q : ℕ) (r : List ℕ) where
   own = filter (is_grouping_at e.id place) (stored_groupings f)
 
   heads_are : Rises grouping_at line_of own → (gs : List GroupingAt) → AreSorted line_of (map grouping_at own) gs → gs ≡ map grouping_at own
-  heads_are rising gs sorted = told_in_order grouping_at line_of own rising gs sorted
+  heads_are rising gs sorted = read_in_order grouping_at line_of own rising gs sorted
 
   bytes_are : Rises grouping_at line_of own → (h : SegmentHead) (cs : List CodedAt) → AreSorted coded_line (map coded_at (filter (is_of_segment e.id place h.aid h.rank) (stored_groupings f))) cs
       → flat_map (λ (g : CodedAt). g.coded) cs ≡ bytes_of (filter (is_under h) own)
   bytes_are rising h cs sorted =
       let those : filter (is_of_segment e.id place h.aid h.rank) (stored_groupings f) ≡ filter (is_under h) own = filter_both (is_grouping_at e.id place) (is_under h) (stored_groupings f) in
       let rises : Rises coded_at coded_line (filter (is_under h) own) = AllPairs-filter (λ (x y : StoredGrouping). x.line < y.line) (is_under h) own rising in
-      let told : cs ≡ map coded_at (filter (is_under h) own) =
-      told_in_order coded_at coded_line (filter (is_under h) own) rises cs (subst (λ xs. AreSorted coded_line (map coded_at xs) cs) those sorted) in
-      ap (flat_map (λ (g : CodedAt). g.coded)) told ∙ flat_map-map (λ (g : CodedAt). g.coded) coded_at (filter (is_under h) own)
+      let as_read : cs ≡ map coded_at (filter (is_under h) own) =
+      read_in_order coded_at coded_line (filter (is_under h) own) rises cs (subst (λ xs. AreSorted coded_line (map coded_at xs) cs) those sorted) in
+      ap (flat_map (λ (g : CodedAt). g.coded)) as_read ∙ flat_map-map (λ (g : CodedAt). g.coded) coded_at (filter (is_under h) own)
 
   row_by_head : row_in_plan (plan_at f e place r) a q ≡ option_map (segment_row (plan_at f e place r)) (option_map (with_bytes own) (head_at (map grouping_at own) a q))
   row_by_head = ap (option_map (segment_row (plan_at f e place r))) (segment_by_head r own e.product a q)

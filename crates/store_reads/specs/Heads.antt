@@ -1,14 +1,14 @@
--- What is told of a batch by what is read of it without its bytes.
+-- What is read of a batch by what is read of it without its bytes.
 use Rattle.std.specs.Prelude.{◌==◌, ◌&&◌, Bool, Option, Some, None}
 use Rattle.job_facts.specs.declared.rows.BatchRow.{BatchRow}
 use Rattle.job_facts.specs.declared.rows.BatchTotals.{BatchTotals}
 use Rattle.row_reads.specs.declared.batches.BatchHead.{BatchHead}
-use Rattle.row_reads.specs.declared.batches.BatchTold.{BatchTold}
+use Rattle.row_reads.specs.declared.batches.BatchAt.{BatchAt}
 use Rattle.row_reads.specs.declared.records.RecordAt.{RecordAt}
 use Rattle.table_rows.specs.declared.writing.RecordPlace.{RecordPlace}
-use Rattle.row_laws.specs.Telling.{no_totals}
+use Rattle.row_laws.specs.RowValues.{no_totals}
 
-abbrev pub row_of : BatchTold → BatchRow
+abbrev pub row_of : BatchAt → BatchRow
 row_of b = record { product = b.product; is_closed = b.is_closed }
 
 -- a name that no batch has has none

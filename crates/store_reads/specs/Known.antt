@@ -47,13 +47,13 @@ AreKnownIn t records = AreNamedApart (fixed t) → All (IsKnownIn (fixed t)) rec
 abbrev pub standing_of : StoredRecord → StandingRecord
 standing_of r = record { batch = r.batch; card = record_at r }
 
-abbrev pub StandsIn : Tables → StandingRecord → Type 0
-StandsIn t s = Contains (map standing_of t.records) s
+abbrev pub IsStandingIn : Tables → StandingRecord → Type 0
+IsStandingIn t s = Contains (map standing_of t.records) s
 
 -- all that is known is so in these rows
 pub record IsAllKnownIn (t : Tables) (known : Known) : Type 0 where
   pub records : AreKnownIn t (known_records known)
-  pub standing : IfSome (standing_record known) (StandsIn t)
+  pub standing : IfSome (standing_record known) (IsStandingIn t)
 
 -- the database has rows in which all that is known is so
 pub record HasKnown (db : Database) (known : Known) : Type 0 where
@@ -63,18 +63,18 @@ pub record HasKnown (db : Database) (known : Known) : Type 0 where
 abbrev pub Knows : State → Known → Type 0
 Knows s known = HasCleanDisk s → IsTrue s.is_open → HasKnown s.now known
 
--- ---- what is told by what is known
+-- ---- what is given by what is known
 
 -- this is so of whatever sound contents it has the rows, if the record is known in these; nothing
 -- may have been read, so that the connection may be shut
-abbrev pub TellsKnown : {T : Type 0} → KnownRecord → State → State → Result T Error → (Contents → T → Type 0) → Type 0
-TellsKnown k old new result P =
+abbrev pub ReadsKnown : {T : Type 0} → KnownRecord → State → State → Result T Error → (Contents → T → Type 0) → Type 0
+ReadsKnown k old new result P =
     HasCleanDisk new → IfOk result (λ answer. (c : Contents) → AreSound c → (IsTrue old.is_open → IsImage (image c) old.now) → IsKnownIn (fixed (image c)) k → P c answer)
 
 -- where there is an answer, an open connection gave it, and this is so of whatever sound contents
 -- it has the rows
-abbrev pub TellsSome : {T : Type 0} → State → State → Result (Option T) Error → (Contents → T → Type 0) → Type 0
-TellsSome old new result P =
+abbrev pub ReadsSome : {T : Type 0} → State → State → Result (Option T) Error → (Contents → T → Type 0) → Type 0
+ReadsSome old new result P =
     HasCleanDisk new → IfOk result (λ found. IfSome found (λ answer. IsTrue old.is_open × ((c : Contents) → AreSound c → IsImage (image c) old.now → P c answer)))
 
 -- the same of whatever rows it has

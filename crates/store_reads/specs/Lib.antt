@@ -1,5 +1,5 @@
 pub mod Heads
-pub mod Tells
+pub mod ReadsContents
 pub mod Lines
 pub mod Segments
 pub mod Sessions

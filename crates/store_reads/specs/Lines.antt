@@ -6,7 +6,7 @@ use Rattle.row_reads.specs.declared.records.RecordAt.{RecordAt}
 use Rattle.row_reads.specs.declared.sessions.GoodCard.{GoodCard}
 use Rattle.image_laws.specs.Image.{stored_records, stored_sessions}
 use Rattle.table_rows.specs.Keys.{is_good_of, is_record_of}
-use Rattle.row_laws.specs.Telling.{cards, line_of}
+use Rattle.row_laws.specs.RowValues.{cards, line_of}
 
 -- it is of the record at this place
 abbrev pub is_card_at : ℕ → GoodCard → Bool
@@ -20,8 +20,8 @@ abbrev pub line_with : RecordAt → Option ℕ → RecordLine
 line_with r blank = record { rec = r.name; stands = r.stands; sessions = r.spoiled + cards r.stands; blank = blank }
 
 -- the line of a record
-abbrev pub line_told : List GoodCard → RecordAt → RecordLine
-line_told good r = line_with r (blank_of good r.place)
+abbrev pub line_for : List GoodCard → RecordAt → RecordLine
+line_for good r = line_with r (blank_of good r.place)
 
 -- the lines of the records of the batch with this id
 abbrev pub lines_with : Facts → ℕ → List RecordLine

@@ -15,7 +15,7 @@ use Rattle.row_reads.specs.declared.groupings.GroupingAt.{GroupingAt}
 use Rattle.image_laws.specs.Image.{stored_groupings}
 use Rattle.table_rows.specs.Keys.{is_batch_named, is_grouping_at}
 use Rattle.table_rows.specs.Tables.{StoredBatch}
-use Rattle.row_laws.specs.Telling.{row_of}
+use Rattle.row_laws.specs.RowValues.{row_of}
 use Rattle.store_reads.specs.declared.plans.SegmentHead.{SegmentHead}
 use Rattle.store_reads.specs.declared.segments.BatchProduct.{BatchProduct}
 

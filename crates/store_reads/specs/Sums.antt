@@ -26,8 +26,8 @@ pub record AreBatchSums (sums : BatchSums) : Type 0 where
   pub running : sums.running < 2 ^ 64
   pub spoiled : sums.spoiled < 2 ^ 64
 
-abbrev pub totals_told : List LotRow → List BatchHead → BlankTotals
-totals_told lots heads = record {
+abbrev pub totals_of_rows : List LotRow → List BatchHead → BlankTotals
+totals_of_rows lots heads = record {
   lots = length lots;
   total = (lot_sums lots).total;
   good = (batch_sums heads).good;

@@ -6,14 +6,14 @@ ghost use Rattle.job_facts.specs.Rows.{batch_has, batch_row_of, batch_size_of};
 ghost use Rattle.job_facts.specs.States.{is_batch_finished};
 ghost use Rattle.row_reads.specs.Reads.{Looks};
 ghost use Rattle.store_reads.specs.Heads.{is_over, totals_in};
-ghost use Rattle.store_reads.specs.Tells.{Tells};
+ghost use Rattle.store_reads.specs.ReadsContents.{ReadsContents};
 
 use job_facts::{BatchRow, BatchSize, BatchTotals};
-use row_reads::{BatchHead, batch_head, batch_told, grouping_count};
+use row_reads::{BatchHead, batch_by_name, batch_head, grouping_count};
 use sqlite::{Alter, Connection, Error};
 use store_data::Name;
 
-// ---- what is told of what is read
+// ---- what is read of what is read
 
 fn totals_of(found: Option<BatchHead>) -> BatchTotals
     ensures { result ≡ totals_in found }
@@ -44,16 +44,16 @@ fn is_over(totals: BatchTotals) -> bool
 /// The batch of this name.
 pub fn batch<S: Alter>(conn: &mut Connection<S>, name: &Name) -> Result<Option<BatchRow>, Error>
     requires { conn.old.in_transaction ≡ false }
-    ensures value { Tells (state S.Store conn.old) (state S.Store conn.new) result
+    ensures value { ReadsContents (state S.Store conn.old) (state S.Store conn.new) result
         (λ c answer. answer ≡ batch_row_of c.facts name.now) }
     ensures looks { Looks (state S.Store conn.old) (state S.Store conn.new) }
 {
     row_laws::batches_by_name();
     row_laws::batches_by_rows();
-    let found = batch_told(conn, name)?;
-    Ok(found.map(|told| BatchRow {
-        product: told.product,
-        is_closed: told.is_closed,
+    let found = batch_by_name(conn, name)?;
+    Ok(found.map(|stored| BatchRow {
+        product: stored.product,
+        is_closed: stored.is_closed,
     }))
 }
 
@@ -66,7 +66,7 @@ pub fn batch_size<S: Alter>(
     name: &Name,
 ) -> Result<Option<BatchSize>, Error>
     requires { conn.old.in_transaction ≡ false }
-    ensures value { Tells (state S.Store conn.old) (state S.Store conn.new) result
+    ensures value { ReadsContents (state S.Store conn.old) (state S.Store conn.new) result
         (λ c answer. answer ≡ batch_size_of c.facts name.now) }
     ensures looks { Looks (state S.Store conn.old) (state S.Store conn.new) }
 {
@@ -88,7 +88,7 @@ pub fn batch_size<S: Alter>(
 /// Whether the batch of this name has these bytes.
 pub fn batch_has<S: Alter>(conn: &mut Connection<S>, name: &Name, raw: &[u8]) -> Result<bool, Error>
     requires { conn.old.in_transaction ≡ false }
-    ensures value { Tells (state S.Store conn.old) (state S.Store conn.new) result
+    ensures value { ReadsContents (state S.Store conn.old) (state S.Store conn.new) result
         (λ c answer. answer ≡ batch_has c.facts name.now raw.now) }
     ensures looks { Looks (state S.Store conn.old) (state S.Store conn.new) }
 {
@@ -99,7 +99,7 @@ pub fn batch_has<S: Alter>(conn: &mut Connection<S>, name: &Name, raw: &[u8]) ->
 /// Whether each record of a batch is good or withdrawn.
 pub fn is_finished<S: Alter>(conn: &mut Connection<S>, batch: &Name) -> Result<bool, Error>
     requires { conn.old.in_transaction ≡ false }
-    ensures value { Tells (state S.Store conn.old) (state S.Store conn.new) result
+    ensures value { ReadsContents (state S.Store conn.old) (state S.Store conn.new) result
         (λ c answer. answer ≡ is_batch_finished c.facts batch.now) }
     ensures looks { Looks (state S.Store conn.old) (state S.Store conn.new) }
 {
@@ -111,7 +111,7 @@ pub fn is_finished<S: Alter>(conn: &mut Connection<S>, batch: &Name) -> Result<b
 /// How a batch stands.
 pub fn batch_totals<S: Alter>(conn: &mut Connection<S>, batch: &Name) -> Result<BatchTotals, Error>
     requires { conn.old.in_transaction ≡ false }
-    ensures value { Tells (state S.Store conn.old) (state S.Store conn.new) result
+    ensures value { ReadsContents (state S.Store conn.old) (state S.Store conn.new) result
         (λ c answer. answer ≡ batch_totals c.facts batch.now) }
     ensures looks { Looks (state S.Store conn.old) (state S.Store conn.new) }
 {

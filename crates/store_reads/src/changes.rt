@@ -12,7 +12,7 @@ ghost use Rattle.sql_rows.specs.Image.{IsImage};
 ghost use Rattle.row_reads.specs.Reads.{Looks};
 ghost use Rattle.store_reads.specs.Heads.{place_at};
 ghost use Rattle.store_reads.specs.Known.{Knows};
-ghost use Rattle.store_reads.specs.Tells.{Tells};
+ghost use Rattle.store_reads.specs.ReadsContents.{ReadsContents};
 
 use crate::known::Known;
 use crate::sessions::session;
@@ -45,7 +45,7 @@ fn place_of<S: Alter>(
 ) -> Result<RecordPlace, Error>
     requires idle { conn.old.in_transaction ≡ false }
     requires knows { Knows (state S.Store conn.old) known.now }
-    ensures value { Tells (state S.Store conn.old) (state S.Store conn.new) result
+    ensures value { ReadsContents (state S.Store conn.old) (state S.Store conn.new) result
         (λ c place. IsPlaceOf c.facts batch.now rec.now place) }
     ensures looks { Looks (state S.Store conn.old) (state S.Store conn.new) }
 {
@@ -71,7 +71,7 @@ fn place_of_session<S: Alter>(
 ) -> Result<RecordPlace, Error>
     requires idle { conn.old.in_transaction ≡ false }
     requires knows { Knows (state S.Store conn.old) known.now }
-    ensures value { Tells (state S.Store conn.old) (state S.Store conn.new) result
+    ensures value { ReadsContents (state S.Store conn.old) (state S.Store conn.new) result
         (λ c place. IsPlaceOfSession c.facts number place) }
     ensures looks { Looks (state S.Store conn.old) (state S.Store conn.new) }
 {
@@ -105,7 +105,7 @@ fn discard_writing<'a, S: Alter>(
     lot: &Name,
 ) -> Result<Writing<'a>, Error>
     requires { conn.old.in_transaction ≡ false }
-    ensures value { Tells (state S.Store conn.old) (state S.Store conn.new) result
+    ensures value { ReadsContents (state S.Store conn.old) (state S.Store conn.new) result
         (λ c w. IsWritingOf c.facts (Discards blank lot.now) w) }
     ensures looks { Looks (state S.Store conn.old) (state S.Store conn.new) }
 {

@@ -2,7 +2,7 @@
 ghost use Rattle.std.specs.Prelude.{IfOk, false, length, ◌<◌, ◌^◌, ◌≡◌};
 ghost use Rattle.sqlite.specs.Held.{state};
 ghost use Rattle.row_reads.specs.Reads.{Looks};
-ghost use Rattle.store_reads.specs.Tells.{Tells};
+ghost use Rattle.store_reads.specs.ReadsContents.{ReadsContents};
 
 use row_reads::{last_batch, last_session};
 use sqlite::{Alter, Connection, Error};
@@ -10,7 +10,7 @@ use sqlite::{Alter, Connection, Error};
 /// How many products there are.
 pub fn product_count<S: Alter>(conn: &mut Connection<S>) -> Result<u64, Error>
     requires { conn.old.in_transaction ≡ false }
-    ensures value { Tells (state S.Store conn.old) (state S.Store conn.new) result
+    ensures value { ReadsContents (state S.Store conn.old) (state S.Store conn.new) result
         (λ c answer. answer ≡ length c.facts.products) }
     ensures looks { Looks (state S.Store conn.old) (state S.Store conn.new) }
 {
@@ -20,7 +20,7 @@ pub fn product_count<S: Alter>(conn: &mut Connection<S>) -> Result<u64, Error>
 /// How many lots there are.
 pub fn lot_count<S: Alter>(conn: &mut Connection<S>) -> Result<u64, Error>
     requires { conn.old.in_transaction ≡ false }
-    ensures value { Tells (state S.Store conn.old) (state S.Store conn.new) result
+    ensures value { ReadsContents (state S.Store conn.old) (state S.Store conn.new) result
         (λ c answer. answer ≡ length c.facts.lots) }
     ensures looks { Looks (state S.Store conn.old) (state S.Store conn.new) }
 {
@@ -31,7 +31,7 @@ pub fn lot_count<S: Alter>(conn: &mut Connection<S>) -> Result<u64, Error>
 /// How many batches there are.
 pub fn batch_count<S: Alter>(conn: &mut Connection<S>) -> Result<u64, Error>
     requires { conn.old.in_transaction ≡ false }
-    ensures value { Tells (state S.Store conn.old) (state S.Store conn.new) result
+    ensures value { ReadsContents (state S.Store conn.old) (state S.Store conn.new) result
         (λ c answer. answer ≡ length c.facts.batches) }
     ensures looks { Looks (state S.Store conn.old) (state S.Store conn.new) }
 {
@@ -42,7 +42,7 @@ pub fn batch_count<S: Alter>(conn: &mut Connection<S>) -> Result<u64, Error>
 /// How many sessions there are.
 pub fn session_count<S: Alter>(conn: &mut Connection<S>) -> Result<u64, Error>
     requires { conn.old.in_transaction ≡ false }
-    ensures value { Tells (state S.Store conn.old) (state S.Store conn.new) result
+    ensures value { ReadsContents (state S.Store conn.old) (state S.Store conn.new) result
         (λ c answer. answer ≡ length c.facts.sessions) }
     ensures ranged { IfOk result (λ answer. answer < 2 ^ 63) }
     ensures looks { Looks (state S.Store conn.old) (state S.Store conn.new) }

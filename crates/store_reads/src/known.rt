@@ -1,5 +1,5 @@
-//! What is known of the records that were read of late: what of their rows no change touches, and
-//! of one of them how it stands, up to the next change.
+//! What is known of the records that were read of late: what of their rows no change touches; and
+//! how one record stands, which need not be among them, up to the next change.
 ghost use Rattle.std.specs.Prelude.{◌≡◌, ◌<◌, ◌^◌, All, IfSome};
 ghost use Rattle.std.proofs.Props.{props};
 ghost use Rattle.store_data.specs.Sequence.{IsProduct};

@@ -1,4 +1,4 @@
-//! What the database of a store tells of its contents.
+//! What the database of a store gives of its contents.
 #![tactic(auto)]
 
 mod batches;

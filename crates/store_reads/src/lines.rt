@@ -1,10 +1,10 @@
 //! How the records of a batch stand, by their rows and its good cards.
 ghost use Rattle.std.specs.Prelude.{All, IfOk, count_by, map, nat_eq, ℕ, ◌==◌, ◌≡◌, ◌≤◌};
 ghost use Rattle.std.specs.HashMap.{get};
-ghost use Rattle.row_laws.specs.Telling.{cards};
+ghost use Rattle.row_laws.specs.RowValues.{cards};
 ghost use Rattle.row_reads.specs.CardDecoding.{IsRecordAt};
 ghost use Rattle.row_reads.specs.Readable.{FailsForMemory};
-ghost use Rattle.store_reads.specs.Lines.{blank_of, is_card_at, line_told, line_with};
+ghost use Rattle.store_reads.specs.Lines.{blank_of, is_card_at, line_for, line_with};
 
 use job_facts::{RecordLine, RecordState};
 use row_reads::{GoodCard, RecordAt};
@@ -51,13 +51,13 @@ fn line_with(rec: &RecordAt, blank: Option<u64>) -> RecordLine
 }
 
 /// The line of each record. Two good cards at one place are an error.
-pub(crate) fn lines_told(
+pub(crate) fn lines_for(
     alloc: Global,
     records: &[RecordAt],
     good: &[GoodCard],
 ) -> Result<Vec<RecordLine>, Error>
     requires { All IsRecordAt records.now }
-    ensures value { IfOk result (λ lines. lines.items ≡ map (line_told good.now) records.now) }
+    ensures value { IfOk result (λ lines. lines.items ≡ map (line_for good.now) records.now) }
     ensures once { IfOk result (λ _. (k : ℕ) → count_by (is_card_at k) good.now ≤ 1) }
     ensures total { ((k : ℕ) → count_by (is_card_at k) good.now ≤ 1) → FailsForMemory result }
 {

@@ -2,9 +2,9 @@
 ghost use Rattle.std.specs.Prelude.{false, ◌<◌, ◌^◌, ◌≡◌};
 ghost use Rattle.sqlite.specs.Held.{state};
 ghost use Rattle.job_facts.specs.States.{first_waiting, record_state_of};
-ghost use Rattle.row_reads.specs.Reads.{Looks, TellsRows};
+ghost use Rattle.row_reads.specs.Reads.{Looks, ReadsRows};
 ghost use Rattle.store_reads.specs.Known.{Knows};
-ghost use Rattle.store_reads.specs.Tells.{Tells};
+ghost use Rattle.store_reads.specs.ReadsContents.{ReadsContents};
 ghost use Rattle.store_reads.specs.Waiting.{IsFirstWaiting};
 
 use crate::known::Known;
@@ -20,7 +20,7 @@ pub fn record_state<S: Alter>(
     rec: &Name,
 ) -> Result<Option<RecordState>, Error>
     requires { conn.old.in_transaction ≡ false }
-    ensures value { Tells (state S.Store conn.old) (state S.Store conn.new) result
+    ensures value { ReadsContents (state S.Store conn.old) (state S.Store conn.new) result
         (λ c answer. answer ≡ record_state_of c.facts batch.now rec.now) }
     ensures looks { Looks (state S.Store conn.old) (state S.Store conn.new) }
 {
@@ -42,7 +42,7 @@ fn waiting_of<S: Alter>(
     requires idle { conn.old.in_transaction ≡ false }
     requires knows { Knows (state S.Store conn.old) known.old }
     requires id { id < 2 ^ 63 }
-    ensures value { TellsRows (state S.Store conn.old) (state S.Store conn.new) result
+    ensures value { ReadsRows (state S.Store conn.old) (state S.Store conn.new) result
         (IsFirstWaiting id) }
     ensures knows { Knows (state S.Store conn.new) known.new }
     ensures looks { Looks (state S.Store conn.old) (state S.Store conn.new) }
@@ -63,7 +63,7 @@ pub fn first_waiting<S: Alter>(
 ) -> Result<Option<Name>, Error>
     requires idle { conn.old.in_transaction ≡ false }
     requires knows { Knows (state S.Store conn.old) known.old }
-    ensures value { Tells (state S.Store conn.old) (state S.Store conn.new) result
+    ensures value { ReadsContents (state S.Store conn.old) (state S.Store conn.new) result
         (λ c answer. answer ≡ first_waiting c.facts batch.now) }
     ensures knows { Knows (state S.Store conn.new) known.new }
     ensures looks { Looks (state S.Store conn.old) (state S.Store conn.new) }

@@ -3,7 +3,7 @@ ghost use Rattle.std.specs.Prelude.{false, length, option_map, ◌≡◌};
 ghost use Rattle.sqlite.specs.Held.{state};
 ghost use Rattle.job_facts.specs.Contents.{entry_of, mark_of, reply_of_entry};
 ghost use Rattle.row_reads.specs.Reads.{Looks};
-ghost use Rattle.store_reads.specs.Tells.{Tells};
+ghost use Rattle.store_reads.specs.ReadsContents.{ReadsContents};
 
 use crate::numbers::END;
 use job_facts::KeptReply;
@@ -17,7 +17,7 @@ pub fn kept<S: Alter>(
     number: u64,
 ) -> Result<Option<KeptReply>, Error>
     requires { conn.old.in_transaction ≡ false }
-    ensures value { Tells (state S.Store conn.old) (state S.Store conn.new) result
+    ensures value { ReadsContents (state S.Store conn.old) (state S.Store conn.new) result
         (λ c answer. answer ≡ option_map reply_of_entry (entry_of c.kept client.now number)) }
     ensures looks { Looks (state S.Store conn.old) (state S.Store conn.new) }
 {
@@ -31,7 +31,7 @@ pub fn kept<S: Alter>(
 /// The number up to which a client has released its numbers; 0 where it never did.
 pub fn mark<S: Alter>(conn: &mut Connection<S>, client: &Name) -> Result<u64, Error>
     requires { conn.old.in_transaction ≡ false }
-    ensures value { Tells (state S.Store conn.old) (state S.Store conn.new) result
+    ensures value { ReadsContents (state S.Store conn.old) (state S.Store conn.new) result
         (λ c answer. answer ≡ mark_of c.marks client.now) }
     ensures looks { Looks (state S.Store conn.old) (state S.Store conn.new) }
 {
@@ -42,7 +42,7 @@ pub fn mark<S: Alter>(conn: &mut Connection<S>, client: &Name) -> Result<u64, Er
 /// How many replies are kept.
 pub fn reply_count<S: Alter>(conn: &mut Connection<S>) -> Result<u64, Error>
     requires { conn.old.in_transaction ≡ false }
-    ensures value { Tells (state S.Store conn.old) (state S.Store conn.new) result
+    ensures value { ReadsContents (state S.Store conn.old) (state S.Store conn.new) result
         (λ c answer. answer ≡ length c.kept) }
     ensures looks { Looks (state S.Store conn.old) (state S.Store conn.new) }
 {

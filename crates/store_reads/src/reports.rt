@@ -4,10 +4,10 @@ ghost use Rattle.sqlite.specs.Held.{state};
 ghost use Rattle.job_facts.specs.Accounts.{blank_totals, record_lines};
 ghost use Rattle.row_reads.specs.Reads.{Looks};
 ghost use Rattle.store_reads.specs.Lines.{lines_with};
-ghost use Rattle.store_reads.specs.Tells.{Tells};
+ghost use Rattle.store_reads.specs.ReadsContents.{ReadsContents};
 
-use crate::lines::lines_told;
-use crate::sums::totals_told;
+use crate::lines::lines_for;
+use crate::sums::totals_of_rows;
 use job_facts::{BlankTotals, RecordLine};
 use row_reads::{batch_id, batches_of, good_sessions, lots_of, records_of};
 use sqlite::{Alter, Connection, Error};
@@ -17,7 +17,7 @@ use store_data::Name;
 fn lines_with<S: Alter>(conn: &mut Connection<S>, id: u64) -> Result<Vec<RecordLine>, Error>
     requires idle { conn.old.in_transaction ≡ false }
     requires id { id < 2 ^ 63 }
-    ensures value { Tells (state S.Store conn.old) (state S.Store conn.new) result
+    ensures value { ReadsContents (state S.Store conn.old) (state S.Store conn.new) result
         (λ c lines. lines.items ≡ lines_with c.facts id) }
     ensures looks { Looks (state S.Store conn.old) (state S.Store conn.new) }
 {
@@ -25,7 +25,7 @@ fn lines_with<S: Alter>(conn: &mut Connection<S>, id: u64) -> Result<Vec<RecordL
     let records = records_of(conn, id)?;
     let good = good_sessions(conn, id)?;
     let alloc = *records.allocator();
-    lines_told(alloc, records.as_slice(), good.as_slice())
+    lines_for(alloc, records.as_slice(), good.as_slice())
 }
 
 /// How the records of a batch stand, in file order.
@@ -34,7 +34,7 @@ pub fn record_lines<S: Alter>(
     batch: &Name,
 ) -> Result<Vec<RecordLine>, Error>
     requires { conn.old.in_transaction ≡ false }
-    ensures value { Tells (state S.Store conn.old) (state S.Store conn.new) result
+    ensures value { ReadsContents (state S.Store conn.old) (state S.Store conn.new) result
         (λ c lines. lines.items ≡ record_lines c.facts batch.now) }
     ensures looks { Looks (state S.Store conn.old) (state S.Store conn.new) }
 {
@@ -51,12 +51,12 @@ pub fn blank_totals<S: Alter>(
     product: &Name,
 ) -> Result<BlankTotals, Error>
     requires { conn.old.in_transaction ≡ false }
-    ensures value { Tells (state S.Store conn.old) (state S.Store conn.new) result
+    ensures value { ReadsContents (state S.Store conn.old) (state S.Store conn.new) result
         (λ c answer. answer ≡ blank_totals c.facts product.now) }
     ensures looks { Looks (state S.Store conn.old) (state S.Store conn.new) }
 {
     row_laws::blanks_by_rows();
     let lots = lots_of(conn, product)?;
     let heads = batches_of(conn, product)?;
-    totals_told(lots.as_slice(), heads.as_slice())
+    totals_of_rows(lots.as_slice(), heads.as_slice())
 }

@@ -5,18 +5,18 @@ ghost use Rattle.sqlite.specs.State.{HasCleanDisk};
 ghost use Rattle.job_facts.specs.declared.rows.SegmentRow.{SegmentRow as SegmentRowValue};
 ghost use Rattle.job_facts.specs.Rows.{segment_row_of};
 ghost use Rattle.row_reads.specs.CardDecoding.{IsGroupingAt, IsRecordAt};
-ghost use Rattle.row_reads.specs.Reads.{Looks, TellsRows};
+ghost use Rattle.row_reads.specs.Reads.{Looks, ReadsRows};
 ghost use Rattle.store_reads.specs.declared.known.KnownRecord.{KnownRecord as KnownRecordValue};
 ghost use Rattle.store_reads.specs.Fixed.{AreNamedApart, fixed};
 ghost use Rattle.store_reads.specs.Known.{IsAllKnownIn, IsKnownIn, Knows, ShowsSome};
-ghost use Rattle.store_reads.specs.Known.{TellsKnown, TellsSome};
+ghost use Rattle.store_reads.specs.Known.{ReadsKnown, ReadsSome};
 ghost use Rattle.store_reads.specs.Segments.{IsBatchProduct, product_in};
-ghost use Rattle.store_reads.specs.Tells.{Tells};
+ghost use Rattle.store_reads.specs.ReadsContents.{ReadsContents};
 
 use crate::known::{Known, KnownRecord};
 use crate::plans::{head_at, joined};
 use job_facts::SegmentRow;
-use row_reads::{GroupingAt, RecordAt, batch_told, coded_of, groupings_of, record_named};
+use row_reads::{GroupingAt, RecordAt, batch_by_name, coded_of, groupings_of, record_named};
 use sqlite::{Alter, Connection, Error};
 use store_data::{Name, Product};
 
@@ -35,18 +35,18 @@ fn product_in<S: Alter>(
     batch: &Name,
 ) -> Result<Option<BatchProduct>, Error>
     requires { conn.old.in_transaction ≡ false }
-    ensures value { TellsRows (state S.Store conn.old) (state S.Store conn.new) result
+    ensures value { ReadsRows (state S.Store conn.old) (state S.Store conn.new) result
         (λ t answer. AreNamedApart (fixed t)
         → answer ≡ product_in t.products t.batches batch.now) }
     ensures ranged { IfOk result (λ answer. IfSome answer IsBatchProduct) }
     ensures looks { Looks (state S.Store conn.old) (state S.Store conn.new) }
 {
-    let Some(told) = batch_told(conn, batch)? else {
+    let Some(stored) = batch_by_name(conn, batch)? else {
         return Ok(None);
     };
-    let found = row_reads::product(conn, &told.product)?;
+    let found = row_reads::product(conn, &stored.product)?;
     Ok(found.map(|product| BatchProduct {
-        id: told.id,
+        id: stored.id,
         product,
     }))
 }
@@ -58,11 +58,11 @@ fn record_read<S: Alter>(
     rec: &Name,
 ) -> Result<Option<KnownRecord>, Error>
     requires { conn.old.in_transaction ≡ false }
-    ensures known { TellsRows (state S.Store conn.old) (state S.Store conn.new) result
+    ensures known { ReadsRows (state S.Store conn.old) (state S.Store conn.new) result
         (λ t found. AreNamedApart (fixed t) → IfSome found (IsKnownIn (fixed t))) }
     ensures named { IfOk result (λ found. IfSome found
         (λ (k : KnownRecordValue). (k.batch ≡ batch.now) × (k.rec ≡ rec.now))) }
-    ensures none { Tells (state S.Store conn.old) (state S.Store conn.new) result
+    ensures none { ReadsContents (state S.Store conn.old) (state S.Store conn.new) result
         (λ c found. found ≡ None → (a q : ℕ)
         → None ≡ segment_row_of c.facts batch.now rec.now a q) }
     ensures looks { Looks (state S.Store conn.old) (state S.Store conn.new) }
@@ -141,12 +141,12 @@ fn record_found<S: Alter>(
     rec: &Name,
 ) -> Result<Option<KnownRecord>, Error>
     requires { conn.old.in_transaction ≡ false }
-    ensures known { TellsRows (state S.Store conn.old) (state S.Store conn.new) result
+    ensures known { ReadsRows (state S.Store conn.old) (state S.Store conn.new) result
         (λ t found. AreNamedApart (fixed t) → IsAllKnownIn t known.now
         → IfSome found (IsKnownIn (fixed t))) }
     ensures named { IfOk result (λ found. IfSome found
         (λ (k : KnownRecordValue). (k.batch ≡ batch.now) × (k.rec ≡ rec.now))) }
-    ensures none { Tells (state S.Store conn.old) (state S.Store conn.new) result
+    ensures none { ReadsContents (state S.Store conn.old) (state S.Store conn.new) result
         (λ c found. found ≡ None → (a q : ℕ)
         → None ≡ segment_row_of c.facts batch.now rec.now a q) }
     ensures looks { Looks (state S.Store conn.old) (state S.Store conn.new) }
@@ -168,7 +168,7 @@ fn segment_of<S: Alter>(
     segment: u16,
 ) -> Result<Option<SegmentRow>, Error>
     requires { conn.old.in_transaction ≡ false }
-    ensures value { TellsKnown card.now (state S.Store conn.old) (state S.Store conn.new) result
+    ensures value { ReadsKnown card.now (state S.Store conn.old) (state S.Store conn.new) result
         (λ c answer. answer ≡ segment_row_of c.facts card.now.batch card.now.rec app segment) }
     ensures open { HasCleanDisk (state S.Store conn.new) → IfOk result (λ answer.
         IfSome answer (λ (row : SegmentRowValue). IsTrue (state S.Store conn.old).is_open)) }
@@ -208,7 +208,7 @@ fn known_segment<S: Alter>(
 ) -> Result<Option<SegmentRow>, Error>
     requires idle { conn.old.in_transaction ≡ false }
     requires knows { Knows (state S.Store conn.old) known.now }
-    ensures value { TellsSome (state S.Store conn.old) (state S.Store conn.new) result
+    ensures value { ReadsSome (state S.Store conn.old) (state S.Store conn.new) result
         (λ c row. Some row ≡ segment_row_of c.facts batch.now rec.now app segment) }
     ensures ranged { IfOk result
         (λ answer. IfSome answer (λ (row : SegmentRowValue). row.low ≤ 31)) }
@@ -233,7 +233,7 @@ fn segment_read<S: Alter>(
 ) -> Result<Option<SegmentRow>, Error>
     requires idle { conn.old.in_transaction ≡ false }
     requires knows { Knows (state S.Store conn.old) known.old }
-    ensures value { Tells (state S.Store conn.old) (state S.Store conn.new) result
+    ensures value { ReadsContents (state S.Store conn.old) (state S.Store conn.new) result
         (λ c answer. answer ≡ segment_row_of c.facts batch.now rec.now app segment) }
     ensures ranged { IfOk result
         (λ answer. IfSome answer (λ (row : SegmentRowValue). row.low ≤ 31)) }
@@ -262,7 +262,7 @@ pub fn segment<S: Alter>(
 ) -> Result<Option<SegmentRow>, Error>
     requires idle { conn.old.in_transaction ≡ false }
     requires knows { Knows (state S.Store conn.old) known.old }
-    ensures value { Tells (state S.Store conn.old) (state S.Store conn.new) result
+    ensures value { ReadsContents (state S.Store conn.old) (state S.Store conn.new) result
         (λ c answer. answer ≡ segment_row_of c.facts batch.now rec.now app segment) }
     ensures ranged { IfOk result
         (λ answer. IfSome answer (λ (row : SegmentRowValue). row.low ≤ 31)) }

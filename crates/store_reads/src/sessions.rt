@@ -8,7 +8,7 @@ ghost use Rattle.job_facts.specs.States.{running_session};
 ghost use Rattle.row_reads.specs.Reads.{Looks};
 ghost use Rattle.store_reads.specs.Known.{Knows};
 ghost use Rattle.store_reads.specs.Sessions.{row_named};
-ghost use Rattle.store_reads.specs.Tells.{Tells};
+ghost use Rattle.store_reads.specs.ReadsContents.{ReadsContents};
 
 use crate::known::Known;
 use crate::numbers::END;
@@ -40,7 +40,7 @@ pub fn session<S: Alter>(
 ) -> Result<Option<SessionRow>, Error>
     requires idle { conn.old.in_transaction ≡ false }
     requires knows { Knows (state S.Store conn.old) known.now }
-    ensures value { Tells (state S.Store conn.old) (state S.Store conn.new) result
+    ensures value { ReadsContents (state S.Store conn.old) (state S.Store conn.new) result
         (λ c answer. answer ≡ session_row_of c.facts session) }
     ensures ranged { IfOk result
         (λ answer. IfSome answer (λ (row : SessionRowValue). IsCursor row.cursor)) }
@@ -75,7 +75,7 @@ pub fn running_session<S: Alter>(
     machine: &Name,
 ) -> Result<Option<u64>, Error>
     requires { conn.old.in_transaction ≡ false }
-    ensures value { Tells (state S.Store conn.old) (state S.Store conn.new) result
+    ensures value { ReadsContents (state S.Store conn.old) (state S.Store conn.new) result
         (λ c answer. answer ≡ running_session c.facts machine.now) }
     ensures looks { Looks (state S.Store conn.old) (state S.Store conn.new) }
 {

@@ -1,7 +1,7 @@
 //! How a product's blanks stand, by the rows of its lots and its batches.
 ghost use Rattle.std.specs.Prelude.{IfOk, IsOk, ◌<◌, ◌^◌, ◌≡◌, ◌+◌};
 ghost use Rattle.store_reads.specs.Sums.{AreBatchSums, AreLotSums, batch_sums, lot_sums};
-ghost use Rattle.store_reads.specs.Sums.{totals_told};
+ghost use Rattle.store_reads.specs.Sums.{totals_of_rows};
 
 use job_facts::BlankTotals;
 use row_reads::{BatchHead, LotRow};
@@ -67,8 +67,8 @@ fn batch_sums(heads: &[BatchHead]) -> Result<BatchSums, Error>
 }
 
 /// The sums over a product's lots and its batches, where each is a number of 64 bits.
-pub(crate) fn totals_told(lots: &[LotRow], heads: &[BatchHead]) -> Result<BlankTotals, Error>
-    ensures value { IfOk result (λ totals. totals ≡ totals_told lots.now heads.now) }
+pub(crate) fn totals_of_rows(lots: &[LotRow], heads: &[BatchHead]) -> Result<BlankTotals, Error>
+    ensures value { IfOk result (λ totals. totals ≡ totals_of_rows lots.now heads.now) }
     ensures total { AreLotSums (lot_sums lots.now) → AreBatchSums (batch_sums heads.now)
         → IsOk result }
 {

@@ -3,7 +3,7 @@ use Rattle.std.proofs.Common.{◌≡◌, ◌⊎◌, ℕ, List, [], Option, Some,
 use Rattle.std.specs.Io.KnownBytes.{Appends, Keeps}
 use Rattle.std.proofs.KnownBytes.{Appends-kept}
 use Rattle.store_data.specs.declared.row.Product.{Product}
-use Rattle.text_io.specs.Inputs.{Tells}
+use Rattle.text_io.specs.Inputs.{Agrees}
 use Rattle.text_io.specs.Written.{AppendsBeginning}
 use Rattle.plan_print.specs.PlanEnds.{PlanEnds}
 use Rattle.plan_print.specs.declared.plan.PlanStop.TheVariants as plan
@@ -29,11 +29,11 @@ whole : (before mid after : Option (List ℕ)) (text : List ℕ) → Appends bef
 whole before mid after text written kept = (text, [], append-nil text, Appends-kept before mid after text written kept)
 
 pub plan_flushed : (p : Product) (known before mid after : Option (List ℕ)) (end : End) (buffer : List ℕ)
-    → ((raw : List ℕ) × Tells known raw × PlanEnds p raw before mid (Ok tt)) → Keeps mid after → Flushes Done end buffer → PlanRuns p known before after end
-plan_flushed p known before mid after end buffer (raw, tells, (rows, few, is, written)) kept (inl done) =
-    (raw, tells, Ok tt, done.0, (rows, few, is, Appends-kept before mid after _ written kept))
-plan_flushed p known before mid after end buffer (raw, tells, (rows, few, is, written)) kept (inr failed) =
-    (raw, tells, Err plan.WriteFailed, failed, (rows, few, is, whole before mid after _ written kept))
+    → ((raw : List ℕ) × Agrees known raw × PlanEnds p raw before mid (Ok tt)) → Keeps mid after → Flushes Done end buffer → PlanRuns p known before after end
+plan_flushed p known before mid after end buffer (raw, agrees, (rows, few, is, written)) kept (inl done) =
+    (raw, agrees, Ok tt, done.0, (rows, few, is, Appends-kept before mid after _ written kept))
+plan_flushed p known before mid after end buffer (raw, agrees, (rows, few, is, written)) kept (inr failed) =
+    (raw, agrees, Err plan.WriteFailed, failed, (rows, few, is, whole before mid after _ written kept))
 
 -- ---- a drill
 
@@ -92,9 +92,9 @@ no_bad_line r n fault.Full is at = cc
 pub drill_flushed : (known before mid after : Option (List ℕ)) (end : End) (buffer : List ℕ)
     → DrillEnds known before mid (Ok tt) → Keeps mid after → Flushes Done end buffer → DrillRuns known before after end
 drill_flushed known before mid after end buffer (inl (fault, is, stays)) kept flushes = absurd (never_unopened tt fault is)
-drill_flushed known before mid after end buffer (inr (s, holds, (raw, told, runs))) kept (inl done) =
-    (Ok tt, done.0, inr (s, holds, (raw, told, rewritten _ _ s _ _ _ before mid after _ runs (Appends-kept before mid after _ runs.written kept))))
-drill_flushed known before mid after end buffer (inr (s, holds, (raw, told, runs))) kept (inr failed) = (
+drill_flushed known before mid after end buffer (inr (s, holds, (raw, error_line, runs))) kept (inl done) =
+    (Ok tt, done.0, inr (s, holds, (raw, error_line, rewritten _ _ s _ _ _ before mid after _ runs (Appends-kept before mid after _ runs.written kept))))
+drill_flushed known before mid after end buffer (inr (s, holds, (raw, error_line, runs))) kept (inr failed) = (
   Err drill.WriteFailed,
   failed,
   inr (
@@ -102,7 +102,7 @@ drill_flushed known before mid after end buffer (inr (s, holds, (raw, told, runs
     holds,
     (
       raw,
-      told,
+      error_line,
       lost _ _ s _ _ _ before mid after _ runs (done_went_on _ _ s _ _ _ before mid _ runs) (whole before mid after _ runs.written kept),
     ),
   ),
@@ -111,9 +111,9 @@ drill_flushed known before mid after end buffer (inr (s, holds, (raw, told, runs
 pub bad_line_flushed : (n : ℕ) (known before mid after : Option (List ℕ)) (end : End) (buffer : List ℕ)
     → DrillEnds known before mid (Err (drill.BadLine n)) → Keeps mid after → Flushes (BadLine n) end buffer → DrillRuns known before after end
 bad_line_flushed n known before mid after end buffer (inl (fault, is, stays)) kept flushes = absurd (no_bad_line (Err (drill.BadLine n)) n fault refl is)
-bad_line_flushed n known before mid after end buffer (inr (s, holds, (raw, told, runs))) kept (inl done) =
-    (Err (drill.BadLine n), done.0, inr (s, holds, (raw, told, rewritten _ _ s _ _ _ before mid after _ runs (Appends-kept before mid after _ runs.written kept))))
-bad_line_flushed n known before mid after end buffer (inr (s, holds, (raw, told, runs))) kept (inr failed) = (
+bad_line_flushed n known before mid after end buffer (inr (s, holds, (raw, error_line, runs))) kept (inl done) =
+    (Err (drill.BadLine n), done.0, inr (s, holds, (raw, error_line, rewritten _ _ s _ _ _ before mid after _ runs (Appends-kept before mid after _ runs.written kept))))
+bad_line_flushed n known before mid after end buffer (inr (s, holds, (raw, error_line, runs))) kept (inr failed) = (
   Err drill.WriteFailed,
   failed,
   inr (
@@ -121,7 +121,7 @@ bad_line_flushed n known before mid after end buffer (inr (s, holds, (raw, told,
     holds,
     (
       raw,
-      told,
+      error_line,
       lost _ _ s _ _ _ before mid after _ runs (bad_went_on _ _ s _ _ n _ before mid runs) (whole before mid after _ runs.written kept),
     ),
   ),

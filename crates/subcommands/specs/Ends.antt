@@ -19,50 +19,50 @@ use Rattle.drill.specs.declared.stop.DrillStop.TheVariants as drill
 use Rattle.subcommands.specs.declared.end.End.{End}
 use Rattle.subcommands.specs.declared.end.End.TheVariants as end
 use Rattle.subcommands.specs.declared.end.Exit.{Exit}
-use Rattle.subcommands.specs.declared.end.Told.{Told}
-use Rattle.subcommands.specs.declared.end.Told.TheVariants as told
+use Rattle.subcommands.specs.declared.end.ErrorLine.{ErrorLine}
+use Rattle.subcommands.specs.declared.end.ErrorLine.TheVariants as error_line
 use Rattle.arguments.specs.declared.words.WordsFault.{WordsFault}
 use Rattle.arguments.specs.declared.words.WordsFault.TheVariants as words
 use Rattle.plan_print.specs.declared.plan.PlanStop.{PlanStop}
 use Rattle.plan_print.specs.declared.plan.PlanStop.TheVariants as stop
 
 -- done and help end with 0, a refusal or a bad line with 1, wrong arguments with 2, and a fault of
--- a file, a device or of memory with 3; a fault of a batch is told by its number and row, every
+-- a file, a device or of memory with 3; a fault of a batch is printed by its number and row, every
 -- other refusal by its number alone, and there are no words where clap has a text of its own
 abbrev pub exit_of : End → Exit
 exit_of end.Done = record { status = 0; words = None }
 exit_of end.Helped = record { status = 0; words = None }
 exit_of end.Usage = record { status = 2; words = None }
-exit_of end.NotText = record { status = 2; words = Some told.NotText }
-exit_of end.BadName = record { status = 2; words = Some told.BadName }
+exit_of end.NotText = record { status = 2; words = Some error_line.NotText }
+exit_of end.BadName = record { status = 2; words = Some error_line.BadName }
 exit_of (end.Refused fault) =
-    record { status = 1; words = Some (told.RefusedRow (code_of fault.kind) fault.row) }
-exit_of end.TooLarge = record { status = 1; words = Some (told.Refused 413) }
-exit_of (end.BadLine line) = record { status = 1; words = Some (told.BadLine line) }
-exit_of end.NotOurs = record { status = 1; words = Some (told.Refused 81) }
-exit_of end.Damaged = record { status = 1; words = Some (told.Refused 82) }
+    record { status = 1; words = Some (error_line.RefusedRow (code_of fault.kind) fault.row) }
+exit_of end.TooLarge = record { status = 1; words = Some (error_line.Refused 413) }
+exit_of (end.BadLine line) = record { status = 1; words = Some (error_line.BadLine line) }
+exit_of end.NotOurs = record { status = 1; words = Some (error_line.Refused 81) }
+exit_of end.Damaged = record { status = 1; words = Some (error_line.Refused 82) }
 exit_of (end.NotReported why) =
-    record { status = 1; words = Some (told.Refused (refusals.code_of why)) }
-exit_of end.BadCard = record { status = 1; words = Some (told.Refused 400) }
-exit_of end.Released = record { status = 1; words = Some (told.Refused 73) }
-exit_of end.Storage = record { status = 3; words = Some told.Storage }
-exit_of end.PortFailed = record { status = 3; words = Some told.Device }
-exit_of end.NoReply = record { status = 3; words = Some told.Device }
-exit_of end.ReadFailed = record { status = 3; words = Some told.Device }
-exit_of end.WriteFailed = record { status = 3; words = Some told.Device }
-exit_of end.Memory = record { status = 3; words = Some told.Memory }
+    record { status = 1; words = Some (error_line.Refused (refusals.code_of why)) }
+exit_of end.BadCard = record { status = 1; words = Some (error_line.Refused 400) }
+exit_of end.Released = record { status = 1; words = Some (error_line.Refused 73) }
+exit_of end.Storage = record { status = 3; words = Some error_line.Storage }
+exit_of end.PortFailed = record { status = 3; words = Some error_line.Device }
+exit_of end.NoReply = record { status = 3; words = Some error_line.Device }
+exit_of end.ReadFailed = record { status = 3; words = Some error_line.Device }
+exit_of end.WriteFailed = record { status = 3; words = Some error_line.Device }
+exit_of end.Memory = record { status = 3; words = Some error_line.Memory }
 
 -- the text of the words
-abbrev pub told_text : Told → List ℕ
-told_text (told.Refused number) = codes "refused " ++ decimal number
-told_text (told.RefusedRow number row) =
+abbrev pub line_text : ErrorLine → List ℕ
+line_text (error_line.Refused number) = codes "refused " ++ decimal number
+line_text (error_line.RefusedRow number row) =
     codes "refused " ++ (decimal number ++ (codes " row " ++ decimal row))
-told_text (told.BadLine line) = codes "bad line " ++ decimal line
-told_text told.NotText = codes "error: an argument isn't UTF-8"
-told_text told.BadName = codes "bad name"
-told_text told.Storage = codes "storage"
-told_text told.Device = codes "device"
-told_text told.Memory = codes "memory"
+line_text (error_line.BadLine line) = codes "bad line " ++ decimal line
+line_text error_line.NotText = codes "error: an argument isn't UTF-8"
+line_text error_line.BadName = codes "bad name"
+line_text error_line.Storage = codes "storage"
+line_text error_line.Device = codes "device"
+line_text error_line.Memory = codes "memory"
 
 -- ---- which end it is
 
@@ -129,10 +129,10 @@ end_of_feed (Ok u) = end.Done
 end_of_feed (Err stop) = end_of_feed_stop stop
 
 -- of words that give no subcommand, by whether clap's text was written
-abbrev pub told_end : WordsFault → Bool → End
-told_end (words.Help text) is_written = if is_written then end.Helped else end.WriteFailed
-told_end (words.Version text) is_written = if is_written then end.Helped else end.WriteFailed
-told_end (words.Usage text) is_written = end.Usage
-told_end words.NotText is_written = end.NotText
-told_end words.BadName is_written = end.BadName
-told_end words.Memory is_written = end.Memory
+abbrev pub end_of_words : WordsFault → Bool → End
+end_of_words (words.Help text) is_written = if is_written then end.Helped else end.WriteFailed
+end_of_words (words.Version text) is_written = if is_written then end.Helped else end.WriteFailed
+end_of_words (words.Usage text) is_written = end.Usage
+end_of_words words.NotText is_written = end.NotText
+end_of_words words.BadName is_written = end.BadName
+end_of_words words.Memory is_written = end.Memory

@@ -1,7 +1,7 @@
 -- A run of a subcommand: what it reads and prints, and how it ends.
 use Rattle.std.specs.Prelude.{◌≡◌, ⊤, ℕ, Bool, List, codes, Option, Result}
 use Rattle.store_data.specs.declared.row.Product.{Product}
-use Rattle.text_io.specs.Inputs.{Tells}
+use Rattle.text_io.specs.Inputs.{Agrees}
 use Rattle.plan_print.specs.PlanEnds.{PlanEnds}
 use Rattle.plan_print.specs.declared.plan.PlanStop.{PlanStop}
 use Rattle.over_tables.specs.Drills.{DrillEnds}
@@ -24,7 +24,7 @@ product_of max low check = record { code = codes "plan"; max = max; low = low; c
 
 -- for the known input the engine of `plan` writes so, and the end is its end
 abbrev pub PlanRuns : Product → Option (List ℕ) → Option (List ℕ) → Option (List ℕ) → End → Type 0
-PlanRuns p known before after end = (raw : List ℕ) × Tells known raw
+PlanRuns p known before after end = (raw : List ℕ) × Agrees known raw
     × (ended : Result (Unit {0}) PlanStop) × (end ≡ end_of_plan ended)
     × PlanEnds p raw before after ended
 

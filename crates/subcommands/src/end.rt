@@ -2,7 +2,7 @@
 ghost use Rattle.std.specs.Prelude.{◌≡◌};
 ghost use Rattle.subcommands.specs.Ends.{end_of_account, end_of_drill_stop, end_of_file};
 ghost use Rattle.subcommands.specs.Ends.{end_of_feed_stop, end_of_plan_stop, end_of_serve_stop};
-ghost use Rattle.subcommands.specs.Ends.{end_of_store, exit_of, told_end};
+ghost use Rattle.subcommands.specs.Ends.{end_of_store, end_of_words, exit_of};
 
 use arguments::WordsFault;
 use batch_import::RowFault;
@@ -153,8 +153,8 @@ impl From<FeedStop> for End {
 
 /// The end of a run whose words give no subcommand, by whether `clap`'s text was written: a usage
 /// fault stays one where standard error takes no text.
-pub fn told_end(fault: &WordsFault, is_written: bool) -> End
-    ensures { result ≡ told_end fault.now is_written }
+pub fn end_of_words(fault: &WordsFault, is_written: bool) -> End
+    ensures { result ≡ end_of_words fault.now is_written }
 {
     match fault {
         WordsFault::Help(_) | WordsFault::Version(_) => {
@@ -171,12 +171,12 @@ pub fn told_end(fault: &WordsFault, is_written: bool) -> End
     }
 }
 
-/// Why a run stopped, as standard error tells it.
+/// Why a run stopped, as standard error shows it.
 #[derive(Clone, Copy, Debug, PartialEq, Eq)]
-pub enum Told {
+pub enum ErrorLine {
     /// A refusal by its number.
     Refused { number: u16 },
-    /// A refusal by its number, and the row that it is told with.
+    /// A refusal by its number, and the row that it is printed with.
     RefusedRow { number: u16, row: u32 },
     /// The first line of a script that has none of its forms.
     BadLine { line: u64 },
@@ -192,27 +192,27 @@ pub enum Told {
     Memory,
 }
 
-impl fmt::Display for Told {
+impl fmt::Display for ErrorLine {
     ghost use Rattle.std.specs.Prelude.{Some};
-    ghost use Rattle.subcommands.specs.Ends.{told_text};
+    ghost use Rattle.subcommands.specs.Ends.{line_text};
 
-    ghost output = { λ told. Some (told_text told) };
+    ghost output = { λ error_line. Some (line_text error_line) };
 
     fn fmt<W: fmt::Write>(&self, f: &mut fmt::Formatter<W>) -> fmt::Result {
         match self {
-            Told::Refused { number } => write!(f, "refused {number}"),
-            Told::RefusedRow { number, row } => write!(f, "refused {number} row {row}"),
-            Told::BadLine { line } => write!(f, "bad line {line}"),
-            Told::NotText => f.write_str("error: an argument isn't UTF-8"),
-            Told::BadName => f.write_str("bad name"),
-            Told::Storage => f.write_str("storage"),
-            Told::Device => f.write_str("device"),
-            Told::Memory => f.write_str("memory"),
+            ErrorLine::Refused { number } => write!(f, "refused {number}"),
+            ErrorLine::RefusedRow { number, row } => write!(f, "refused {number} row {row}"),
+            ErrorLine::BadLine { line } => write!(f, "bad line {line}"),
+            ErrorLine::NotText => f.write_str("error: an argument isn't UTF-8"),
+            ErrorLine::BadName => f.write_str("bad name"),
+            ErrorLine::Storage => f.write_str("storage"),
+            ErrorLine::Device => f.write_str("device"),
+            ErrorLine::Memory => f.write_str("memory"),
         }
     }
 }
 
-impl Error for Told {}
+impl Error for ErrorLine {}
 
 /// The status of the program, and its words for standard error.
 #[derive(Clone, Copy, Debug, PartialEq, Eq)]
@@ -220,7 +220,7 @@ pub struct Exit {
     /// 0 done, 1 refused, 2 wrong arguments, 3 storage, device or memory.
     pub status: u8,
     /// The words, as they are displayed. Where `clap` has a text there are none beside it.
-    pub words: Option<Told>,
+    pub words: Option<ErrorLine>,
 }
 
 /// The status and the words that an end has (this project's profile).
@@ -230,31 +230,31 @@ pub fn exit_of(end: End) -> Exit
     let (status, words) = match end {
         End::Done | End::Helped => (0, None),
         End::Usage => (2, None),
-        End::NotText => (2, Some(Told::NotText)),
-        End::BadName => (2, Some(Told::BadName)),
+        End::NotText => (2, Some(ErrorLine::NotText)),
+        End::BadName => (2, Some(ErrorLine::BadName)),
         End::Refused(fault) => {
             let number = u16::from(fault.kind.code());
             let row = fault.row;
-            (1, Some(Told::RefusedRow { number, row }))
+            (1, Some(ErrorLine::RefusedRow { number, row }))
         }
-        End::TooLarge => (1, Some(Told::Refused { number: 413 })),
-        End::BadLine(line) => (1, Some(Told::BadLine { line })),
-        End::NotOurs => (1, Some(Told::Refused { number: NOT_OURS })),
-        End::Damaged => (1, Some(Told::Refused { number: DAMAGED })),
+        End::TooLarge => (1, Some(ErrorLine::Refused { number: 413 })),
+        End::BadLine(line) => (1, Some(ErrorLine::BadLine { line })),
+        End::NotOurs => (1, Some(ErrorLine::Refused { number: NOT_OURS })),
+        End::Damaged => (1, Some(ErrorLine::Refused { number: DAMAGED })),
         End::NotReported(why) => {
             let number = u16::from(why.code());
-            (1, Some(Told::Refused { number }))
+            (1, Some(ErrorLine::Refused { number }))
         }
-        End::BadCard => (1, Some(Told::Refused { number: 400 })),
+        End::BadCard => (1, Some(ErrorLine::Refused { number: 400 })),
         End::Released => {
             let number = u16::from(NUMBER_RELEASED);
-            (1, Some(Told::Refused { number }))
+            (1, Some(ErrorLine::Refused { number }))
         }
-        End::Storage => (3, Some(Told::Storage)),
+        End::Storage => (3, Some(ErrorLine::Storage)),
         End::NoReply | End::PortFailed | End::ReadFailed | End::WriteFailed => {
-            (3, Some(Told::Device))
+            (3, Some(ErrorLine::Device))
         }
-        End::Memory => (3, Some(Told::Memory)),
+        End::Memory => (3, Some(ErrorLine::Memory)),
     };
     Exit { status, words }
 }

@@ -5,6 +5,6 @@ mod end;
 mod joins;
 mod subcommand;
 
-pub use end::{End, Exit, Told, exit_of, told_end};
+pub use end::{End, ErrorLine, Exit, end_of_words, exit_of};
 pub use joins::{end_of_close, explain, level_by, note_refusal, wanted_of};
 pub use subcommand::{product_of, run, run_feed};

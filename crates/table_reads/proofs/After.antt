@@ -7,10 +7,10 @@ use Rattle.sqlite.specs.State.{State}
 use Rattle.sql_base.specs.Ends.{IsKept}
 use Rattle.sql_base.specs.Rowids.{AreApart}
 use Rattle.sql_tables.specs.Tables.{our_schema, version_table}
-use Rattle.table_reads.specs.Rowids.{AsksRowids, HasApart}
+use Rattle.table_reads.specs.Rowids.{AsksRowids, HasRowidsApart}
 use Rattle.table_reads.specs.Texts.{rowid_texts}
 use Rattle.table_reads.proofs.Numbers.{each_asked}
-use Rattle.table_reads.proofs.Telling.{from_all, to_all}
+use Rattle.table_reads.proofs.ReadRows.{from_all, to_all}
 
 -- two looks, the one after the other
 pub kept_then : (a b c : State) → IsKept a b → IsKept b c → IsKept a c
@@ -22,7 +22,7 @@ kept_then a b c one two = record {
 
 -- ---- the rowids of our tables
 
--- what a text that asks for the rowids of some trees tells of each of them
+-- what a text that asks for the rowids of some trees gives of each of them
 abbrev pub SaysApart : List ℕ → Database → Bool → Type 0
 SaysApart sql db rising = (tree : ℕ) → AsksRowids db.schema sql tree → IsTrue rising ↔ AreApart (db.trees tree)
 
@@ -50,8 +50,8 @@ module _ (db : Database) (ours : db.schema ≡ our_schema) where
   pub one_more : (k : ℕ) → k < 12 → (sql : List ℕ) → sql ≡ get_or rowid_texts k [] → (rising : Bool) → SaysApart sql db rising → IsTrue rising → FirstApart k db → FirstApart (k + 1) db
   one_more k low sql is rising says rises before = All-more (λ t. AreApart (db.trees t.tree)) our_schema.tables k version_table low before ((told_at k low sql is rising says).0 rises)
 
-  pub at_fault : (k : ℕ) → k < 12 → (sql : List ℕ) → sql ≡ get_or rowid_texts k [] → (rising : Bool) → SaysApart sql db rising → HasApart db → IsTrue rising
+  pub at_fault : (k : ℕ) → k < 12 → (sql : List ℕ) → sql ≡ get_or rowid_texts k [] → (rising : Bool) → SaysApart sql db rising → HasRowidsApart db → IsTrue rising
   at_fault k low sql is rising says apart = (told_at k low sql is rising says).1 (to_all (λ t. AreApart (db.trees t.tree)) our_schema.tables apart k version_table low)
 
-pub all_apart : (count : ℕ) (db : Database) → take count our_schema.tables ≡ our_schema.tables → FirstApart count db → HasApart db
+pub all_apart : (count : ℕ) (db : Database) → take count our_schema.tables ≡ our_schema.tables → FirstApart count db → HasRowidsApart db
 all_apart count db all first = from_all (λ t. AreApart (db.trees t.tree)) our_schema.tables (subst (All (λ t. AreApart (db.trees t.tree))) all first)

@@ -1,6 +1,6 @@
 pub mod Selecting
 pub mod Shapes
-pub mod Telling
+pub mod ReadRows
 pub mod WholeTables
 pub mod Meanings
 pub mod Found

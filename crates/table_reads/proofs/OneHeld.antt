@@ -9,7 +9,7 @@ use Rattle.job_facts.specs.Contents.{Mark}
 use Rattle.table_rows.specs.Tables.{HaveSameRows, Tables}
 use Rattle.sql_rows.specs.Decoding.{batch_of, blank_of, grouping_of, lot_of, mark_of, product_of, record_of, remake_of, reply_of, session_of, word_of}
 use Rattle.sql_rows.specs.Encoding.{batch_row, blank_row, grouping_row, lot_row, mark_row, product_row, record_row, remake_row, reply_row, session_row, word_row}
-use Rattle.sql_rows.specs.Image.{told}
+use Rattle.sql_rows.specs.Image.{given_rows}
 use Rattle.sql_rows.proofs.OneImage.{batch_back, blank_back, grouping_back, product_back, record_back, same_typed, session_back}
 use Rattle.sql_tables.specs.Tables.{batch_at, blank_at, lot_at, mark_at, product_at, record_at, remake_at, reply_at, session_at, word_at}
 use Rattle.sql_tables.specs.declared.versions.Version.{Version}
@@ -22,7 +22,7 @@ one_list : {X : Type 0} (table : ℕ → Table) (by_rowid : Bool) (encode : X �
     → (db : Database) (xs ys : List X) → Holds table by_rowid (map encode xs) db → Holds table by_rowid (map encode ys) db → IsPermutation xs ys
 one_list table by_rowid encode decode is back db xs ys one two =
     let e = one_number db.schema table one.number two.number is one.finds two.finds in
-    let there = subst (λ k. IsPermutation (map encode ys) (told by_rowid (db.trees k))) (sym e) two.rows_are in
+    let there = subst (λ k. IsPermutation (map encode ys) (given_rows by_rowid (db.trees k))) (sym e) two.rows_are in
     same_typed encode decode back xs ys _ one.rows_are there
 
 groupings_numbered : (v : Version) → IsNumbered (groupings_at v)

@@ -11,7 +11,7 @@ use Rattle.sqlite.specs.Term.{Term, col, lit}
 use Rattle.sqlite.specs.declared.types.Value.TheVariants.{Int}
 use Rattle.sqlite_schema.specs.Names.{same_name}
 use Rattle.sql_base.specs.Queries.{is_equal}
-use Rattle.sql_rows.specs.Image.{told}
+use Rattle.sql_rows.specs.Image.{given_rows}
 use Rattle.sql_tables.specs.Finds.{Finds}
 use Rattle.sql_tables.specs.Tables.{our_schema}
 use Rattle.sql_tables.specs.Versions.{numbered_version_at}
@@ -54,7 +54,7 @@ one_version_number v w db one two =
     let n = number_of v in
     let m = number_of w in
     let e : one.number ≡ two.number = one_tree db.schema (numbered_version_at n one.number) (numbered_version_at m two.number) refl one.finds two.finds in
-    let there : IsPermutation (numbered_row m ∷ []) (told true (db.trees one.number)) = subst (λ k. IsPermutation (numbered_row m ∷ []) (told true (db.trees k))) (sym e) two.rows_are in
+    let there : IsPermutation (numbered_row m ∷ []) (given_rows true (db.trees one.number)) = subst (λ k. IsPermutation (numbered_row m ∷ []) (given_rows true (db.trees k))) (sym e) two.rows_are in
     ap (λ row. number_in (column row 2)) (one_row (numbered_row n) (numbered_row m) (IsPermutation-trans _ _ _ one.rows_are (IsPermutation-sym _ _ there)))
 
 numbered_alike : (v w : Version) → number_of v ≡ number_of w → v ≡ w

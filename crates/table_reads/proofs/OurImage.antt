@@ -9,16 +9,16 @@ use Rattle.sqlite.specs.Order.{Row}
 use Rattle.sqlite.specs.Table.{Table}
 use Rattle.sql_base.specs.Rowids.{AreApart}
 use Rattle.sql_tables.specs.Tables.{batch_at, blank_at, grouping_at, lot_at, mark_at, our_schema, product_at, record_at, remake_at, reply_at, session_at, word_at}
-use Rattle.sql_rows.specs.Image.{IsFilled, IsImage, told}
+use Rattle.sql_rows.specs.Image.{IsFilled, IsImage, given_rows}
 use Rattle.table_rows.specs.Tables.{Tables}
 use Rattle.sql_tables.specs.Alike.{AreAmong, HasJust, HasNoFurtherKey, IsOneOf, is_no_further_key}
 use Rattle.sql_tables.specs.Finds.{Finds}
 use Rattle.sql_tables.specs.Versions.{numbered_version_at}
 use Rattle.sql_tables.specs.declared.versions.Version.{Version}
 use Rattle.sql_tables.specs.declared.versions.Version.TheVariants.{Three}
-use Rattle.table_reads.specs.Rowids.{HasApart, StandAsMade}
+use Rattle.table_reads.specs.Rowids.{HasRowidsApart, StandAsMade}
 use Rattle.table_reads.proofs.Found.{all_found}
-use Rattle.table_reads.proofs.Telling.{to_all}
+use Rattle.table_reads.proofs.ReadRows.{to_all}
 use Rattle.table_reads.specs.Holding.{Holds, HoldsRows}
 use Rattle.table_reads.proofs.OneVersion.{IsNumbered, one_number, ours_alone}
 
@@ -28,13 +28,13 @@ filled_at : (table : ℕ → Table) (by_rowid : Bool) (rows : List Row) (db : Da
     → AreApart (db.trees (table k).tree) → Holds table by_rowid rows db → IsFilled (record { table = table k; by_rowid = by_rowid; rows = rows }) db.trees
 filled_at table by_rowid rows db k is ours found apart held =
     let e = one_number our_schema table held.number k is (subst (λ s. Finds s (table held.number)) ours held.finds) found in
-    let there = subst (λ n. IsPermutation rows (told by_rowid (db.trees n))) e held.rows_are in
-    record { rows = subst (λ n. IsPermutation rows (told by_rowid (db.trees n))) (sym (is.numbered k)) there; apart = apart }
+    let there = subst (λ n. IsPermutation rows (given_rows by_rowid (db.trees n))) e held.rows_are in
+    record { rows = subst (λ n. IsPermutation rows (given_rows by_rowid (db.trees n))) (sym (is.numbered k)) there; apart = apart }
 
-our_image : (t : Tables) (db : Database) → HoldsRows Three t db → IsDatabase db → db.schema ≡ our_schema → HasApart db → IsImage t db
+our_image : (t : Tables) (db : Database) → HoldsRows Three t db → IsDatabase db → db.schema ≡ our_schema → HasRowidsApart db → IsImage t db
 our_image t db held sound ours apart = record {
   ours = ours;
-  sound = sound;
+  is_database = sound;
   each = (filled_at (numbered_version_at 3) true _ db 0 (record { named = λ n m. refl; numbered = λ n. refl }) ours all_found.0 apart.0 held.version, (filled_at product_at false _ db 1 (record { named = λ n m. refl; numbered = λ n. refl }) ours all_found.1.0 apart.1.0 held.products, (filled_at lot_at false _ db 3 (record { named = λ n m. refl; numbered = λ n. refl }) ours all_found.1.1.0 apart.1.1.0 held.lots, (filled_at batch_at true _ db 5 (record { named = λ n m. refl; numbered = λ n. refl }) ours all_found.1.1.1.0 apart.1.1.1.0 held.batches, (filled_at record_at false _ db 7 (record { named = λ n m. refl; numbered = λ n. refl }) ours all_found.1.1.1.1.0 apart.1.1.1.1.0 held.records, (filled_at grouping_at false _ db 10 (record { named = λ n m. refl; numbered = λ n. refl }) ours all_found.1.1.1.1.1.0 apart.1.1.1.1.1.0 held.groupings, (filled_at session_at true _ db 12 (record { named = λ n m. refl; numbered = λ n. refl }) ours all_found.1.1.1.1.1.1.0 apart.1.1.1.1.1.1.0 held.sessions, (filled_at word_at false _ db 14 (record { named = λ n m. refl; numbered = λ n. refl }) ours all_found.1.1.1.1.1.1.1.0 apart.1.1.1.1.1.1.1.0 held.words, (filled_at blank_at true _ db 16 (record { named = λ n m. refl; numbered = λ n. refl }) ours all_found.1.1.1.1.1.1.1.1.0 apart.1.1.1.1.1.1.1.1.0 held.blanks, (filled_at remake_at false _ db 17 (record { named = λ n m. refl; numbered = λ n. refl }) ours all_found.1.1.1.1.1.1.1.1.1.0 apart.1.1.1.1.1.1.1.1.1.0 held.remakes, (filled_at reply_at false _ db 19 (record { named = λ n m. refl; numbered = λ n. refl }) ours all_found.1.1.1.1.1.1.1.1.1.1.0 apart.1.1.1.1.1.1.1.1.1.1.0 held.replies, (filled_at mark_at false _ db 21 (record { named = λ n m. refl; numbered = λ n. refl }) ours all_found.1.1.1.1.1.1.1.1.1.1.1.0 apart.1.1.1.1.1.1.1.1.1.1.1.0 held.marks, tt))))))))))));
 }
 
@@ -48,7 +48,7 @@ image_stands t db image = let each = image.each in (image.ours, (each.0.apart, (
 -- ---- what fills them is held
 
 held_at : (table : ℕ → Table) (by_rowid : Bool) (rows : List Row) (db : Database) (k : ℕ) → db.schema ≡ our_schema → Finds our_schema (table k)
-    → IsPermutation rows (told by_rowid (db.trees k)) → Holds table by_rowid rows db
+    → IsPermutation rows (given_rows by_rowid (db.trees k)) → Holds table by_rowid rows db
 held_at table by_rowid rows db k ours found there = record { number = k; finds = subst (λ s. Finds s (table k)) (sym ours) found; rows_are = there }
 
 -- an element is that of its place, whatever is given where there is none

@@ -21,7 +21,7 @@ use Rattle.sql_base.specs.Rowids.{Apart, AreApart}
 use Rattle.sql_base.proofs.Rowids.{back, few_apart}
 use Rattle.sql_base.proofs.Selecting.{all_pass, selected, shown}
 use Rattle.table_reads.specs.Rowids.{AreRising, AsksRowids, IsRisingFrom, int_in, rowid_int}
-use Rattle.table_reads.proofs.Telling.{from_all, to_all}
+use Rattle.table_reads.proofs.ReadRows.{from_all, to_all}
 
 -- ---- the shown rows
 
@@ -159,8 +159,8 @@ as_many stored rows same id =
     sym one ∙ ap length (filter-map (has id) rowid_alone stored) ∙ lengths rowid_alone (filter (has id) stored)
 
 module _ (stored rows : List Row) (same : IsPermutation (map rowid_alone stored) rows) where
-  told_apart : AreRising rows → AreApart stored
-  told_apart rising = record {
+  given_apart : AreRising rows → AreApart stored
+  given_apart rising = record {
     apart = apart_if stored (λ id. subst (λ n. n ≤ 1) (as_many stored rows same id) (few_apart (has id) id (λ r h. equal_if r id h) rows (all_apart rows rising)));
     ints = behind stored (from_all Ints (map rowid_alone stored) (All-permutation Ints rows (map rowid_alone stored) (IsPermutation-sym _ _ same) (to_all Ints rows (all_ints rows rising))));
   }
@@ -178,6 +178,6 @@ pub rowids_apart : (sql : _) (old new : State) (rows sorted : List Row) → Show
 rowids_apart sql old new rows sorted h same rise tree asks =
     let columns = col 1 0 ∷ [] in
     let got = selected sql [] old new old.now.schema refl tree [] columns asks.names asks.command asks.plain asks.unlisted rows h in
-    let told : IsPermutation (map rowid_alone (old.now.trees tree)) rows = subst (λ xs. IsPermutation (map (shown columns []) xs) rows) (all_pass (old.now.trees tree)) got in
-    let all = IsPermutation-trans _ rows _ told same in
-    (told_apart (old.now.trees tree) sorted all, told_rising (old.now.trees tree) sorted all rise)
+    let value : IsPermutation (map rowid_alone (old.now.trees tree)) rows = subst (λ xs. IsPermutation (map (shown columns []) xs) rows) (all_pass (old.now.trees tree)) got in
+    let all = IsPermutation-trans _ rows _ value same in
+    (given_apart (old.now.trees tree) sorted all, told_rising (old.now.trees tree) sorted all rise)

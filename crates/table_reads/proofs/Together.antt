@@ -1,4 +1,4 @@
--- One read after another, and what they tell of all tables.
+-- One read after another, and what they give of all tables.
 use Rattle.std.proofs.Common.{ℕ, Bool, List, map, Option, Some, None, Vec, Global, MatchOption, All, subst, arith}
 use Rattle.std.specs.Prelude.{option_map, option_and_then}
 use Rattle.std.specs.List.Sorted.{IsPermutation}
@@ -8,7 +8,7 @@ use Rattle.sqlite.specs.State.{HasCleanDisk, State, Survives}
 use Rattle.sqlite.specs.Table.{Table}
 use Rattle.sqlite.proofs.StateLemmas.{survives_then}
 use Rattle.sql_base.specs.Ends.{IsKept}
-use Rattle.sql_rows.specs.Image.{told}
+use Rattle.sql_rows.specs.Image.{given_rows}
 use Rattle.sql_tables.specs.Finds.{Finds}
 use Rattle.table_reads.specs.Whole.{NoneStandSo}
 use Rattle.table_reads.specs.Holding.{Holds}
@@ -31,7 +31,7 @@ outlives_four one two three four = outlives (outlives one two) (outlives three f
 -- what was read of one table
 pub found_as : {X : Type 0} (encode : X → Row) (fits : X → Type 0) (table : ℕ → Table) (by_rowid : Bool) (db : Database) (Refused : Type 0)
     → (((xs : List X) → All fits xs → Holds table by_rowid (map encode xs) db → ⊥) → Refused) → (found : Option (Vec X Global))
-    → ((tree : ℕ) → Finds db.schema (table tree) → MatchOption found (NoneStandSo encode fits (told by_rowid (db.trees tree))) (λ all. IsPermutation (map encode all.items) (told by_rowid (db.trees tree))))
+    → ((tree : ℕ) → Finds db.schema (table tree) → MatchOption found (NoneStandSo encode fits (given_rows by_rowid (db.trees tree))) (λ all. IsPermutation (map encode all.items) (given_rows by_rowid (db.trees tree))))
     → MatchOption found Refused (λ all. Has table by_rowid (map encode all.items) db)
 found_as encode fits table by_rowid db Refused refuses (Some all) h = h
 found_as encode fits table by_rowid db Refused refuses None h = refuses (λ xs fit held. h held.number held.finds xs fit held.rows_are)

@@ -9,7 +9,7 @@ use Rattle.table_rows.specs.Tables.{Tables}
 use Rattle.image_laws.specs.Image.{image}
 use Rattle.sql_tables.specs.Tables.{batch_at, blank_at, grouping_at, lot_at, mark_at, product_at, record_at, remake_at, reply_at, session_at, word_at}
 use Rattle.sql_rows.specs.Encoding.{batch_row, blank_row, grouping_row, lot_row, mark_row, product_row, record_row, remake_row, reply_row, session_row, word_row}
-use Rattle.sql_rows.specs.Image.{told}
+use Rattle.sql_rows.specs.Image.{given_rows}
 use Rattle.sql_tables.specs.Alike.{HasJust}
 use Rattle.sql_tables.specs.Finds.{Finds}
 use Rattle.sql_tables.specs.Versions.{numbered_version_at, schema_of, unmixed_grouping_at}
@@ -17,12 +17,12 @@ use Rattle.sql_tables.specs.declared.versions.Version.{Version}
 use Rattle.sql_tables.specs.declared.versions.Version.TheVariants.{One, Two, Three}
 use Rattle.table_reads.specs.Version.{numbered_row}
 
--- the table stands there under some number, and these are its rows, in any order, told with their
+-- the table stands there under some number, and these are its rows, in any order, given with their
 -- rowids or without
 pub record Holds (table : ℕ → Table) (by_rowid : Bool) (rows : List Row) (db : Database) : Type 0 where
   pub number : ℕ
   pub finds : Finds db.schema (table number)
-  pub rows_are : IsPermutation rows (told by_rowid (db.trees number))
+  pub rows_are : IsPermutation rows (given_rows by_rowid (db.trees number))
 
 -- ---- what versions differ in
 

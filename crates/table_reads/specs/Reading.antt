@@ -1,4 +1,4 @@
--- What reading tables whole tells of a database.
+-- What reading tables whole gives of a database.
 use Rattle.std.specs.Prelude.{◌≡◌, ℕ, Bool, false, List, [], map, All, Option, MatchOption, IsPermutation, IsTrue, Vec, option_map, option_and_then}
 use Rattle.std.specs.Global.{Global}
 use Rattle.sqlite.specs.Effect.{Database}
@@ -10,7 +10,7 @@ use Rattle.job_facts.specs.Contents.{Entry, Mark}
 use Rattle.table_rows.specs.Tables.{StoredBatch, StoredBlank, StoredGrouping, StoredLot, StoredRecord, StoredRemake, StoredSession, StoredWord, Tables}
 use Rattle.sql_tables.specs.Tables.{mark_at}
 use Rattle.sql_rows.specs.Encoding.{grouping_row, mark_row}
-use Rattle.sql_rows.specs.Image.{told}
+use Rattle.sql_rows.specs.Image.{given_rows}
 use Rattle.sql_tables.specs.Alike.{HasJust}
 use Rattle.sql_tables.specs.Finds.{Finds}
 use Rattle.sql_tables.specs.Ours.{AreThere}
@@ -39,7 +39,7 @@ Reads Refused Found old found = IsTrue old.is_open × MatchOption found (Refused
 
 -- these are the table's rows, in any order
 abbrev pub Has : (ℕ → Table) → Bool → List Row → Database → Type 0
-Has table by_rowid rows db = (tree : ℕ) → Finds db.schema (table tree) → IsPermutation rows (told by_rowid (db.trees tree))
+Has table by_rowid rows db = (tree : ℕ) → Finds db.schema (table tree) → IsPermutation rows (given_rows by_rowid (db.trees tree))
 
 abbrev pub HasGroupings : Version → List StoredGrouping → Database → Type 0
 HasGroupings v groupings db = Has (groupings_at v) false (map grouping_row groupings) db
@@ -83,6 +83,6 @@ tables_of of_products of_lots of_batches of_records of_groupings of_sessions of_
       marks = marks;
     }) of_marks) of_replies) of_remakes) of_blanks) of_words) of_sessions) of_groupings) of_records) of_batches) of_lots) of_products
 
--- where the tables are those of the version and it is told, these are the rows
+-- where the tables are those of the version and it is given, these are the rows
 abbrev pub HasRows : Version → Database → Tables → Type 0
 HasRows v db t = HasJust db.schema (schema_of v) → AreThere db.schema (schema_of v).tables → SaysVersion v db → HoldsRows v t db

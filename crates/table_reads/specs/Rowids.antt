@@ -37,9 +37,9 @@ abbrev pub AsksRowids : Schema → List ℕ → ℕ → Type 0
 AsksRowids s sql tree = Asks s sql tree (col 1 0 ∷ [])
 
 -- no two rows of one of our tables have one rowid
-abbrev pub HasApart : Database → Type 0
-HasApart db = AllByRecursion (λ t. AreApart (db.trees t.tree)) our_schema.tables
+abbrev pub HasRowidsApart : Database → Type 0
+HasRowidsApart db = AllByRecursion (λ t. AreApart (db.trees t.tree)) our_schema.tables
 
 -- it has just our own tables, as the store makes them, and no two rows of a table have one rowid
 abbrev pub StandAsMade : Database → Type 0
-StandAsMade db = (db.schema ≡ our_schema) × HasApart db
+StandAsMade db = (db.schema ≡ our_schema) × HasRowidsApart db

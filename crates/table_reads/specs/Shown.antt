@@ -1,4 +1,4 @@
--- The shapes of the rows that a whole table shows, and which typed rows they can tell.
+-- The shapes of the rows that a whole table shows, and which typed rows they can give.
 use Rattle.std.specs.Prelude.{◌≡◌, ◌<◌, ◌^◌, ℕ, length, ⊤}
 use Rattle.sqlite.specs.Order.{Row, column}
 use Rattle.sqlite.specs.declared.types.Value.{Value}

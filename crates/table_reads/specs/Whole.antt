@@ -1,4 +1,4 @@
--- When a text asks for a table whole, and what the rows that it shows tell of those that are
+-- When a text asks for a table whole, and what the rows that it shows give of those that are
 -- stored.
 use Rattle.std.specs.Prelude.{◌≡◌, false, true, ℕ, Bool, List, [], ◌∷◌, map, drop, All, IsPermutation}
 use Rattle.sqlite.specs.Command.TheVariants.{Select}

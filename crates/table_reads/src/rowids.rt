@@ -10,7 +10,7 @@ ghost use Rattle.sqlite.specs.declared.types.Value.TheVariants.{Int};
 ghost use Rattle.sql_base.specs.Ends.{IsKept};
 ghost use Rattle.sql_tables.specs.Tables.{our_schema};
 ghost use Rattle.sql_base.specs.Rowids.{AreApart};
-ghost use Rattle.table_reads.specs.Rowids.{AreRising, AsksRowids, HasApart, IsRisingFrom};
+ghost use Rattle.table_reads.specs.Rowids.{AreRising, AsksRowids, HasRowidsApart, IsRisingFrom};
 ghost use Rattle.table_reads.specs.Rowids.{int_in, rowid_int};
 ghost use Rattle.table_reads.specs.Texts.{rowid_texts};
 
@@ -89,7 +89,7 @@ fn sort_rowids(rows: &mut Vec<Row>) -> Result<(), AllocError>
 // apart.
 fn has_rising<S: Alter>(conn: &mut Connection<S>, sql: &str) -> Result<bool, Error>
     requires { conn.old.in_transaction ≡ false }
-    ensures told { HasCleanDisk (state S.Store conn.new) → IfOk result
+    ensures value { HasCleanDisk (state S.Store conn.new) → IfOk result
         (λ rising. IsTrue (state S.Store conn.old).is_open × ((tree : ℕ)
         → AsksRowids (state S.Store conn.old).now.schema sql.now tree
         → IsTrue rising ↔ AreApart ((state S.Store conn.old).now.trees tree))) }
@@ -127,10 +127,10 @@ fn rowid_texts() -> &'static [&'static str]
 /// have one. Nothing is changed, and a crash leaves what it could leave before.
 pub fn has_apart_rowids<S: Alter>(conn: &mut Connection<S>) -> Result<bool, Error>
     requires { conn.old.in_transaction ≡ false }
-    ensures told { HasCleanDisk (state S.Store conn.new) → IfOk result
+    ensures value { HasCleanDisk (state S.Store conn.new) → IfOk result
         (λ apart. IsTrue (state S.Store conn.old).is_open
         × ((state S.Store conn.old).now.schema ≡ our_schema
-        → IsTrue apart ↔ HasApart (state S.Store conn.old).now)) }
+        → IsTrue apart ↔ HasRowidsApart (state S.Store conn.old).now)) }
     ensures kept { HasCleanDisk (state S.Store conn.new)
         → IsKept (state S.Store conn.old) (state S.Store conn.new) }
     ensures idle { conn.new.in_transaction ≡ false }

@@ -17,17 +17,17 @@ pub trait Stored: Sized + Drop {
     /// Its numbers are in the ranges of the program.
     ghost fits: { Self → Type 0 };
 
-    /// The shape of a shown row that tells one.
+    /// The shape of a shown row that gives one.
     ghost is_row: { RowValue → Type 0 };
 
     /// Whether its rowid is a column.
     ghost by_rowid: { Bool };
 
-    /// Whether a shown row tells one.
+    /// Whether a shown row gives one.
     fn is_in(row: &Row) -> bool
         ensures { IsTrue result ↔ is_row row.now };
 
-    /// The one that a shown row tells.
+    /// The one that a shown row gives.
     fn read(alloc: Global, row: &Row) -> Result<Self, Error>
         ensures { IfOk result (λ it. is_row row.now → encode it ≡ as_stored by_rowid row.now) };
 
@@ -36,7 +36,7 @@ pub trait Stored: Sized + Drop {
         → is_row row };
 }
 
-// What a shown row tells, where it tells one.
+// What a shown row gives, where it gives one.
 fn one_in<T: Stored>(alloc: Global, row: &Row) -> Result<Option<T>, Error>
     ensures { IfOk result (λ found. MatchOption found (T.is_row row.now → ⊥)
         (λ it. T.encode it ≡ as_stored T.by_rowid row.now)) }
@@ -48,7 +48,7 @@ fn one_in<T: Stored>(alloc: Global, row: &Row) -> Result<Option<T>, Error>
     }
 }
 
-// What the rows of a whole table tell, where each row tells one. A row is let go once it is told,
+// What the rows of a whole table give, where each row gives one. A row is let go once it is given,
 // so that memory holds a table once.
 pub(crate) fn all_in<T: Stored>(alloc: Global, rows: Vec<Row>) -> Result<Option<Vec<T>>, Error>
     ensures { IfOk result (λ found. MatchOption found (All T.is_row rows.items → ⊥)

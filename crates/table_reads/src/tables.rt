@@ -61,7 +61,7 @@ fn groupings<S: Alter>(
     version: Version,
 ) -> Result<Option<Vec<StoredGrouping>>, Error>
     requires { conn.old.in_transaction ≡ false }
-    ensures told { HasCleanDisk (state S.Store conn.new) → IfOk result
+    ensures value { HasCleanDisk (state S.Store conn.new) → IfOk result
         (Reads (HoldsNoneOf version) (λ db all. HasGroupings version all.items db)
         (state S.Store conn.old)) }
     ensures kept { HasCleanDisk (state S.Store conn.new)
@@ -82,7 +82,7 @@ fn marks<S: Alter>(
     version: Version,
 ) -> Result<Option<Vec<StoredMark>>, Error>
     requires { conn.old.in_transaction ≡ false }
-    ensures told { HasCleanDisk (state S.Store conn.new) → IfOk result (λ found.
+    ensures value { HasCleanDisk (state S.Store conn.new) → IfOk result (λ found.
         MatchOption found (HoldsNoneOf version (state S.Store conn.old).now)
         (λ all. HasMarks version all.items (state S.Store conn.old).now)) }
     ensures kept { HasCleanDisk (state S.Store conn.new)
@@ -105,7 +105,7 @@ pub fn read_all<S: Alter>(
     version: Version,
 ) -> Result<Option<Tables>, Error>
     requires { conn.old.in_transaction ≡ false }
-    ensures told { HasCleanDisk (state S.Store conn.new) → IfOk result
+    ensures value { HasCleanDisk (state S.Store conn.new) → IfOk result
         (Reads (HoldsNoneOf version) (HasRows version)
         (state S.Store conn.old)) }
     ensures kept { HasCleanDisk (state S.Store conn.new)

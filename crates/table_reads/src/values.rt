@@ -133,7 +133,7 @@ pub(crate) fn session_state_at(row: &Row, at: usize) -> SessionState
     }
 }
 
-// The mark of encipherment that the number in this column stands for.
+// The encipherment mark that the number in this column stands for.
 pub(crate) fn enc_at(row: &Row, at: usize) -> Enc
     ensures { number_in (column row.now at) < 3 → enc_code result ≡ number_in (column row.now at) }
 {

@@ -8,7 +8,7 @@ ghost use Rattle.sql_tables.specs.Finds.{Finds};
 ghost use Rattle.sql_tables.specs.Ours.{AreThere};
 ghost use Rattle.sql_tables.specs.Versions.{numbered_version_at, schema_of};
 ghost use Rattle.sql_rows.specs.Encoding.{number};
-ghost use Rattle.sql_rows.specs.Image.{told};
+ghost use Rattle.sql_rows.specs.Image.{given_rows};
 ghost use Rattle.table_reads.specs.Holding.{SaysVersion, number_of};
 ghost use Rattle.table_reads.specs.Version.{IsVersionAlone, IsVersionRow, numbered_row};
 
@@ -42,11 +42,11 @@ fn is_version_alone(rows: &[Row], version: u64) -> bool
 // Whether `version` has one row, which says this version.
 fn says_version<S: Alter>(conn: &mut Connection<S>, version: u64) -> Result<bool, Error>
     requires { conn.old.in_transaction ≡ false }
-    ensures told { HasCleanDisk (state S.Store conn.new) → IfOk result
+    ensures value { HasCleanDisk (state S.Store conn.new) → IfOk result
         (λ says. IsTrue (state S.Store conn.old).is_open × ((n tree : ℕ)
         → Finds (state S.Store conn.old).now.schema (numbered_version_at n tree)
         → IsTrue says ↔ IsPermutation (numbered_row version ∷ [])
-        (told true ((state S.Store conn.old).now.trees tree)))) }
+        (given_rows true ((state S.Store conn.old).now.trees tree)))) }
     ensures kept { HasCleanDisk (state S.Store conn.new)
         → IsKept (state S.Store conn.old) (state S.Store conn.new) }
     ensures idle { conn.new.in_transaction ≡ false }
@@ -70,7 +70,7 @@ fn number(version: Version) -> u64
 /// changed, and a crash leaves what it could leave before.
 pub fn says<S: Alter>(conn: &mut Connection<S>, version: Version) -> Result<bool, Error>
     requires { conn.old.in_transaction ≡ false }
-    ensures told { HasCleanDisk (state S.Store conn.new) → IfOk result
+    ensures value { HasCleanDisk (state S.Store conn.new) → IfOk result
         (λ says. IsTrue (state S.Store conn.old).is_open
         × (AreThere (state S.Store conn.old).now.schema (schema_of version).tables
         → IsTrue says ↔ SaysVersion version (state S.Store conn.old).now)) }

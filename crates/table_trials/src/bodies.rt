@@ -1,9 +1,9 @@
 //! Exchanges by what differs in them: the bodies of requests and replies are compact JSON.
 
-/// The call is accepted, and told so.
+/// The call is accepted, and answered so.
 macro_rules! accepted {
-    ($target:expr, $asked:expr, $told:expr) => {
-        $crate::exchanges::Exchange($target, $asked, 200, $told)
+    ($target:expr, $asked:expr, $reply_to:expr) => {
+        $crate::exchanges::Exchange($target, $asked, 200, $reply_to)
     };
 }
 

@@ -1,11 +1,11 @@
-//! Files of earlier versions, taken up and served: what was told is told again, a refusal that was
-//! kept stays, a card more is made, and the batches are reported.
+//! Files of earlier versions, taken up and served: what was answered is answered again, a refusal
+//! that was kept stays, a card more is made, and the batches are reported.
 use crate::bodies::{accepted, answer, command, ended, imported, open, opened};
 use crate::disks::{Ended, Left, close, nothing, open};
 use crate::exchanges::Exchange;
 use crate::stops::{NO_STOP, adopted, created};
 use crate::stories::{MADE_AGAIN, NUMBER_RELEASED, SET_UP};
-use crate::versions::{ONE, TWO, Version, tell, turned};
+use crate::versions::{ONE, TWO, Version, send_all, turned};
 use job_facts::JobStore;
 use reports::close_report;
 use sqlite::types::ValueRef;
@@ -100,7 +100,7 @@ fn made<S: Alter + Drop>(
     Ok(conn)
 }
 
-// What the set-up is told again where its numbers were released, and where they weren't.
+// What the set-up is answered again where its numbers were released, and where they weren't.
 fn set_up_again(version: &Version) -> [Exchange; 3] {
     let mut again = SET_UP;
     if !version.asked.is_empty() {
@@ -118,12 +118,12 @@ fn check_served<S: JobStore>(
     version: &Version,
     store: &mut S,
 ) -> Result<(), Fail> {
-    tell(rt, alloc, store, &set_up_again(version))?;
-    tell(rt, alloc, store, version.asked)?;
-    tell(rt, alloc, store, MADE_AGAIN.exchanges)?;
-    tell(rt, alloc, store, &[REFUSED])?;
-    tell(rt, alloc, store, &ANEW)?;
-    tell(rt, alloc, store, &[REFUSED])?;
+    send_all(rt, alloc, store, &set_up_again(version))?;
+    send_all(rt, alloc, store, version.asked)?;
+    send_all(rt, alloc, store, MADE_AGAIN.exchanges)?;
+    send_all(rt, alloc, store, &[REFUSED])?;
+    send_all(rt, alloc, store, &ANEW)?;
+    send_all(rt, alloc, store, &[REFUSED])?;
     for (batch, report) in REPORTS {
         let batch = Name::new(batch).ok_or("no name")?;
         let mut text = Vec::new(alloc);

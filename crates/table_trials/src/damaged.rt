@@ -4,7 +4,7 @@ use crate::exchanges::Exchange;
 use crate::refused::tables;
 use crate::stops::adopted;
 use crate::stories::{MADE_AGAIN, SET_UP};
-use crate::versions::{all_rows, tell};
+use crate::versions::{all_rows, send_all};
 use over_tables::{FileFault, Wanted, store_over};
 use schema::SqlStore;
 use sqlite::{Alter, Connection};
@@ -184,9 +184,9 @@ fn sound<S: Alter + Drop>(
     alloc: Global,
     mut store: SqlStore<S>,
 ) -> Result<Connection<S>, Fail> {
-    tell(rt, alloc, &mut store, &SET_UP)?;
-    tell(rt, alloc, &mut store, MADE_AGAIN.exchanges)?;
-    tell(rt, alloc, &mut store, &FURTHER)?;
+    send_all(rt, alloc, &mut store, &SET_UP)?;
+    send_all(rt, alloc, &mut store, MADE_AGAIN.exchanges)?;
+    send_all(rt, alloc, &mut store, &FURTHER)?;
     Ok(store.close())
 }
 

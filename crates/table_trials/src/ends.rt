@@ -69,7 +69,7 @@ fn each_end_has_its_status_and_its_words(rt: HostRuntime) -> Result<(), Fail> {
     Ok(())
 }
 
-// Faults of a batch with their numbers, and the rows that they are told with.
+// Faults of a batch with their numbers, and the rows that they are printed with.
 static FAULTS: [(Kind, u8, u32); 14] = [
     (Kind::MarksDiffer, 21, 2),
     (Kind::IdentifierTwice, 22, 3),

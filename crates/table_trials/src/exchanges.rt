@@ -1,4 +1,4 @@
-//! What is asked of a store, and what is told. What is refused memory is asked again.
+//! What is asked of a store, and what is answered. What is refused memory is asked again.
 ghost use Rattle.std.specs.Prelude.{IfOk};
 ghost use Rattle.job_facts.specs.Requests.{IsArrival};
 ghost use Rattle.http_requests.specs.Asks.{IsInRange};
@@ -13,7 +13,7 @@ use std::process::Abort;
 use std::test::Fail;
 use worked_files::{JSON, post, reply_bytes};
 
-/// The target of a message, its body, and the status and the body that are told.
+/// The target of a message, its body, and the status and the body that are answered.
 #[derive(Clone, Copy)]
 pub(crate) struct Exchange(
     pub(crate) &'static str,
@@ -71,8 +71,8 @@ pub(crate) fn arrival(alloc: Global, exchange: &Exchange) -> Result<Arrival, Fai
     }
 }
 
-/// What an arrival is told.
-pub(crate) fn told<S: JobStore>(
+/// What an arrival is answered.
+pub(crate) fn reply_to<S: JobStore>(
     alloc: Global,
     store: &mut S,
     arrival: &Arrival,
@@ -84,7 +84,7 @@ pub(crate) fn told<S: JobStore>(
 }
 
 /// The status and the body are those that an exchange says.
-pub(crate) fn check_told(rt: &impl Abort, exchange: &Exchange, kept: &Kept) {
+pub(crate) fn check_reply(rt: &impl Abort, exchange: &Exchange, kept: &Kept) {
     let Exchange(target, asked, status, body) = *exchange;
     assert_eq!(rt; kept.status, status, "{target} {asked}");
     assert_eq!(rt; kept.body.as_slice(), body.as_bytes(), "{target} {asked}");

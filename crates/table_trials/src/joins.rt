@@ -11,7 +11,7 @@ use std::alloc::{AllocError, Global};
 use std::env::VarError;
 use std::process::Abort;
 use std::test::Fail;
-use subcommands::{End, end_of_close, explain, level_by, note_refusal, told_end, wanted_of};
+use subcommands::{End, end_of_close, end_of_words, explain, level_by, note_refusal, wanted_of};
 
 // What words that give no subcommand print into two pages, and how much of each is used.
 fn explained(
@@ -26,7 +26,7 @@ fn explained(
         Err(fault) => {
             let (mut output, mut errors) = (&mut output[..], &mut errors[..]);
             let written = explain(&fault, &mut output, &mut errors);
-            let end = told_end(&fault, written.is_ok());
+            let end = end_of_words(&fault, written.is_ok());
             let printed = rooms.0.saturating_sub(output.len());
             let complained = rooms.1.saturating_sub(errors.len());
             Ok((end, printed, complained))

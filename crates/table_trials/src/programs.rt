@@ -8,7 +8,7 @@ use std::alloc::{AllocError, Global};
 use std::io::{self, BufWriter, Cursor, ErrorKind, Write};
 use std::process::Abort;
 use std::test::Fail;
-use subcommands::{End, run, run_feed, told_end};
+use subcommands::{End, end_of_words, run, run_feed};
 use worked_files::{JSON, reply_bytes};
 
 /// Takes all, and fails to flush.
@@ -40,12 +40,12 @@ fn end_of<W: Write + Drop>(
                 End::Usage
             }
         }
-        Err(fault) => told_end(&fault, true),
+        Err(fault) => end_of_words(&fault, true),
     }
 }
 
 // The same to a page, and how much of it was printed. Refused memory is a fault, so that the run
-// comes again, also where the first reply of a drill tells it.
+// comes again, also where the first reply of a drill shows it.
 fn printed(
     alloc: Global,
     words: &[&str],

@@ -1,9 +1,9 @@
 //! Stories over lists, and over tables in memory. Each test is right with ample memory, and says
-//! the same whichever one allocation is refused: a call tells its want of memory, leaves all as it
-//! was, and answers right when it comes again.
+//! the same whichever one allocation is refused: a call reports that it is out of memory, leaves
+//! all as it was, and answers right when it comes again.
 ghost use Rattle.job_facts.specs.Requests.{IsArrival};
 
-use crate::exchanges::{Exchange, arrival, at_last, check_told, told};
+use crate::exchanges::{Exchange, arrival, at_last, check_reply, reply_to};
 use crate::stories::{
     CLOSING, KNOWN, LATE_RESET, MADE_AGAIN, RELEASES, Story, TAKEN, TURNED_DOWN, WITHDRAWAL, WORDS,
 };
@@ -53,9 +53,9 @@ fn counts_of<S: JobStore>(store: &mut S, arrival: &Arrival) -> Result<[u64; 5], 
     ])
 }
 
-// What an arrival is told. Where memory was refused, all stands as before, and it is told what it
-// should at once.
-fn told_at_last<S: JobStore>(
+// What an arrival is answered. Where memory was refused, all stands as before, and it is answered
+// what it should at once.
+fn reply_at_last<S: JobStore>(
     rt: &impl Abort,
     alloc: Global,
     store: &mut S,
@@ -65,20 +65,21 @@ fn told_at_last<S: JobStore>(
 {
     let counts = at_last!(counts_of(store, arrival))?;
     let (batch, blanks) = (batch_of(store)?, blanks_of(store)?);
-    match told(alloc, store, arrival) {
+    match reply_to(alloc, store, arrival) {
         Ok(kept) => Ok(kept),
         Err(fault) => {
             assert_eq!(rt; fault, StoreFault::Memory);
             assert_eq!(rt; counts_of(store, arrival)?, counts);
             assert_eq!(rt; batch_of(store)?, batch);
             assert_eq!(rt; blanks_of(store)?, blanks);
-            Ok(told(alloc, store, arrival)?)
+            Ok(reply_to(alloc, store, arrival)?)
         }
     }
 }
 
-// Each exchange is told at last what it says, and so when it comes again, which changes nothing.
-fn tell<S: JobStore>(
+// Each exchange is answered at last what it says, and so when it comes again, which changes
+// nothing.
+fn send_all<S: JobStore>(
     rt: &impl Abort,
     alloc: Global,
     store: &mut S,
@@ -86,23 +87,23 @@ fn tell<S: JobStore>(
 ) -> Result<(), Fail> {
     for exchange in exchanges {
         let arrival = arrival(alloc, exchange)?;
-        check_told(rt, exchange, &told_at_last(rt, alloc, store, &arrival)?);
+        check_reply(rt, exchange, &reply_at_last(rt, alloc, store, &arrival)?);
         let counts = at_last!(counts_of(store, &arrival))?;
-        check_told(rt, exchange, &told_at_last(rt, alloc, store, &arrival)?);
+        check_reply(rt, exchange, &reply_at_last(rt, alloc, store, &arrival)?);
         assert_eq!(rt; at_last!(counts_of(store, &arrival))?, counts);
     }
     Ok(())
 }
 
-// A story is told to a store without facts, and B1 and the blanks of P1 stand then as it says.
+// A story is sent to a store without facts, and B1 and the blanks of P1 stand then as it says.
 fn check_over<S: JobStore>(
     rt: &impl Abort,
     alloc: Global,
     store: &mut S,
     story: &Story,
 ) -> Result<(), Fail> {
-    tell(rt, alloc, store, story.stock)?;
-    tell(rt, alloc, store, story.exchanges)?;
+    send_all(rt, alloc, store, story.stock)?;
+    send_all(rt, alloc, store, story.exchanges)?;
     assert_eq!(rt; batch_of(store)?, story.batch);
     assert_eq!(rt; blanks_of(store)?, story.blanks);
     Ok(())

@@ -1,11 +1,11 @@
 //! A run over files that fail from some call on: a stop at each call of either file.
 //!
-//! The arrival that meets the stop is told that the device failed, and so is each behind it. What
-//! is left of the files is opened again, also where power was lost: its rows are those from before
-//! that arrival, or those from after it. Where no power was lost the whole run comes again, to
-//! what was adopted.
+//! The arrival that meets the stop is answered that the device failed, and so is each behind it.
+//! What is left of the files is opened again, also where power was lost: its rows are those from
+//! before that arrival, or those from after it. Where no power was lost the whole run comes again,
+//! to what was adopted.
 use crate::disks::{Ended, Left, Stop, close, nothing, open};
-use crate::exchanges::{Exchange, arrival, check_told, told};
+use crate::exchanges::{Exchange, arrival, check_reply, reply_to};
 use crate::stories::{MADE_AGAIN, NUMBER_RELEASED, RELEASE, SET_UP};
 use job_facts::{JobStore, StoreFault};
 use schema::SqlStore;
@@ -48,9 +48,9 @@ fn exchanges(alloc: Global) -> Result<Vec<Exchange>, AllocError> {
     Ok(all)
 }
 
-// Sends exchanges to a store. Answers how many are told as they must be; each behind these is told
-// that the device failed.
-fn told_before_stop<S: JobStore>(
+// Sends exchanges to a store. Answers how many are answered as they must be; each behind these is
+// answered that the device failed.
+fn replies_before_stop<S: JobStore>(
     rt: &impl Abort,
     alloc: Global,
     store: &mut S,
@@ -58,10 +58,10 @@ fn told_before_stop<S: JobStore>(
 ) -> Result<usize, Fail> {
     let mut count = 0usize;
     for (place, exchange) in exchanges.iter().enumerate() {
-        match told(alloc, store, &arrival(alloc, exchange)?) {
+        match reply_to(alloc, store, &arrival(alloc, exchange)?) {
             Ok(kept) => {
                 assert_eq!(rt; count, place);
-                check_told(rt, exchange, &kept);
+                check_reply(rt, exchange, &kept);
                 count = count.saturating_add(1);
             }
             Err(fault) => assert_eq!(rt; fault, StoreFault::Device, "at {place}"),
@@ -70,9 +70,9 @@ fn told_before_stop<S: JobStore>(
     Ok(count)
 }
 
-// Sends a run again to a store that made so many steps of it. Each exchange is told as in a run
+// Sends a run again to a store that made so many steps of it. Each exchange is answered as in a run
 // without a stop, but for released numbers.
-fn check_told_again<S: JobStore>(
+fn check_replies_again<S: JobStore>(
     rt: &impl Abort,
     alloc: Global,
     store: &mut S,
@@ -85,8 +85,8 @@ fn check_told_again<S: JobStore>(
         if is_released && place < SET_UP.len() {
             wanted = Exchange(wanted.0, wanted.1, 409, NUMBER_RELEASED);
         }
-        let kept = told(alloc, store, &arrival(alloc, exchange)?)?;
-        check_told(rt, &wanted, &kept);
+        let kept = reply_to(alloc, store, &arrival(alloc, exchange)?)?;
+        check_reply(rt, &wanted, &kept);
     }
     Ok(())
 }
@@ -142,8 +142,8 @@ pub(crate) fn adopted<S: Alter + Drop>(
     }
 }
 
-// Makes the steps of a run over an empty database. Answers how many are told as they must be, and
-// the rows behind them if these are all.
+// Makes the steps of a run over an empty database. Answers how many are answered as they must be,
+// and the rows behind them if these are all.
 fn steps_over<S: Alter + Drop>(
     rt: &impl Abort,
     alloc: Global,
@@ -155,12 +155,12 @@ fn steps_over<S: Alter + Drop>(
         Ok(store) => store,
         Err(conn) => return Ok((0, rows, conn)),
     };
-    let told = told_before_stop(rt, alloc, &mut store, exchanges)?;
+    let reply_to = replies_before_stop(rt, alloc, &mut store, exchanges)?;
     let mut conn = store.close();
-    if told == exchanges.len() {
+    if reply_to == exchanges.len() {
         rows = rows_of(alloc, &mut conn)?;
     }
-    Ok((told.saturating_add(1), rows, conn))
+    Ok((reply_to.saturating_add(1), rows, conn))
 }
 
 // Makes the steps of a run over new files with this stop.
@@ -184,19 +184,19 @@ fn steps_before_stop(
     }
 }
 
-// How many steps have the rows of a database, where so many were told: these, or one more.
+// How many steps have the rows of a database, where so many were answered: these, or one more.
 fn steps_of<S: Alter>(
     rt: &impl Abort,
     alloc: Global,
     run: &Run,
-    told: usize,
+    reply_to: usize,
     conn: &mut Connection<S>,
 ) -> Result<usize, Fail> {
     let rows = rows_of(alloc, conn)?;
-    let near = run.rows.get(told..).unwrap_or(&[]);
+    let near = run.rows.get(reply_to..).unwrap_or(&[]);
     let behind = near.iter().take(2).position(|its| *its == rows);
-    assert!(rt; behind.is_some(), "behind {told} steps: {rows}");
-    Ok(told.saturating_add(behind.unwrap_or(0)))
+    assert!(rt; behind.is_some(), "behind {reply_to} steps: {rows}");
+    Ok(reply_to.saturating_add(behind.unwrap_or(0)))
 }
 
 // Sends a run again to a store that made so many steps of it. At the end its rows are those of a
@@ -208,24 +208,24 @@ fn check_again<S: Alter + Drop>(
     steps: usize,
     mut store: SqlStore<S>,
 ) -> Result<(), Fail> {
-    check_told_again(rt, alloc, &mut store, run, steps)?;
+    check_replies_again(rt, alloc, &mut store, run, steps)?;
     let mut conn = store.close();
     let last = run.rows.len().saturating_sub(1);
     assert_eq!(rt; steps_of(rt, alloc, run, last, &mut conn)?, last);
     Ok(())
 }
 
-// A database has the rows of the steps that were told, or of one more. Then, if that is asked for,
-// an empty one gets our tables, any other is adopted, and the run is sent again.
+// A database has the rows of the steps that were answered, or of one more. Then, if that is asked
+// for, an empty one gets our tables, any other is adopted, and the run is sent again.
 fn check_over<S: Alter + Drop>(
     rt: &impl Abort,
     alloc: Global,
     run: &Run,
-    told: usize,
+    reply_to: usize,
     sends_again: bool,
     mut conn: Connection<S>,
 ) -> Result<(), Fail> {
-    let steps = steps_of(rt, alloc, run, told, &mut conn)?;
+    let steps = steps_of(rt, alloc, run, reply_to, &mut conn)?;
     if !sends_again {
         return Ok(());
     }
@@ -243,12 +243,12 @@ fn check_left(
     rt: &impl Abort,
     alloc: Global,
     run: &Run,
-    told: usize,
+    reply_to: usize,
     sends_again: bool,
     left: &Left,
 ) -> Result<(), Fail> {
     match open(alloc, left, NO_STOP) {
-        Ok(conn) => check_over(rt, alloc, run, told, sends_again, conn),
+        Ok(conn) => check_over(rt, alloc, run, reply_to, sends_again, conn),
         Err(_) => Err(Fail::new("what is left isn't opened")),
     }
 }

@@ -46,7 +46,7 @@ const BUSY: &str = r#"{"code":61,"refused":"machine-busy","session":1}"#;
 
 const NO_ROWS: &str = "record,aid,rank,enc,tol,dgi\n";
 
-const NO_ROWS_TOLD: &str = r#"{"code":40,"refused":"no-rows","row":1}"#;
+const NO_ROWS_REPLY: &str = r#"{"code":40,"refused":"no-rows","row":1}"#;
 
 const OPENING: Exchange = accepted!("/c/m1/1", open!("B1", 1000), opened!("B1", 1000, "R1", 1));
 
@@ -99,7 +99,7 @@ pub(crate) const CLOSING: Story = Story {
 pub(crate) const WITHDRAWAL: Story = Story {
     stock: &SET_UP,
     exchanges: &[
-        Exchange("/c/office/4/batch/B2/P1", NO_ROWS, 409, NO_ROWS_TOLD),
+        Exchange("/c/office/4/batch/B2/P1", NO_ROWS, 409, NO_ROWS_REPLY),
         accepted!("/c/office/5", DISCARD, DISCARDED),
         refused!("/c/office/6", DISCARD, 60, "blank-used"),
         OPENING,
@@ -195,7 +195,7 @@ pub(crate) const KNOWN: Story = Story {
             55,
             "batch-differs"
         ),
-        Exchange("/c/office/6/batch/B2/P1", NO_ROWS, 409, NO_ROWS_TOLD),
+        Exchange("/c/office/6/batch/B2/P1", NO_ROWS, 409, NO_ROWS_REPLY),
     ],
     batch: [1, 1, 0, 0, 0, 0, 0, 0],
     blanks: [1, 3, 0, 0, 0, 0],
@@ -245,7 +245,7 @@ pub(crate) const RELEASE: Exchange = accepted!(
     r#"{"mark":3,"result":"released"}"#
 );
 
-/// What is told of one of these numbers then.
+/// What is answered of one of these numbers then.
 pub(crate) const NUMBER_RELEASED: &str = r#"{"code":73,"mark":3,"refused":"number-released"}"#;
 
 /// One of these comes late.

@@ -5,7 +5,7 @@
 //! The tests over tables in memory say the same whichever one allocation is refused.
 use crate::bodies::{accepted, made, product};
 use crate::disks::{Ended, Left, Stop, close, nothing, open};
-use crate::exchanges::{Exchange, arrival, at_last, check_told, told};
+use crate::exchanges::{Exchange, arrival, at_last, check_reply, reply_to};
 use crate::refused::tables;
 use crate::stops::{MANY_CALLS, NO_STOP, adopted, created, put_rows, rows_of};
 use crate::stories::{MADE_AGAIN, RELEASE, SET_UP};
@@ -31,7 +31,7 @@ const GROUPING: &str = "CREATE TABLE grouping (batch INTEGER NOT NULL, line INTE
 
 const GROUPINGS: &str = "INSERT INTO grouping SELECT * FROM grouping2";
 
-// It knows two marks of encipherment, and no released numbers.
+// It knows two encipherment marks, and no released numbers.
 pub(crate) const ONE: Version = Version {
     asked: &[],
     texts: &[
@@ -105,8 +105,8 @@ fn check_same(rt: &impl Abort, alloc: Global, found: &str, wanted: &str) -> Resu
     Ok(())
 }
 
-// Exchanges are told to a store.
-pub(crate) fn tell<S: JobStore>(
+// Exchanges are sent to a store.
+pub(crate) fn send_all<S: JobStore>(
     rt: &impl Abort,
     alloc: Global,
     store: &mut S,
@@ -114,22 +114,22 @@ pub(crate) fn tell<S: JobStore>(
 ) -> Result<(), Fail> {
     for exchange in exchanges {
         let arrival = arrival(alloc, exchange)?;
-        check_told(rt, exchange, &at_last!(told(alloc, store, &arrival))?);
+        check_reply(rt, exchange, &at_last!(reply_to(alloc, store, &arrival))?);
     }
     Ok(())
 }
 
-// Tables of a version, from a store without facts that is told the set-up, what is asked behind it,
-// and a card that is spoiled and made again. Answers their rows in our own tables too.
+// Tables of a version, from a store without facts that is answered the set-up, what is asked behind
+// it, and a card that is spoiled and made again. Answers their rows in our own tables too.
 pub(crate) fn turned<S: Alter + Drop>(
     rt: &impl Abort,
     alloc: Global,
     version: &Version,
     mut store: SqlStore<S>,
 ) -> Result<(String, Connection<S>), Fail> {
-    tell(rt, alloc, &mut store, &SET_UP)?;
-    tell(rt, alloc, &mut store, version.asked)?;
-    tell(rt, alloc, &mut store, MADE_AGAIN.exchanges)?;
+    send_all(rt, alloc, &mut store, &SET_UP)?;
+    send_all(rt, alloc, &mut store, version.asked)?;
+    send_all(rt, alloc, &mut store, MADE_AGAIN.exchanges)?;
     let mut conn = store.close();
     let rows = at_last!(all_rows(alloc, &mut conn))?;
     for text in version.texts {

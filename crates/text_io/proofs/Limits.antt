@@ -1,14 +1,14 @@
 -- What a reader gave that was asked for a limited number of bytes.
 use Rattle.std.proofs.Common.{ℕ, ◌<◌, ◌≤◌, List, length, take, Option, Some, None, option_map, refl, sym, ap, ◌∙◌, arith}
 use Rattle.std.proofs.lemmas.List.{length-take, take_all}
-use Rattle.text_io.specs.Inputs.{Tells}
+use Rattle.text_io.specs.Inputs.{Agrees}
 
-pub tells_whole : (known : Option (List ℕ)) (limit : ℕ) (items : List ℕ) → Tells (option_map (take limit) known) items → length items < limit → Tells known items
-tells_whole None limit items read few = tt
-tells_whole (Some all) limit items read few =
+pub agrees_whole : (known : Option (List ℕ)) (limit : ℕ) (items : List ℕ) → Agrees (option_map (take limit) known) items → length items < limit → Agrees known items
+agrees_whole None limit items read few = tt
+agrees_whole (Some all) limit items read few =
     sym (take_all limit all (omega (arith, ap length read, length-take limit all))) ∙ read
 
-pub tells_over : (known : Option (List ℕ)) (limit : ℕ) (items : List ℕ) → Tells (option_map (take limit) known) items → limit ≤ length items
-    → (raw : List ℕ) × Tells known raw × (limit ≤ length raw)
-tells_over None limit items read many = (items, tt, many)
-tells_over (Some all) limit items read many = (all, refl, omega (arith, ap length read, length-take limit all))
+pub agrees_over : (known : Option (List ℕ)) (limit : ℕ) (items : List ℕ) → Agrees (option_map (take limit) known) items → limit ≤ length items
+    → (raw : List ℕ) × Agrees known raw × (limit ≤ length raw)
+agrees_over None limit items read many = (items, tt, many)
+agrees_over (Some all) limit items read many = (all, refl, omega (arith, ap length read, length-take limit all))

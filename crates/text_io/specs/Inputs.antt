@@ -11,15 +11,15 @@ abbrev pub most_input : ℕ
 most_input = 16777216
 
 -- the bytes are those that are known, if they are
-abbrev pub Tells : Option (List ℕ) → List ℕ → Type 0
-Tells known bytes = IfSome known (λ told. told ≡ bytes)
+abbrev pub Agrees : Option (List ℕ) → List ℕ → Type 0
+Agrees known bytes = IfSome known (λ given. given ≡ bytes)
 
 -- all of the bytes, or none where they are more than the most
 abbrev pub IsWithin : ℕ → List ℕ → Option (Vec ℕ Global) → Type 0
 IsWithin most bytes (Some v) = (v.items ≡ bytes) × (length bytes ≤ most)
 IsWithin most bytes None = most < length bytes
 
--- an error of a reader is want of memory where its kind is that
+-- an error of a reader means out of memory where its kind is that
 abbrev pub fault_of : ErrorKind → ReadFault
 fault_of kind.OutOfMemory = Memory
 fault_of _ = Failed

@@ -1,7 +1,7 @@
 //! An input, read to its end.
 ghost use Rattle.std.specs.Prelude.{◌≡◌, ℕ, List, IfOk};
 ghost use Rattle.std.specs.IoError.{error_kind};
-ghost use Rattle.text_io.specs.Inputs.{IsWithin, Tells, fault_of, fault_text};
+ghost use Rattle.text_io.specs.Inputs.{Agrees, IsWithin, fault_of, fault_text};
 
 use std::alloc::Global;
 use std::error::Error;
@@ -49,7 +49,7 @@ impl Error for ReadFault {}
 
 /// All that a reader gives. Errors: a failed read; refused memory.
 pub fn read_whole<R: Read>(alloc: Global, reader: &mut R) -> Result<Vec<u8>, ReadFault>
-    ensures { IfOk result (λ raw. Tells (R.remaining reader.old) raw.items) }
+    ensures { IfOk result (λ raw. Agrees (R.remaining reader.old) raw.items) }
 {
     let mut raw = Vec::new(alloc);
     reader.read_to_end(&mut raw)?;
@@ -64,7 +64,7 @@ pub fn read_within<R: Read>(
     most: u32,
 ) -> Result<Option<Vec<u8>>, ReadFault>
     ensures { IfOk result (λ read. (raw : List ℕ)
-        × Tells (R.remaining reader.old) raw × IsWithin most raw read) }
+        × Agrees (R.remaining reader.old) raw × IsWithin most raw read) }
 {
     let mut limited = (&mut *reader).take(u64::from(most) + 1);
     let raw = read_whole(alloc, &mut limited)?;

@@ -13,7 +13,7 @@ use std::alloc::AllocError;
 use store_data::PlanFault;
 use wire::AskFault;
 
-/// A fault that may be want of memory.
+/// A fault that may be out of memory.
 pub(crate) trait MayWantMemory {
     fn is_memory(&self) -> bool;
 }

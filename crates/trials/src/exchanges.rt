@@ -13,7 +13,7 @@ use std::test::Fail;
 use store_data::{Name, Product};
 use wire::{AskFault, Asked, FixedReply, Pieces, Reading, read_message, to_ask};
 
-/// What is told where the store failed, or memory was refused.
+/// What is answered where the store failed, or memory was refused.
 pub(crate) const UNAVAILABLE: &[u8] =
     b"HTTP/1.1 503 Service Unavailable\r\nContent-Type: application/json\r\nContent-Length: 32\r\nConnection: close\r\n\r\n{\"code\":503,\"refused\":\"storage\"}";
 
@@ -91,7 +91,7 @@ pub(crate) fn asked(alloc: Global, bytes: &[u8]) -> Result<Asked, AskFault>
 }
 
 /// What becomes of a connection that brings these bytes, and what was written; it comes again where
-/// it is told refused memory, or would be with more room.
+/// it is answered refused memory, or would be with more room.
 pub(crate) fn served(
     alloc: Global,
     store: &mut ListStore,

@@ -7,7 +7,7 @@ use job_facts::{ServerStore, StoreFault};
 use list_store::ListStore;
 use server::{
     Connections, MemoryConnections, NextFault, Opened, ServeStop, Served, refusal_in,
-    serve_and_tell,
+    serve_and_report,
 };
 use std::alloc::{AllocError, Global};
 use std::io::Write;
@@ -91,7 +91,7 @@ fn served_over<S: ServerStore + Drop>(
     let mut connections = MemoryConnections::new(alloc, inputs(alloc, texts)?, 512);
     let mut lines = Vec::new(alloc);
     let mut events = EventLog::new(level, Vec::new(alloc));
-    let outcome = serve_and_tell(
+    let outcome = serve_and_report(
         alloc,
         store,
         &mut connections,
@@ -332,7 +332,7 @@ fn serve_cut<W: Write, E: Write + Drop>(
     };
     let store = ListStore::new(alloc);
     let turns = texts.len().min(6) as u32;
-    serve_and_tell(
+    serve_and_report(
         alloc,
         store,
         &mut connections,

@@ -11,15 +11,15 @@ use std::test::Fail;
 
 const RESET: &[u8] = b"POST /c/m1/1 HTTP/1.1\r\nContent-Length: 14\r\n\r\n{\"do\":\"reset\"}";
 
-// Where connections in memory are used up, that is told.
+// Where connections in memory are used up, that is answered.
 #[test]
-fn the_end_of_connections_is_told(rt: HostRuntime) {
+fn the_end_of_connections_is_reported(rt: HostRuntime) {
     let none = at_last!(serve_inputs(rt.alloc(), Vec::new(rt.alloc()), 1, 1));
     assert_eq!(rt; none.err(), Some(NextFault::Device));
 }
 
 #[test]
-fn connections_end_as_is_told(rt: HostRuntime) {
+fn connections_end_as_reported(rt: HostRuntime) {
     let (broken, refused, account) = (
         b"GET /batch/B9 HTTP/1.1\r\n",
         b"GET /batch/ HTTP/1.1\r\n\r\n",
@@ -39,7 +39,7 @@ fn connections_end_as_is_told(rt: HostRuntime) {
         let writer = Limited::new(room, 512);
         let (mut found, mut writer_after) = served(rt.alloc(), &mut store, bytes, writer);
         if found.decided != decided {
-            // Memory was refused, and the writer had no room to tell it.
+            // Memory was refused, and the writer had no room to report it.
             (found, writer_after) = served(rt.alloc(), &mut store, bytes, writer);
         }
         assert_eq!(rt; found, Served { end, decided }, "at {bytes:?}");

@@ -20,8 +20,8 @@ use text_io::{WriteFailed, write_text};
 
 const TEXT: &[u8] = b"record R1\n";
 
-// What is told where a writer has room for so many bytes of the text.
-fn told(room: usize) -> Result<(), WriteFailed> {
+// What is answered where a writer has room for so many bytes of the text.
+fn end_in(room: usize) -> Result<(), WriteFailed> {
     if room < TEXT.len() {
         Err(WriteFailed)
     } else {
@@ -35,14 +35,14 @@ fn a_text_has_its_beginning_where_a_writer_fails(rt: HostRuntime) {
         for at_a_call in [1, 3, TEXT.len()] {
             let mut writer = Limited::new(room, at_a_call);
             let end = write_text(&mut writer, TEXT);
-            assert_eq!(rt; end, told(room), "at {room}");
+            assert_eq!(rt; end, end_in(room), "at {room}");
             assert_eq!(rt; writer.taken(), &TEXT[..room]);
         }
         // A slice that is full takes none, and doesn't fail.
         let mut taken = [0; 10];
         let mut writer = &mut taken[..room];
         let end = write_text(&mut writer, TEXT);
-        assert_eq!(rt; end, told(room), "at {room}");
+        assert_eq!(rt; end, end_in(room), "at {room}");
         assert_eq!(rt; &taken[..room], &TEXT[..room]);
     }
 }
@@ -141,8 +141,9 @@ const ONE_CHARGED: &str = reply!(
     r#"{"charged":1,"discarded":0,"free":2,"good":0,"lots":1,"product":"P1","running":1,"spoiled":0,"total":3}"#
 );
 
-// A message's reply is told up to the room of its writer, and whole where the message comes again.
-fn check_told_again(
+// A message's reply is answered up to the room of its writer, and whole where the message comes
+// again.
+fn check_sent_again(
     rt: &impl Abort,
     alloc: Global,
     store: &mut ListStore,
@@ -167,24 +168,24 @@ fn check_told_again(
 }
 
 #[test]
-fn a_failed_reply_is_told_again(rt: HostRuntime) {
+fn a_failed_reply_is_sent_again(rt: HostRuntime) {
     let alloc = rt.alloc();
     for room in 0..=CREATED.len() {
         let mut store = ListStore::new(alloc);
         let writer = Limited::new(room, 1 + room % 8);
-        check_told_again(&rt, alloc, &mut store, PRODUCT, CREATED, writer);
+        check_sent_again(&rt, alloc, &mut store, PRODUCT, CREATED, writer);
     }
     let (mut store, writer) = (ListStore::new(alloc), Limited::new(512, 512));
-    check_told_again(&rt, alloc, &mut store, PRODUCT, CREATED, writer);
+    check_sent_again(&rt, alloc, &mut store, PRODUCT, CREATED, writer);
 }
 
-// The card's first command is told again, and one blank is charged.
+// The card's first command is answered again, and one blank is charged.
 #[test]
 fn a_failed_reply_charges_one_blank(rt: HostRuntime) -> Result<(), Fail> {
     let (alloc, opened) = (rt.alloc(), OPENED.as_bytes());
     for room in 0..=opened.len() {
         let mut store = stocked(alloc)?;
-        check_told_again(&rt, alloc, &mut store, OPEN, opened, Limited::new(room, 1));
+        check_sent_again(&rt, alloc, &mut store, OPEN, opened, Limited::new(room, 1));
         let (account, writer) = served(alloc, &mut store, BLANKS, Limited::new(512, 512));
         assert_eq!(rt; account.end, End::Answered);
         assert_eq!(rt; writer.taken(), ONE_CHARGED.as_bytes(), "at {room}");
@@ -195,7 +196,7 @@ fn a_failed_reply_charges_one_blank(rt: HostRuntime) -> Result<(), Fail> {
 // Two replies, and a line that is none of a script.
 const SCRIPT: &[u8] = b"office 1 {\"do\":\"reset\"}\nget /batch/B9\nsend m1\n";
 
-const TOLD: &str =
+const LINES: &str =
     "200 {\"result\":\"reset\",\"session\":0}\n409 {\"code\":56,\"refused\":\"batch-unknown\"}\n";
 
 // The same where memory was refused to one of the two.
@@ -207,7 +208,7 @@ const SECOND_REFUSED: &[u8] =
 
 fn is_unavailable(taken: &[u8]) -> bool {
     let is_refused = FIRST_REFUSED.starts_with(taken) || SECOND_REFUSED.starts_with(taken);
-    is_refused && !TOLD.as_bytes().starts_with(taken)
+    is_refused && !LINES.as_bytes().starts_with(taken)
 }
 
 // How a drill ends whose writer has so much room, and takes one byte a call; the beginning is
@@ -218,22 +219,22 @@ fn drill_of_limited(rt: &impl Abort, alloc: Global, room: usize) -> Result<(), D
     if is_unavailable(writer.taken()) {
         return Err(DrillStop::Memory);
     }
-    let told = TOLD.as_bytes();
+    let lines = LINES.as_bytes();
     if end == Err(DrillStop::Memory) {
-        assert!(rt; told.starts_with(writer.taken()), "at {room}");
+        assert!(rt; lines.starts_with(writer.taken()), "at {room}");
     } else {
-        assert_eq!(rt; Some(writer.taken()), told.get(..room), "at {room}");
+        assert_eq!(rt; Some(writer.taken()), lines.get(..room), "at {room}");
     }
     end
 }
 
-// A failed write is told before a bad line.
+// A failed write is answered before a bad line.
 #[test]
 fn a_drill_has_its_beginning_where_a_writer_fails(rt: HostRuntime) {
-    for room in 0..TOLD.len() {
+    for room in 0..LINES.len() {
         let end = at_last!(drill_of_limited(&rt, rt.alloc(), room));
         assert_eq!(rt; end, Err(DrillStop::WriteFailed), "at {room}");
     }
-    let end = at_last!(drill_of_limited(&rt, rt.alloc(), TOLD.len()));
+    let end = at_last!(drill_of_limited(&rt, rt.alloc(), LINES.len()));
     assert_eq!(rt; end, Err(DrillStop::BadLine(3)));
 }

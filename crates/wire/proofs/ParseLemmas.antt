@@ -40,13 +40,13 @@ use Rattle.job_facts.specs.declared.reply.Made.{Made}
 use Rattle.job_facts.specs.declared.reply.Made.TheVariants.{Created, Known}
 use Rattle.job_facts.specs.declared.reply.Reply.{Reply}
 use Rattle.job_facts.specs.declared.reply.Reply.TheVariants.{Product, Lot, Import, Opened, Next, Good, Spoiled, Reset, Discarded, Waiting, Withdrawn, Closed, Refused, Busy, Released, NumberReleased, Faulty}
-use Rattle.arrivals.specs.Told.{Told, body_of, status_of}
+use Rattle.arrivals.specs.HttpReplies.{HttpReply, body_of, status_of}
 use Rattle.arrivals.specs.Values.{IsPlain, made_name, value_of}
 use Rattle.arrivals.proofs.Escapes.{escape_plain, hex_plain, name_plain, plain_ascii}
 use Rattle.store_data.specs.Name.{is_name}
 use Rattle.http_messages.specs.declared.reply.Content.TheVariants.{Json}
 use Rattle.wire.specs.ReplyReading.{HasNoBrace, reply_in}
-use Rattle.wire.specs.ReplyText.{AreToldApart, IsReply, reply_bytes}
+use Rattle.wire.specs.ReplyText.{AreDistinctReplies, IsReply, reply_bytes}
 use Rattle.http_requests.specs.Members.{name_at, text_at, value_in}
 use Rattle.http_requests.proofs.RequestLemmas.{value_in-read}
 use Rattle.http_messages.specs.Texts.{head_text, status_text}
@@ -326,11 +326,11 @@ same_reply q r is = cc
 -- what is no reply's text is not this one's
 pub other_reply : (bytes : List ℕ) (q r : Reply) (same : Bool) → Some q ≡ Some r → same ≡ false → (bytes ≡ reply_bytes q → IsTrue same) → bytes ≡ reply_bytes r → ⊥
 other_reply bytes q r same is differs holds text =
-    let told : IsTrue same = holds (text ∙ ap reply_bytes (sym (same_reply q r is))) in
-    let both : false ≡ true = sym differs ∙ told in cc
+    let is_same : IsTrue same = holds (text ∙ ap reply_bytes (sym (same_reply q r is))) in
+    let both : false ≡ true = sym differs ∙ is_same in cc
 
 -- no two replies have one text
-pub told_apart : AreToldApart
-told_apart q r here there same =
-    let read_both : Some (value_of q) ≡ Some (value_of r) = sym (body_is_read q here) ∙ ap (λ (t : Told). read t.body) same ∙ body_is_read r there in
+pub distinct_replies : AreDistinctReplies
+distinct_replies q r here there same =
+    let read_both : Some (value_of q) ≡ Some (value_of r) = sym (body_is_read q here) ∙ ap (λ (t : HttpReply). read t.body) same ∙ body_is_read r there in
     same_reply q r (sym (reply_is_found q here) ∙ ap reply_in (same_value (value_of q) (value_of r) read_both) ∙ reply_is_found r there)

@@ -89,7 +89,7 @@ accepted_in d word =
 abbrev pub faulty_in : Option FaultKind → ℕ → Option Reply
 faulty_in k row = option_map (λ (kind : FaultKind). Faulty (record { row = row; kind = kind })) k
 
--- with the session, the mark or the row that is told beside
+-- with the session, the mark or the row that is given beside
 abbrev pub refused_by : ℕ → Option ℕ → Option ℕ → Option ℕ → Option Reply
 refused_by code (Some s) mark row = Some (Busy s)
 refused_by code None (Some mark) row = Some (NumberReleased mark)

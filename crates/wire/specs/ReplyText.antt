@@ -4,7 +4,7 @@ use Rattle.hex.specs.Hex.{IsBytes}
 use Rattle.job_facts.specs.Sound.{IsName}
 use Rattle.job_facts.specs.declared.reply.Reply.{Reply}
 use Rattle.job_facts.specs.declared.reply.Reply.TheVariants.{Product, Lot, Import, Opened, Next, Good, Spoiled, Reset, Discarded, Waiting, Withdrawn, Closed, Refused, Busy, Released, NumberReleased, Faulty}
-use Rattle.arrivals.specs.Told.{body_of, status_of, told_of}
+use Rattle.arrivals.specs.HttpReplies.{body_of, http_reply_of, status_of}
 use Rattle.http_messages.specs.declared.reply.Content.TheVariants.{Json}
 use Rattle.http_messages.specs.Texts.{reply_text}
 
@@ -33,5 +33,5 @@ IsReply (NumberReleased mark) = mark < 2 ^ 64
 IsReply (Faulty fault) = fault.row < 2 ^ 32
 
 -- no two replies have one text
-abbrev pub AreToldApart : Type 0
-AreToldApart = (q r : Reply) → IsReply q → IsReply r → told_of q ≡ told_of r → q ≡ r
+abbrev pub AreDistinctReplies : Type 0
+AreDistinctReplies = (q r : Reply) → IsReply q → IsReply r → http_reply_of q ≡ http_reply_of r → q ≡ r

@@ -2,7 +2,7 @@
 //! request, and a reply read back.
 #![tactic(auto)]
 
-ghost use Rattle.wire.specs.ReplyText.{AreToldApart};
+ghost use Rattle.wire.specs.ReplyText.{AreDistinctReplies};
 
 mod parse;
 mod sending;
@@ -16,6 +16,6 @@ pub use parse::parse_reply;
 pub use sending::request_text;
 
 /// No two replies have one text: a law. It does nothing.
-pub fn replies_are_told_apart()
-    ensures { AreToldApart }
+pub fn replies_are_distinct()
+    ensures { AreDistinctReplies }
 {}

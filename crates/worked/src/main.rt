@@ -57,7 +57,7 @@ fn run_file(rt: &HostRuntime, name: &str) -> io::Result<bool> {
     match cases(rt.alloc(), text.as_str(), repeats_of(kind)) {
         Ok(cases) => run_cases(rt, name, kind, cases),
         Err(fault) => {
-            tell(rt, name, fault)?;
+            print_fault(rt, name, fault)?;
             Ok(false)
         }
     }
@@ -86,14 +86,14 @@ fn repeats_of(kind: Kind) -> Repeats {
     }
 }
 
-// Tells each case that fails, and how many there are.
+// Prints each case that fails, and how many there are.
 fn run_cases(rt: &HostRuntime, name: &str, kind: Kind, cases: Vec<Case>) -> io::Result<bool> {
     let count = cases.len();
     let mut failed = 0usize;
     for case in cases {
         if let Err(fault) = run_case(rt.alloc(), kind, case) {
             failed = failed.saturating_add(1);
-            tell(rt, name, fault)?;
+            print_fault(rt, name, fault)?;
         }
     }
     if failed > 0 {
@@ -125,7 +125,7 @@ fn run_case(alloc: Global, kind: Kind, case: Case) -> Result<(), CaseFault> {
     }
 }
 
-fn tell(rt: &HostRuntime, name: &str, fault: CaseFault) -> io::Result<()> {
+fn print_fault(rt: &HostRuntime, name: &str, fault: CaseFault) -> io::Result<()> {
     match fault {
         CaseFault::Differs {
             line,

@@ -49,7 +49,7 @@ fn stock<S: JobStore>(alloc: Global, store: &mut S, printed: &Printed) -> Result
     Ok(())
 }
 
-// What a request is told.
+// What a request is answered.
 fn ask<S: JobStore>(
     alloc: Global,
     store: &mut S,

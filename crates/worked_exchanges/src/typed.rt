@@ -92,12 +92,12 @@ fn account<S: JobStore>(
     store: &mut S,
     wanted: Wanted,
 ) -> Result<Vec<u8>, CaseFault> {
-    let (kind, told) = match wanted {
+    let (kind, body_of_reply) = match wanted {
         Wanted::Batch(batch) => (JSON, batch_counts(alloc, store, &batch)),
         Wanted::Blanks(product) => (JSON, blank_counts(alloc, store, &product)),
         Wanted::Report(batch) => (TEXT, report(alloc, store, &batch)),
     };
-    match told {
+    match body_of_reply {
         Ok(body) => Ok(reply_bytes(alloc, 200, kind, None, body.as_slice())?),
         Err(AccountFault::Refused(refusal)) => refused(alloc, refusal),
         Err(AccountFault::Store(_) | AccountFault::Write) => Err(CaseFault::Memory),
@@ -111,11 +111,11 @@ fn report<S: JobStore>(alloc: Global, store: &mut S, batch: &Name) -> Result<Byt
 }
 
 fn refused(alloc: Global, refusal: Refusal) -> Result<Vec<u8>, CaseFault> {
-    told(alloc, &Reply::Refused { refusal })
+    body_of_reply(alloc, &Reply::Refused { refusal })
 }
 
 // The bytes of a reply.
-fn told(alloc: Global, reply: &Reply) -> Result<Vec<u8>, CaseFault> {
+fn body_of_reply(alloc: Global, reply: &Reply) -> Result<Vec<u8>, CaseFault> {
     let body = body_of(alloc, reply)?;
     Ok(reply_bytes(alloc, status_of(reply), JSON, None, body.as_slice())?)
 }
@@ -194,7 +194,7 @@ fn written_again(
     written: &[u8],
 ) -> Result<Option<Vec<u8>>, CaseFault> {
     if let Some(reply) = parse_reply(alloc, written)? {
-        return Ok(Some(told(alloc, &reply)?));
+        return Ok(Some(body_of_reply(alloc, &reply)?));
     }
     match asked(alloc, exchange.input.as_slice())? {
         Some(Asked::Arrival(_)) => Ok(Some(Vec::new(alloc))),

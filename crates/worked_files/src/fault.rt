@@ -19,7 +19,7 @@ pub enum CaseFault {
     Form {
         line: u64,
     },
-    /// Memory was refused, or a call gave up as if it was.
+    /// Memory was refused, or a call failed without cause, as if it was.
     Memory,
 }
 

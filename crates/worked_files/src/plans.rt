@@ -178,7 +178,7 @@ fn file_of(alloc: Global, is_bytes: bool, lines: &[Line]) -> Result<Option<Vec<u
     Ok(Some(bytes))
 }
 
-// What `persod plan` prints, or how it tells its refusal.
+// What `persod plan` prints, or how it prints its refusal.
 fn plan_text(alloc: Global, product: &Product, raw: &[u8]) -> Result<String, CaseFault>
     requires { IsProduct product.now }
 {

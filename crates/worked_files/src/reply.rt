@@ -12,7 +12,7 @@ pub const TEXT: &str = "text/plain";
 /// What must come out of a connection.
 #[derive(Drop)]
 pub enum Wanted {
-    /// Whatever comes, but no giving up.
+    /// Whatever comes, but no failure without cause.
     Any,
     /// Nothing: the message is broken.
     Nothing,

@@ -102,22 +102,22 @@ fn made(
     repeats: Repeats,
 ) -> Result<Case, AllocError> {
     let mut lines = Vec::new(alloc);
-    let mut are_told = false;
+    let mut are_repeated = false;
     let raws = raws.get(..filled(raws)).unwrap_or(raws);
     for (i, raw) in raws.iter().enumerate() {
-        if raw.is_answer && are_told {
+        if raw.is_answer && are_repeated {
             continue;
         }
-        are_told = false;
+        are_repeated = false;
         let Some((first, last)) = raw.range else {
             put(alloc, &mut lines, raw, None)?;
             continue;
         };
-        are_told = repeats == Repeats::WithAnswers && !raw.is_answer;
+        are_repeated = repeats == Repeats::WithAnswers && !raw.is_answer;
         let behind = raws.get(i.saturating_add(1)..).unwrap_or(&[]);
         for n in first..last.saturating_add(1) {
             put(alloc, &mut lines, raw, Some(n))?;
-            if are_told {
+            if are_repeated {
                 put_answers(alloc, &mut lines, behind, n)?;
             }
         }

@@ -5,7 +5,7 @@ ghost use Rattle.std.specs.Prelude.{[], IfOk};
 ghost use Rattle.store_data.specs.Cursor.{IsCursor, cursor_at, segment_at};
 ghost use Rattle.store_data.specs.Sequence.{IsPlan, Plan, commands_of, sequence};
 ghost use Rattle.job_facts.specs.Facts.{Facts, Session};
-ghost use Rattle.job_facts.specs.Handing.{Hands, IsRunning, MayOpen, OpensOrTells, Runs, Went};
+ghost use Rattle.job_facts.specs.Handing.{Hands, IsRunning, MayOpen, OpensOrReplies, Runs, Went};
 ghost use Rattle.job_facts.specs.Rows.{batch_row_of, segment_row, segment_row_of};
 ghost use Rattle.job_facts.specs.Rows.{session_row, session_row_of};
 ghost use Rattle.store_data.specs.declared.cursor.Cursor.{Cursor as CursorValue};
@@ -139,7 +139,7 @@ fn to_open(
     ensures { (f : Facts) → row ≡ batch_row_of f batch.now → busy ≡ running_session f client.now
         → lot ≡ lot_of f.lots blank
         → charged ≡ is_charged f blank → waiting ≡ first_waiting f batch.now
-        → OpensOrTells f client.now batch.now blank result }
+        → OpensOrReplies f client.now batch.now blank result }
 {
     let product = match in_batch(row) {
         Err(refusal) => return Err(Reply::Refused { refusal }),

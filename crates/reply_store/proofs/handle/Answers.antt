@@ -3,32 +3,32 @@ use Rattle.std.proofs.lemmas.Bool.Decides.{nat_tests}
 use Rattle.job_facts.specs.Contents.{entry_of, mark_of}
 use Rattle.job_facts.specs.Store.{IsHonest}
 use Rattle.job_facts.specs.declared.reply.Reply.TheVariants.{NumberReleased}
-use Rattle.arrivals.specs.Meaning.{Arrived, is_released, told_again}
-use Rattle.arrivals.specs.Told.{told_of}
-use Rattle.reply_store.proofs.Handling.{Stays-then, handles_decided, handles_told, no_entry, told_kept, told_released}
+use Rattle.arrivals.specs.Meaning.{Arrived, http_reply_again, is_released}
+use Rattle.arrivals.specs.HttpReplies.{http_reply_of}
+use Rattle.reply_store.proofs.Handling.{Stays-then, answered_kept, answered_released, handles_answered, handles_decided, no_entry}
 use Rattle.reply_store.proofs.handle.Goals as goal
 
 pub returns-then-number-mark-clause-handled : goal.returns-then-number-mark-clause-handled
 returns-then-number-mark-clause-handled g c =
     let state = g.S.JobStore.state in
     let a : Arrived = record { client = c.args.client.now; number = c.args.number; ask = c.args.ask.now; request = c.args.call.now } in
-    handles_told (state c.args.store.now) (state c.mark.new.self) a (Ok c.in_ok-told_of.field-0) c.mark.ensures.stays (λ h k held.
+    handles_answered (state c.args.store.now) (state c.mark.new.self) a (Ok c.in_ok-http_reply_of.field-0) c.mark.ensures.stays (λ h k held.
     let mark : c.in_ok-mark.mark ≡ mark_of k.marks c.args.client.now = c.in_ok-mark.ensures.value h k held in
     let gone : is_released k.marks a ≡ true = grind (arith, nat_tests, mark, c.if-number-mark.true) in
-    told_released k a c.in_ok-told_of.field-0 (g.met.S.JobStore.sound c.args.store.now k held) gone (c.in_ok-told_of.ensures.told ∙ ap (λ m. told_of (NumberReleased m)) mark))
+    answered_released k a c.in_ok-http_reply_of.field-0 (g.met.S.JobStore.sound c.args.store.now k held) gone (c.in_ok-http_reply_of.ensures.value ∙ ap (λ m. http_reply_of (NumberReleased m)) mark))
 
 pub returns-in-Some-clause-handled : goal.returns-in-Some-clause-handled
 returns-in-Some-clause-handled g c =
     let state = g.S.JobStore.state in
     let a : Arrived = record { client = c.args.client.now; number = c.args.number; ask = c.args.ask.now; request = c.args.call.now } in
     let stays = Stays-then (state c.args.store.now) (state c.mark.new.self) (state c.kept.new.self) c.mark.ensures.stays c.kept.ensures.stays in
-    handles_told (state c.args.store.now) (state c.kept.new.self) a (Ok c.in_ok-again.field-0) stays (λ h k held.
+    handles_answered (state c.args.store.now) (state c.kept.new.self) a (Ok c.in_ok-again.field-0) stays (λ h k held.
     let early : IsHonest (state c.mark.new.self) = omega (arith, c.kept.ensures.stays.doubts, h) in
     let mark : c.in_ok-mark.mark ≡ mark_of k.marks c.args.client.now = c.in_ok-mark.ensures.value early k held in
     let live : is_released k.marks a ≡ false = grind (arith, nat_tests, mark, c.if-number-mark.false) in
-    told_kept k a c.in_ok-again.field-0 c.in-Some.kept (g.met.S.JobStore.sound c.args.store.now k held) live
+    answered_kept k a c.in_ok-again.field-0 c.in-Some.kept (g.met.S.JobStore.sound c.args.store.now k held) live
     (sym c.in-Some.is ∙ c.in_ok-kept.ensures.value h k (c.mark.ensures.stays.contents early k held))
-    (λ e is. c.in_ok-again.ensures ∙ ap (told_again c.args.ask.now) is))
+    (λ e is. c.in_ok-again.ensures ∙ ap (http_reply_again c.args.ask.now) is))
 
 pub returns-clause-handled : goal.returns-clause-handled
 returns-clause-handled g c =

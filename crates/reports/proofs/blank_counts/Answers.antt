@@ -1,13 +1,13 @@
 use Rattle.std.proofs.Common.{arith, sym, ◌∙◌}
 use Rattle.job_facts.specs.Store.{IsHonest}
 use Rattle.reports.proofs.BlankLemmas.{all_counted}
-use Rattle.reports.proofs.ReportLemmas.{blank_told}
+use Rattle.reports.proofs.ReportLemmas.{blank_answered}
 use Rattle.reports.proofs.blank_counts.Goals as goal
 
-pub returns-clause-tells : goal.returns-clause-tells
-returns-clause-tells g c = λ h k held.
+pub returns-clause-answers : goal.returns-clause-answers
+returns-clause-answers g c = λ h k held.
     let early : IsHonest (g.S.JobStore.state c.product.new.self) = omega (arith, c.blank_totals.ensures.stays.doubts, h) in
-    blank_told k.facts c.args.product.now c.in-Some.field-0 c.in_ok-totals.totals c.in_ok-blank_text.field-0 (g.met.S.JobStore.sound c.args.store.now k held).facts
+    blank_answered k.facts c.args.product.now c.in-Some.field-0 c.in_ok-totals.totals c.in_ok-blank_text.field-0 (g.met.S.JobStore.sound c.args.store.now k held).facts
     (sym (c.in_ok-product.ensures.value early k held) ∙ c.in-Some.is)
     (c.in_ok-totals.ensures.value h k (c.product.ensures.stays.contents early k held)) c.in_ok-blank_text.ensures
 

@@ -1,16 +1,16 @@
 use Rattle.std.proofs.Common.{ℕ, Vec, Global, arith, sym, ap, ◌∙◌}
 use Rattle.job_facts.specs.Store.{IsHonest}
 use Rattle.reports.specs.Report.{text_with}
-use Rattle.reports.proofs.ReportLemmas.{report_told}
+use Rattle.reports.proofs.ReportLemmas.{report_answered}
 use Rattle.reports.proofs.report_of.Goals as goal
 
-pub returns-clause-tells : goal.returns-clause-tells
-returns-clause-tells g c = λ h k held.
+pub returns-clause-answers : goal.returns-clause-answers
+returns-clause-answers g c = λ h k held.
     let state = g.S.JobStore.state in
     let late : IsHonest (state c.record_lines.new.self) = omega (arith, c.batch_totals.ensures.stays.doubts, h) in
     let early : IsHonest (state c.batch.new.self) = omega (arith, c.record_lines.ensures.stays.doubts, late) in
     let then = c.batch.ensures.stays.contents early k held in
-    report_told k.facts c.args.batch.now c.in-Some.row c.in_ok-lines.lines.items c.in_ok-totals.totals c.from_vec.result
+    report_answered k.facts c.args.batch.now c.in-Some.row c.in_ok-lines.lines.items c.in_ok-totals.totals c.from_vec.result
     (sym (c.in_ok-row.ensures.value early k held) ∙ c.in-Some.is) (c.in_ok-lines.ensures.value late k then)
     (c.in_ok-totals.ensures.value h k (c.record_lines.ensures.stays.contents late k then))
     (c.from_vec.ensures ∙ ap (λ (v : Vec ℕ Global). v.items) c.into_bytes.ensures.value ∙ c.in_ok-text.ensures

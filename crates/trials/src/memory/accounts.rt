@@ -14,28 +14,28 @@ const BLANKS: &str =
 
 // Where memory was refused nothing is written.
 #[test]
-fn accounts_are_told_after_refused_memory(rt: HostRuntime) -> Result<(), Fail> {
+fn accounts_come_after_refused_memory(rt: HostRuntime) -> Result<(), Fail> {
     let alloc = rt.alloc();
     let mut store = stocked(alloc)?;
     let (batch, product) = (name("B1")?, name("P1")?);
-    let told = at_last!(batch_counts(alloc, &mut store, &batch))?;
-    assert_eq!(rt; told.as_slice(), BATCH.as_bytes());
-    let told = at_last!(blank_counts(alloc, &mut store, &product))?;
-    assert_eq!(rt; told.as_slice(), BLANKS.as_bytes());
+    let wanted = at_last!(batch_counts(alloc, &mut store, &batch))?;
+    assert_eq!(rt; wanted.as_slice(), BATCH.as_bytes());
+    let wanted = at_last!(blank_counts(alloc, &mut store, &product))?;
+    assert_eq!(rt; wanted.as_slice(), BLANKS.as_bytes());
     let mut writer = Limited::new(512, 512);
     at_last!(close_report(alloc, &mut store, &batch, &mut writer))?;
     assert_eq!(rt; writer.taken(), REPORT.as_bytes());
     // What is not there is refused.
     let (batch, product) = (name("B9")?, name("P9")?);
     let unknown = AccountFault::Refused(Refusal::BatchUnknown);
-    let told = at_last!(batch_counts(alloc, &mut store, &batch));
-    assert_eq!(rt; told.err(), Some(unknown));
+    let wanted = at_last!(batch_counts(alloc, &mut store, &batch));
+    assert_eq!(rt; wanted.err(), Some(unknown));
     let mut writer = Limited::new(512, 512);
-    let told = at_last!(close_report(alloc, &mut store, &batch, &mut writer));
-    assert_eq!(rt; told, Err(unknown));
+    let wanted = at_last!(close_report(alloc, &mut store, &batch, &mut writer));
+    assert_eq!(rt; wanted, Err(unknown));
     assert!(rt; writer.taken().is_empty());
     let unknown = AccountFault::Refused(Refusal::ProductUnknown);
-    let told = at_last!(blank_counts(alloc, &mut store, &product));
-    assert_eq!(rt; told.err(), Some(unknown));
+    let wanted = at_last!(blank_counts(alloc, &mut store, &product));
+    assert_eq!(rt; wanted.err(), Some(unknown));
     Ok(())
 }

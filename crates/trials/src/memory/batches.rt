@@ -15,7 +15,7 @@ use std::test::Fail;
 use store_data::{Product, Row, count, grouped, list, plan};
 
 #[test]
-fn a_grouping_is_told_after_refused_memory(rt: HostRuntime) -> Result<(), Fail> {
+fn a_grouping_comes_after_refused_memory(rt: HostRuntime) -> Result<(), Fail> {
     for text in [b"0101FF00027000".as_slice(), b"0101027000"] {
         let sent = at_last!(from_hex_text(rt.alloc(), text))?;
         assert_eq!(rt; sent.as_slice(), [1, 1, 2, 0x70, 0].as_slice());
@@ -60,7 +60,7 @@ fn a_batch_is_read_after_refused_memory(rt: HostRuntime) -> Result<(), Fail> {
     Ok(())
 }
 
-// A reader of rows that was refused memory tells so from then on.
+// A reader of rows that was refused memory says so from then on.
 #[test]
 fn rows_end_where_memory_is_refused(rt: HostRuntime) -> Result<(), Fail> {
     let product = product(255, 0, false)?;

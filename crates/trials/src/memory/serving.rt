@@ -16,14 +16,14 @@ const PRODUCT: &[u8] =
 const CREATED: &[u8] =
     b"HTTP/1.1 200 OK\r\nContent-Type: application/json\r\nContent-Length: 35\r\nConnection: close\r\n\r\n{\"product\":\"P1\",\"result\":\"created\"}";
 
-// What is told where a message was decided, and where memory for it was refused.
+// What is answered where a message was decided, and where memory for it was refused.
 fn reply_of(served: Served) -> &'static [u8] {
     if served.decided { CREATED } else { UNAVAILABLE }
 }
 
 // One message of three gets 503 at most, and each other one its reply.
 #[test]
-fn refused_memory_is_told_as_unavailable(rt: HostRuntime) {
+fn refused_memory_is_answered_503(rt: HostRuntime) {
     let mut store = ListStore::new(rt.alloc());
     let mut decided = 0u32;
     for _ in 0..3 {
@@ -73,7 +73,7 @@ fn inputs_are_served_after_refused_memory(rt: HostRuntime) {
 const SCRIPT: &[u8] =
     b"office 1 {\"do\":\"reset\"}\nimport 2 B1 P1\nrecord,aid,rank,enc,tol,dgi\n.\nget /batch/B9\n";
 
-const TOLD: [&str; 3] = [
+const LINES: [&str; 3] = [
     "200 {\"result\":\"reset\",\"session\":0}",
     "409 {\"code\":52,\"refused\":\"product-unknown\"}",
     "409 {\"code\":56,\"refused\":\"batch-unknown\"}",
@@ -85,12 +85,12 @@ fn lines_in(printed: &[u8]) -> usize {
     printed.iter().filter(|byte| **byte == b'\n').count()
 }
 
-// How many of the lines that a drill printed tell refused memory; each other line tells what it
+// How many of the lines that a drill printed report refused memory; each other line says what it
 // must.
 fn unavailable(rt: &impl Abort, printed: &[u8]) -> usize {
     let mut count = 0usize;
     let mut rest = printed;
-    for wanted in TOLD.iter().copied().take(lines_in(printed)) {
+    for wanted in LINES.iter().copied().take(lines_in(printed)) {
         let line = if rest.starts_with(LINE.as_bytes()) {
             count = count.saturating_add(1);
             LINE
@@ -106,7 +106,7 @@ fn unavailable(rt: &impl Abort, printed: &[u8]) -> usize {
     count
 }
 
-// Where memory is refused the lines before it are printed, or one message is told 503; a second
+// Where memory is refused the lines before it are printed, or one message is answered 503; a second
 // drill prints it all.
 #[test]
 fn refused_memory_is_no_half_drill(rt: HostRuntime) {
@@ -114,7 +114,7 @@ fn refused_memory_is_no_half_drill(rt: HostRuntime) {
         let mut writer = Limited::new(512, 512);
         match drill_over_lists(rt.alloc(), &mut Cursor::new(SCRIPT), &mut writer) {
             Ok(()) => {
-                assert_eq!(rt; lines_in(writer.taken()), TOLD.len());
+                assert_eq!(rt; lines_in(writer.taken()), LINES.len());
                 match unavailable(&rt, writer.taken()) {
                     0 => return,
                     count => assert!(rt; count == 1 && !is_again),

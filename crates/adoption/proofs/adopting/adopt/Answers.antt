@@ -1,14 +1,14 @@
 use Rattle.std.proofs.Common.{arith, subst}
 use Rattle.sqlite.specs.Held.{state}
 use Rattle.sqlite.specs.State.{HasCleanDisk}
-use Rattle.adoption.specs.Telling.{Tells}
+use Rattle.adoption.specs.Findings.{IsFinding}
 use Rattle.adoption.specs.Adopts.{Settles}
 use Rattle.adoption.proofs.Taken.{left_taken, taken}
 use Rattle.adoption.proofs.Unwritten.{leaves_then, only_read}
 use Rattle.adoption.proofs.adopting.adopt.Goals as goal
 
 pub returns-in-Unsound-clause-damaged : goal.returns-in-Unsound-clause-damaged
-returns-in-Unsound-clause-damaged g c clean same = subst (λ f. Tells f (state g.S.Store c.args.conn.now).now) c.in-Unsound.is (c.in_ok-audit.ensures.told clean)
+returns-in-Unsound-clause-damaged g c clean same = subst (λ f. IsFinding f (state g.S.Store c.args.conn.now).now) c.in-Unsound.is (c.in_ok-audit.ensures.value clean)
 
 pub returns-in_ok-settle-in-Sound-clause-ok : goal.returns-in_ok-settle-in-Sound-clause-ok
 returns-in_ok-settle-in-Sound-clause-ok g c clean =
@@ -16,7 +16,7 @@ returns-in_ok-settle-in-Sound-clause-ok g c clean =
     let mid = state g.S.Store c.audit.new.conn in
     let early : HasCleanDisk mid = omega (arith, c.settle.ensures.crash.clean) in
     taken c.rows_are_held_in_any_order.ensures c.in-Sound.version c.in-Sound.tables old mid (state g.S.Store c.settle.new.conn) c.in_ok-audit.ensures.kept
-    (λ read. subst (λ f. Tells f old.now) c.in-Sound.is (c.in_ok-audit.ensures.told read)) early (c.in_ok-settle-in-Sound.ensures.ok clean)
+    (λ read. subst (λ f. IsFinding f old.now) c.in-Sound.is (c.in_ok-audit.ensures.value read)) early (c.in_ok-settle-in-Sound.ensures.ok clean)
 
 pub returns-in_ok-settle-in-Sound-clause-unchanged : goal.returns-in_ok-settle-in-Sound-clause-unchanged
 returns-in_ok-settle-in-Sound-clause-unchanged g c =
@@ -41,10 +41,10 @@ pub returns-in_ok-settle-in-Sound-clause-crash : goal.returns-in_ok-settle-in-So
 returns-in_ok-settle-in-Sound-clause-crash g c =
     let old = state g.S.Store c.args.conn.now in
     left_taken c.rows_are_held_in_any_order.ensures c.in-Sound.version c.in-Sound.tables old (state g.S.Store c.audit.new.conn) (state g.S.Store c.settle.new.conn) c.in_ok-audit.ensures.kept
-    (λ read. subst (λ f. Tells f old.now) c.in-Sound.is (c.in_ok-audit.ensures.told read)) c.in_ok-audit.ensures.survives c.settle.ensures.crash
+    (λ read. subst (λ f. IsFinding f old.now) c.in-Sound.is (c.in_ok-audit.ensures.value read)) c.in_ok-audit.ensures.survives c.settle.ensures.crash
 
 pub returns-in_err-settle-in-Sound-clause-crash : goal.returns-in_err-settle-in-Sound-clause-crash
 returns-in_err-settle-in-Sound-clause-crash g c =
     let old = state g.S.Store c.args.conn.now in
     left_taken c.rows_are_held_in_any_order.ensures c.in-Sound.version c.in-Sound.tables old (state g.S.Store c.audit.new.conn) (state g.S.Store c.settle.new.conn) c.in_ok-audit.ensures.kept
-    (λ read. subst (λ f. Tells f old.now) c.in-Sound.is (c.in_ok-audit.ensures.told read)) c.in_ok-audit.ensures.survives c.settle.ensures.crash
+    (λ read. subst (λ f. IsFinding f old.now) c.in-Sound.is (c.in_ok-audit.ensures.value read)) c.in_ok-audit.ensures.survives c.settle.ensures.crash

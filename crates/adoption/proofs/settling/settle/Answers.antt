@@ -9,9 +9,9 @@ pub returns-then-branch-clause-ok : goal.returns-then-branch-clause-ok
 returns-then-branch-clause-ok g c clean =
     let mid = c.can_stay.new.conn in
     let early : HasCleanDisk (state g.S.Store mid) = omega (arith, c.stay_open.ensures.survives.clean) in
-    let told = c.in_ok-can_stay.ensures.told early in
+    let value = c.in_ok-can_stay.ensures.value early in
     stays g.S.Store g.met.S.Store.settled c.args.conn.now mid c.stay_open.new.conn c.args.version c.args.tables.now c.our_rows_are_an_image.ensures.image
-    c.is_committed.ensures c.is_live.ensures clean (told.0 c.if-branch.true) (told.1.0 c.if-branch.true) (c.in_ok-can_stay.ensures.kept early) (c.stay_open.ensures.kept clean)
+    c.is_committed.ensures c.is_live.ensures clean (value.0 c.if-branch.true) (value.1.0 c.if-branch.true) (c.in_ok-can_stay.ensures.kept early) (c.stay_open.ensures.kept clean)
     c.in_ok-can_stay.ensures.survives c.stay_open.ensures.survives c.stay_open.result (c.stay_open.ensures.open clean)
 
 pub returns-then-branch-clause-unchanged : goal.returns-then-branch-clause-unchanged
@@ -27,7 +27,7 @@ returns-in_err-can_stay-clause-unchanged g c clean stand =
 pub returns-clause-unchanged : goal.returns-clause-unchanged
 returns-clause-unchanged g c clean stand =
     let early : HasCleanDisk (state g.S.Store c.can_stay.new.conn) = omega (arith, c.remake.ensures.crash.clean) in
-    let stay = (c.in_ok-can_stay.ensures.told early).1.1 stand in
+    let stay = (c.in_ok-can_stay.ensures.value early).1.1 stand in
     absurd (let no = c.if-branch.false in cc)
 
 pub returns-clause-ok : goal.returns-clause-ok

@@ -1,7 +1,7 @@
 use Rattle.std.proofs.Common.{◌≡◌, ◌∙◌, ℕ, Vec, Global, false, ap}
 use Rattle.serde_json.specs.View.{view}
 use Rattle.serde_json.specs.Written.{compact_text, has_float}
-use Rattle.arrivals.specs.Told.{body_of}
+use Rattle.arrivals.specs.HttpReplies.{body_of}
 use Rattle.arrivals.proofs.Texts.{no_float}
 use Rattle.arrivals.proofs.body.body_of.Goals as goal
 

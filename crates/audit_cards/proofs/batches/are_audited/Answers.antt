@@ -3,7 +3,7 @@ use Rattle.std.proofs.lemmas.Bool.{false≢true}
 use Rattle.audit_cards.specs.Sessions.{IsAuditedWith}
 use Rattle.audit_cards.proofs.BatchLemmas.{groups_many, own_with, rows_at, with_own}
 use Rattle.audit_order.proofs.SameLists.{All-done, All-here, All-next}
-use Rattle.audit_order.proofs.Told.{granted, refused}
+use Rattle.audit_order.proofs.Tested.{granted, refused}
 use Rattle.audit_cards.proofs.batches.are_audited.Goals as goal
 
 pub bounds-groups-place : goal.bounds-groups-place

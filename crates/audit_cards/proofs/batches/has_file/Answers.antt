@@ -4,8 +4,8 @@ use Rattle.store_data.specs.declared.row.Row.{Row}
 use Rattle.store_data.specs.Groups.{grouped}
 use Rattle.audit_laws.specs.Audited.{key_of}
 use Rattle.audit_cards.specs.Files.{HasFile, groupings_in, keys_of, names_in}
-use Rattle.audit_cards.proofs.BatchLemmas.{all_placed, audited_file, counts_told, file_parts, file_told, groupings_here, keys_here, own_rising, own_same, parts_file}
-use Rattle.audit_order.proofs.Told.{refused, told_as}
+use Rattle.audit_cards.proofs.BatchLemmas.{all_placed, audited_counts, audited_file, file_audited, file_parts, groupings_here, keys_here, own_rising, own_same, parts_file}
+use Rattle.audit_order.proofs.Tested.{refused, test_as}
 use Rattle.audit_cards.proofs.batches.has_file.Goals as goal
 
 pub returns-then-not-has_records : goal.returns-then-not-has_records
@@ -28,7 +28,7 @@ returns-then-not-counts_by c =
     let b = c.args.batch.now in
     let own = c.sessions_of-sessions.result.now in
     refused (λ a. false≢true (sym c.if-not-counts_by.true ∙ c.counts_by.ensures.1
-    (counts_told t b c.records_of-records.result.now c.records_of-records.ensures own (own_same t.sessions c.args.by_record.now c.requires.sessions b.id own c.sessions_of-sessions.ensures) a.counts)))
+    (audited_counts t b c.records_of-records.result.now c.records_of-records.ensures own (own_same t.sessions c.args.by_record.now c.requires.sessions b.id own c.sessions_of-sessions.ensures) a.counts)))
 
 pub are_placed-requires : goal.are_placed-requires
 are_placed-requires c =
@@ -63,7 +63,7 @@ returns c =
     let same = own_same t.sessions c.args.by_record.now c.requires.sessions b.id own c.sessions_of-sessions.ensures in
     let groupings = sym c.groupings_of-groupings.ensures ∙ c.has_groupings.ensures.0 c.if-not-has_groupings.false ∙ ap (groupings_in b.id) c.deref-3.ensures.value in
     let gs = grouped (λ (row : Row). row.rec) rows in
-    told_as c.are_audited.result
+    test_as c.are_audited.result
     (audited_file t b p rows gs records own parts same read c.requires.named groupings (c.counts_by.ensures.0 c.if-not-counts_by.false) (c.are_placed.ensures.0 c.if-not-are_placed.false))
-    (file_told t b p rows gs records own parts same read)
+    (file_audited t b p rows gs records own parts same read)
     c.are_audited.ensures

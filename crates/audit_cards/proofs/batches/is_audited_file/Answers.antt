@@ -1,7 +1,7 @@
 use Rattle.std.proofs.Common.{◌∙◌, sym}
 use Rattle.std.proofs.lemmas.Bool.{false≢true}
 use Rattle.audit_cards.proofs.BatchLemmas.{no_product}
-use Rattle.audit_order.proofs.Told.{refused}
+use Rattle.audit_order.proofs.Tested.{refused}
 use Rattle.audit_cards.proofs.batches.is_audited_file.Goals as goal
 
 pub returns-then-not-is_named : goal.returns-then-not-is_named

@@ -1,5 +1,5 @@
 use Rattle.audit_cards.proofs.BatchLemmas.{unread_refuses}
-use Rattle.audit_order.proofs.Told.{refused}
+use Rattle.audit_order.proofs.Tested.{refused}
 use Rattle.audit_cards.proofs.batches.is_audited_under.Goals as goal
 
 pub returns-in-None : goal.returns-in-None

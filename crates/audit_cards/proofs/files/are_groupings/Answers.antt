@@ -5,7 +5,7 @@ use Rattle.table_rows.specs.After.{new_grouping}
 use Rattle.audit_cards.specs.Files.{IsNamed, groupings_in}
 use Rattle.audit_cards.proofs.RowLemmas.{grouping_here, groupings_count, named_here}
 use Rattle.audit_order.proofs.SameLists.{all_equal, here_equal, same_here, same_more}
-use Rattle.audit_order.proofs.Told.{granted, refused}
+use Rattle.audit_order.proofs.Tested.{granted, refused}
 use Rattle.audit_cards.proofs.files.are_groupings.Goals as goal
 
 pub returns-then-groupings-rows : goal.returns-then-groupings-rows

@@ -4,7 +4,7 @@ use Rattle.audit_laws.specs.Audited.{key_of}
 use Rattle.audit_cards.specs.Files.{keys_of}
 use Rattle.audit_cards.proofs.RowLemmas.{key_here, keys_count}
 use Rattle.audit_order.proofs.SameLists.{all_same, here_same, same_here, same_length, same_more}
-use Rattle.audit_order.proofs.Told.{granted, refused}
+use Rattle.audit_order.proofs.Tested.{granted, refused}
 use Rattle.audit_cards.proofs.files.are_records.Goals as goal
 
 pub returns-then-records-names : goal.returns-then-records-names

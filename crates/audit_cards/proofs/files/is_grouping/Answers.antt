@@ -2,7 +2,7 @@ use Rattle.std.proofs.Common.{◌∙◌, ap, refl, sym}
 use Rattle.std.proofs.lemmas.Bool.{false≢true}
 use Rattle.table_rows.specs.Tables.{StoredGrouping}
 use Rattle.audit_cards.proofs.RowLemmas.{grouping_same, name_of_place}
-use Rattle.audit_order.proofs.Told.{refused}
+use Rattle.audit_order.proofs.Tested.{refused}
 use Rattle.audit_cards.proofs.files.is_grouping.Goals as goal
 
 pub returns-then-not-is_numbered : goal.returns-then-not-is_numbered

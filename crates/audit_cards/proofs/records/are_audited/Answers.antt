@@ -2,7 +2,7 @@ use Rattle.std.proofs.Common.{◌∙◌, sym}
 use Rattle.std.proofs.lemmas.Bool.{false≢true}
 use Rattle.audit_laws.specs.Audited.{IsAuditedSession}
 use Rattle.audit_order.proofs.SameLists.{All-done, All-here, All-next}
-use Rattle.audit_order.proofs.Told.{granted, refused}
+use Rattle.audit_order.proofs.Tested.{granted, refused}
 use Rattle.audit_cards.proofs.records.are_audited.Goals as goal
 
 pub returns-then-not-is_audited : goal.returns-then-not-is_audited

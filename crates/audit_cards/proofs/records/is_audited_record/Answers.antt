@@ -1,7 +1,7 @@
 use Rattle.std.proofs.Common.{◌∙◌, sym}
 use Rattle.std.proofs.lemmas.Bool.{false≢true}
 use Rattle.audit_cards.proofs.RecordLemmas.{audited_record, have_plans, stands_by_own}
-use Rattle.audit_order.proofs.Told.{refused}
+use Rattle.audit_order.proofs.Tested.{refused}
 use Rattle.audit_cards.proofs.records.is_audited_record.Goals as goal
 
 pub returns-then-not-stands_by : goal.returns-then-not-stands_by

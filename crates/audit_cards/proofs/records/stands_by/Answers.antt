@@ -1,7 +1,7 @@
 use Rattle.std.proofs.Common.{◌∙◌, sym}
 use Rattle.std.proofs.lemmas.Bool.{false≢true}
 use Rattle.audit_cards.proofs.RecordLemmas.{stands_by_counts, so_by_counts, sound_by_counts}
-use Rattle.audit_order.proofs.Told.{refused}
+use Rattle.audit_order.proofs.Tested.{refused}
 use Rattle.audit_cards.proofs.records.stands_by.Goals as goal
 
 pub returns-then-not-is_so : goal.returns-then-not-is_so

@@ -1,6 +1,6 @@
 use Rattle.audit_laws.specs.Audited.{turns_of}
 use Rattle.audit_cards.proofs.Consuming.{cannot_take}
-use Rattle.audit_order.proofs.Told.{refused}
+use Rattle.audit_order.proofs.Tested.{refused}
 use Rattle.audit_cards.proofs.remakes.are_remakes.Goals as goal
 
 pub returns-in-None : goal.returns-in-None

@@ -5,7 +5,7 @@ use Rattle.audit_laws.specs.Audited.{turns_of}
 use Rattle.audit_cards.specs.Sessions.{turn_of}
 use Rattle.audit_cards.proofs.RowLemmas.{turn_here, turns_count}
 use Rattle.audit_order.proofs.SameLists.{all_equal, here_equal, same_here, same_more}
-use Rattle.audit_order.proofs.Told.{granted, refused}
+use Rattle.audit_order.proofs.Tested.{granted, refused}
 use Rattle.audit_cards.proofs.remakes.are_turns.Goals as goal
 
 pub returns-then-remakes-stored : goal.returns-then-remakes-stored

@@ -7,7 +7,7 @@ use Rattle.table_rows.specs.Tables.{StoredWord}
 use Rattle.audit_laws.specs.Audited.{named_session}
 use Rattle.audit_cards.specs.Cards.{Leaves}
 use Rattle.audit_cards.proofs.SessionLemmas.{audited_session, cursor_says, says}
-use Rattle.audit_order.proofs.Told.{refused}
+use Rattle.audit_order.proofs.Tested.{refused}
 use Rattle.audit_cards.proofs.sessions.is_audited_session.Goals as goal
 
 pub returns-in_default : goal.returns-in_default

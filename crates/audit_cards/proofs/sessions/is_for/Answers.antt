@@ -5,7 +5,7 @@ use Rattle.job_facts.specs.declared.facts.Lot.{Lot}
 use Rattle.job_facts.specs.States.{lot_of}
 use Rattle.table_rows.specs.Tables.{StoredSession}
 use Rattle.audit_order.specs.Order.{lots_of}
-use Rattle.audit_order.proofs.Told.{refused}
+use Rattle.audit_order.proofs.Tested.{refused}
 use Rattle.audit_cards.proofs.sessions.is_for.Goals as goal
 
 pub returns-in-None : goal.returns-in-None

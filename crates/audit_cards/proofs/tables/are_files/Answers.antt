@@ -3,7 +3,7 @@ use Rattle.std.proofs.lemmas.Bool.{false≢true}
 use Rattle.audit_cards.specs.Sessions.{IsAuditedFile}
 use Rattle.audit_order.proofs.IdLemmas.{found_among}
 use Rattle.audit_order.proofs.SameLists.{All-done, All-here, All-next}
-use Rattle.audit_order.proofs.Told.{granted, refused}
+use Rattle.audit_order.proofs.Tested.{granted, refused}
 use Rattle.audit_cards.proofs.tables.are_files.Goals as goal
 
 pub is_audited_file-requires-clause-batch : goal.is_audited_file-requires-clause-batch

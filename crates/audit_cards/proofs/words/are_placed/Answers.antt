@@ -4,7 +4,7 @@ use Rattle.table_rows.specs.Tables.{StoredWord}
 use Rattle.audit_cards.specs.Cards.{word_at, words_placed}
 use Rattle.audit_cards.proofs.RowLemmas.{word_here, words_count}
 use Rattle.audit_order.proofs.SameLists.{all_equal, here_equal, same_here, same_more}
-use Rattle.audit_order.proofs.Told.{granted, refused}
+use Rattle.audit_order.proofs.Tested.{granted, refused}
 use Rattle.audit_cards.proofs.words.are_placed.Goals as goal
 
 pub returns-then-words-own : goal.returns-then-words-own

@@ -2,7 +2,7 @@ use Rattle.std.proofs.Common.{[], ◌∷◌, ◌++◌, ◌∙◌, sym}
 use Rattle.audit_rows.specs.declared.rule.Rule.TheVariants.{Files}
 use Rattle.audit_rows.specs.Rules.{blank_rules, card_rules, named_rules, reply_rules}
 use Rattle.audit_rows.proofs.AuditLemmas.{machines_named, ready_of}
-use Rattle.audit_rows.proofs.RuleLemmas.{all_hold, broken, fails_at, first_after, first_after_told, first_of_more, where_none}
+use Rattle.audit_rows.proofs.RuleLemmas.{all_hold, broken, fails_at, first_after, first_found_after, first_of_more, where_none}
 use Rattle.audit_rows.proofs.audit.failing_rule.Goals as goal
 
 pub returns-then-is_some : goal.returns-then-is_some
@@ -62,4 +62,4 @@ returns c =
     let cards = where_none t card_rules c.in_ok-card.card (sym c.is_some-2.ensures ∙ c.if-is_some-2.false) c.in_ok-card.ensures in
     let blanks = where_none t blank_rules c.in_ok-blank.blank (sym c.is_some-3.ensures ∙ c.if-is_some-3.false) c.in_ok-blank.ensures in
     let held = all_hold t (named_rules ++ (Files ∷ []) ++ card_rules) blank_rules (all_hold t (named_rules ++ (Files ∷ [])) card_rules files cards) blanks in
-    first_after_told t (named_rules ++ (Files ∷ []) ++ card_rules ++ blank_rules) reply_rules c.failing_reply.result held c.failing_reply.ensures
+    first_found_after t (named_rules ++ (Files ∷ []) ++ card_rules ++ blank_rules) reply_rules c.failing_reply.result held c.failing_reply.ensures

@@ -4,7 +4,7 @@ use Rattle.std.proofs.lemmas.Bool.{false≢true}
 use Rattle.job_facts.specs.States.{is_in}
 use Rattle.table_rows.specs.Tables.{StoredLot}
 use Rattle.audit_order.proofs.SameLists.{All-done, All-here, All-next}
-use Rattle.audit_order.proofs.Told.{granted, refused}
+use Rattle.audit_order.proofs.Tested.{granted, refused}
 use Rattle.audit_rows.proofs.blanks.count_all.Goals as goal
 
 pub counts-requires-clause-range : goal.counts-requires-clause-range

@@ -1,7 +1,7 @@
 use Rattle.std.proofs.Common.{◌∙◌, sym}
 use Rattle.std.proofs.lemmas.Bool.{false≢true}
 use Rattle.audit_rows.proofs.NamedLemmas.{are_products, products_apart, products_in_range}
-use Rattle.audit_order.proofs.Told.{refused}
+use Rattle.audit_order.proofs.Tested.{refused}
 use Rattle.audit_rows.proofs.named.are_products.Goals as goal
 
 pub returns-then-not-are_apart : goal.returns-then-not-are_apart

@@ -1,7 +1,7 @@
 use Rattle.std.proofs.Common.{◌≡◌, ◌∙◌, sym, true}
 use Rattle.std.proofs.lemmas.Bool.{false≢true}
 use Rattle.audit_order.proofs.SameLists.{pairs_done, pairs_more, pairs_to}
-use Rattle.audit_order.proofs.Told.{granted, refused}
+use Rattle.audit_order.proofs.Tested.{granted, refused}
 use Rattle.audit_rows.proofs.once.are_apart.Goals as goal
 
 pub returns-then-not-are_apart_from : goal.returns-then-not-are_apart_from

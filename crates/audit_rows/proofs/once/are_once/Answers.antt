@@ -1,4 +1,4 @@
-use Rattle.audit_order.proofs.Told.{there_or_not}
+use Rattle.audit_order.proofs.Tested.{there_or_not}
 use Rattle.audit_rows.proofs.once.are_once.Goals as goal
 
 pub returns : goal.returns

@@ -5,7 +5,7 @@ use Rattle.std.proofs.lemmas.List.{take_all, take_more}
 use Rattle.std.proofs.lemmas.List.Folds.{list_any_none}
 use Rattle.store_data.proofs.IsPlanLemmas.{All-from_list_any}
 use Rattle.audit_order.proofs.SameLists.{pairs_done, pairs_more, pairs_to}
-use Rattle.audit_order.proofs.Told.{not_added, was_added}
+use Rattle.audit_order.proofs.Tested.{not_added, was_added}
 use Rattle.audit_rows.proofs.once.set_of.Goals as goal
 
 pub loop-item-init : goal.loop-item-init

@@ -3,7 +3,7 @@ use Rattle.std.proofs.lemmas.Bool.{false≢true}
 use Rattle.std.proofs.Common.{◌≡◌, true}
 use Rattle.job_facts.specs.Contents.{Entry, IsEntry, is_above}
 use Rattle.audit_order.proofs.SameLists.{All-done, All-here, All-next}
-use Rattle.audit_order.proofs.Told.{granted, refused}
+use Rattle.audit_order.proofs.Tested.{granted, refused}
 use Rattle.audit_rows.proofs.replies.are_above.Goals as goal
 
 pub is_above-requires-clause-named : goal.is_above-requires-clause-named

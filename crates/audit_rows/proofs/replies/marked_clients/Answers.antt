@@ -7,13 +7,13 @@ abbrev AreOnce : List (List ℕ) → Type 0
 AreOnce names = AllPairs (λ (m n : List ℕ). bytes_eq n m ≡ false) names
 
 where_some : {S E A B : Type 0} (r : Result (Option S) E) → (A → B) → IfOk r (λ found. IfSome found (λ s. A)) → IfOk r (λ found. IfSome found (λ s. B))
-where_some (Ok (Some s)) to told = to told
-where_some (Ok None) to told = told
-where_some (Err e) to told = told
+where_some (Ok (Some s)) to tested = to tested
+where_some (Ok None) to tested = tested
+where_some (Err e) to tested = tested
 
 where_none : {S E A B : Type 0} (r : Result (Option S) E) → (B → A) → IfOk r (λ found. found ≡ None → A → ⊥) → IfOk r (λ found. found ≡ None → B → ⊥)
-where_none (Ok o) back told = λ is b. told is (back b)
-where_none (Err e) back told = told
+where_none (Ok o) back tested = λ is b. tested is (back b)
+where_none (Err e) back tested = tested
 
 pub returns-clause-once : goal.returns-clause-once
 returns-clause-once c =

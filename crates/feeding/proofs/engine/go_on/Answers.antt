@@ -4,7 +4,7 @@ use Rattle.text_io.specs.Written.{AppendsBeginning}
 use Rattle.job_facts.specs.declared.reply.Reply.{Reply}
 use Rattle.feeding.specs.Events.{IsNotedOf, lines_under}
 use Rattle.feeding.specs.Feeds.{Feed, hears}
-use Rattle.feeding.specs.Tries.{IsTold}
+use Rattle.feeding.specs.Tries.{IsPrinted}
 use Rattle.feeding.specs.Views.{IsRejected, came_in, feed_view}
 use Rattle.feeding.proofs.Noting.{noted_hear}
 use Rattle.feeding.proofs.engine.go_on.Goals as goal
@@ -15,7 +15,7 @@ returns-in_err-write_text-clause-printed g c =
     let old = g.W.Write.contents c.args.writer.now in
     let new = g.W.Write.contents c.write_text.new.writer in
     let h = hears (feed_view c.args.feed.now) c.args.response.reply in
-    subst (IsTold h (feed_view c.hear.new.self) old new) (sym (p.1 ∙ ap Err p.2))
+    subst (IsPrinted h (feed_view c.hear.new.self) old new) (sym (p.1 ∙ ap Err p.2))
     (subst (AppendsBeginning old new) (c.as_slice.ensures.value ∙ ap (λ (x : Feed). x.text) (c.in_ok-rejected.ensures.feed ∙ ap (hears (feed_view c.args.feed.now)) c.as_ref.ensures.value)) c.in_err-write_text.ensures)
 
 pub returns-in_err-write_text-clause-noted : goal.returns-in_err-write_text-clause-noted

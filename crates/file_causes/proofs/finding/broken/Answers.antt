@@ -3,5 +3,5 @@ use Rattle.file_causes.proofs.finding.broken.Goals as goal
 
 pub returns : goal.returns
 returns c =
-    let told = c.in_ok-failing.ensures in
-    rules_judged c.args.tables c.first_failing.new.tables c.in_ok-failing.failing c.damage_of.result c.damage_of.ensures told.sound.0 told.first told.sorted told.same
+    let value = c.in_ok-failing.ensures in
+    rules_judged c.args.tables c.first_failing.new.tables c.in_ok-failing.failing c.damage_of.result c.damage_of.ensures value.sound.0 value.first value.sorted value.same

@@ -5,7 +5,7 @@ use Rattle.text_io.specs.declared.reading.ReadFault.{ReadFault}
 use Rattle.text_io.specs.declared.reading.ReadFault.TheVariants.{Failed, Memory}
 use Rattle.plan_print.specs.PlanEnds.{ReadsInput, unread}
 use Rattle.plan_print.specs.declared.plan.PlanStop.{PlanStop}
-use Rattle.plan_print.proofs.TextLemmas.{tells_some}
+use Rattle.plan_print.proofs.TextLemmas.{agrees_some}
 use Rattle.plan_print.proofs.plan.input.Goals as goal
 
 no_input : (raw : List ℕ) (r : Result (Vec ℕ Global) PlanStop) (stop : PlanStop) (fault : ReadFault) → r ≡ Err stop → stop ≡ unread fault → ReadsInput raw r
@@ -16,4 +16,4 @@ pub returns-in_err-read : goal.returns-in_err-read
 returns-in_err-read g c =
     let known = g.R.Read.remaining c.args.reader.now in
     let p = err_from_is_err_and c.from_residual.result c.from_residual.ensures.1 in
-    (unwrap_or known [], tells_some known, no_input (unwrap_or known []) c.from_residual.result p.0 _ p.1 p.2)
+    (unwrap_or known [], agrees_some known, no_input (unwrap_or known []) c.from_residual.result p.0 _ p.1 p.2)

@@ -24,7 +24,7 @@ plans-requires-clause-sound g c =
 
 pub returns-in_err-print : goal.returns-in_err-print
 returns-in_err-print g c =
-    let (raw, tells, (same, few)) = c.in_ok-raw.ensures in
+    let (raw, agrees, (same, few)) = c.in_ok-raw.ensures in
     let (rows, of_batch, fits, sound, groups) = c.in_ok-records.ensures in
     let p = err_from_is_err_and c.from_residual-in_err-print.result c.from_residual-in_err-print.ensures.1 in
     let text : flat_map text_of c.as_slice-3.result.now ≡ printed c.args.product.now rows =
@@ -32,7 +32,7 @@ returns-in_err-print g c =
     (c.as_slice-3.ensures.value ∙ c.in_ok-plans.ensures ∙ ap (map (λ v. planned_of c.args.product.now v.items)) c.as_slice-2.ensures.value) in
     rw (p.1, p.2) (
       raw,
-      tells,
+      agrees,
       (
         rows,
         few,
@@ -43,13 +43,13 @@ returns-in_err-print g c =
 
 pub returns : goal.returns
 returns g c =
-    let (raw, tells, (same, few)) = c.in_ok-raw.ensures in
+    let (raw, agrees, (same, few)) = c.in_ok-raw.ensures in
     let (rows, of_batch, fits, sound, groups) = c.in_ok-records.ensures in
     let text : flat_map text_of c.as_slice-3.result.now ≡ printed c.args.product.now rows =
     printed_of c.args.product.now (λ v. v.items) c.in_ok-records.records.items rows c.as_slice-3.result.now groups
     (c.as_slice-3.ensures.value ∙ c.in_ok-plans.ensures ∙ ap (map (λ v. planned_of c.args.product.now v.items)) c.as_slice-2.ensures.value) in (
       raw,
-      tells,
+      agrees,
       (
         rows,
         few,

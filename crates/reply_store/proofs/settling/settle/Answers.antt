@@ -2,7 +2,7 @@ use Rattle.std.proofs.Common.{◌∙◌, ℕ, List, Result, Ok, subst}
 use Rattle.job_facts.specs.declared.store.StoreFault.{StoreFault}
 use Rattle.job_facts.specs.Contents.{Entry}
 use Rattle.job_facts.specs.Store.{Commits}
-use Rattle.arrivals.specs.Told.{body_of}
+use Rattle.arrivals.specs.HttpReplies.{body_of}
 use Rattle.reply_store.specs.Effects.{IsOwedBy, after_effect}
 use Rattle.reply_store.proofs.settling.settle.Goals as goal
 

@@ -1,5 +1,5 @@
-use Rattle.row_laws.proofs.TotalRows.{blanks_told}
+use Rattle.row_laws.proofs.TotalRows.{blanks_in_rows}
 use Rattle.row_laws.proofs.accounts.blanks_by_rows.Goals as goal
 
 pub returns : goal.returns
-returns call f p sound = blanks_told f sound p
+returns call f p sound = blanks_in_rows f sound p

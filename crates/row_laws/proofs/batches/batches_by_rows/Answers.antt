@@ -1,5 +1,5 @@
-use Rattle.row_laws.proofs.BatchTold.{has_any, has_told, row_told, size_told}
+use Rattle.row_laws.proofs.BatchValues.{has_any, has_in_rows, row_in_rows, size_in_rows}
 use Rattle.row_laws.proofs.batches.batches_by_rows.Goals as goal
 
 pub returns : goal.returns
-returns call = record { row = row_told; bytes = has_told; any_with = λ f b raw sound. has_any f b sound raw; size = size_told }
+returns call = record { row = row_in_rows; bytes = has_in_rows; any_with = λ f b raw sound. has_any f b sound raw; size = size_in_rows }

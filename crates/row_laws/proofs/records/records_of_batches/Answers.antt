@@ -1,5 +1,5 @@
-use Rattle.row_laws.proofs.BatchRecords.{records_rise, rows_of_batch, waiting_rise, waiting_told}
+use Rattle.row_laws.proofs.BatchRecords.{records_rise, rows_of_batch, waiting_in_rows, waiting_rise}
 use Rattle.row_laws.proofs.records.records_of_batches.Goals as goal
 
 pub returns : goal.returns
-returns call = record { rows = rows_of_batch; rising = records_rise; waiting_rising = waiting_rise; waiting = waiting_told }
+returns call = record { rows = rows_of_batch; rising = records_rise; waiting_rising = waiting_rise; waiting = waiting_in_rows }

@@ -1,5 +1,5 @@
-use Rattle.row_laws.proofs.SessionRows.{running_once, running_told}
+use Rattle.row_laws.proofs.SessionRows.{running_in_rows, running_once}
 use Rattle.row_laws.proofs.sessions.running_sessions_by_machine.Goals as goal
 
 pub returns : goal.returns
-returns call = record { once = λ f machine sound. running_once f sound machine; number = running_told }
+returns call = record { once = λ f machine sound. running_once f sound machine; number = running_in_rows }

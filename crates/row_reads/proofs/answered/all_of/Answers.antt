@@ -1,6 +1,6 @@
 use Rattle.std.proofs.Common.{◌≡◌, map}
 use Rattle.sqlite.specs.Values.{bound}
-use Rattle.row_reads.proofs.Told.{answered}
+use Rattle.row_reads.proofs.AnswersOfRows.{answered}
 use Rattle.row_reads.proofs.answered.all_of.Goals as goal
 
 pub returns-clause-answered : goal.returns-clause-answered

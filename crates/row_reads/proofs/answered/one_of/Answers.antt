@@ -1,7 +1,7 @@
 use Rattle.std.proofs.Common.{map}
 use Rattle.sqlite.specs.Values.{bound}
 use Rattle.row_reads.specs.Decoding.{IsFirst}
-use Rattle.row_reads.proofs.Told.{answered}
+use Rattle.row_reads.proofs.AnswersOfRows.{answered}
 use Rattle.row_reads.proofs.answered.one_of.Goals as goal
 
 pub returns-clause-answered : goal.returns-clause-answered

@@ -3,12 +3,12 @@ use Rattle.std.specs.Prelude.{filter}
 use Rattle.std.specs.List.Sorted.{IsPermutation}
 use Rattle.table_rows.specs.Keys.{is_batch_for}
 use Rattle.row_reads.specs.Decoding.{head_in}
-use Rattle.row_reads.specs.Telling.{head_of}
+use Rattle.row_reads.specs.RowValues.{head_of}
 use Rattle.row_reads.proofs.BatchAnswers.{batches_of_found}
-use Rattle.row_reads.proofs.Told.{list_told}
+use Rattle.row_reads.proofs.AnswersOfRows.{list_answered}
 use Rattle.row_reads.proofs.batches.batches_of.Goals as goal
 
 pub returns-clause-found : goal.returns-clause-found
 returns-clause-found g c =
-    list_told g.S.Store c.args.conn.now c.all_of.new.conn (λ v. v.items) (map head_in) _ _ c.all_of.result
+    list_answered g.S.Store c.args.conn.now c.all_of.new.conn (λ v. v.items) (map head_in) _ _ c.all_of.result
     (λ t. IsPermutation (map head_of (filter (is_batch_for c.args.product.now) t.batches))) (rw c.bytes.ensures.value at c.all_of.ensures.answered) (batches_of_found c.args.product.now _)

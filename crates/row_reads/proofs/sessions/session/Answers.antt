@@ -1,7 +1,7 @@
 use Rattle.row_reads.proofs.CardAnswers.{session_found}
-use Rattle.row_reads.proofs.Told.{told}
+use Rattle.row_reads.proofs.AnswersOfRows.{answered_by}
 use Rattle.row_reads.proofs.sessions.session.Goals as goal
 
 pub returns-clause-found : goal.returns-clause-found
 returns-clause-found g c =
-    told g.S.Store c.args.conn.now c.one_of.new.conn _ _ c.one_of.result _ _ (rw c.int.ensures at c.one_of.ensures.answered) (session_found c.args.id _)
+    answered_by g.S.Store c.args.conn.now c.one_of.new.conn _ _ c.one_of.result _ _ (rw c.int.ensures at c.one_of.ensures.answered) (session_found c.args.id _)

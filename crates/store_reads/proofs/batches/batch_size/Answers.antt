@@ -3,8 +3,8 @@ use Rattle.std.specs.Prelude.{find}
 use Rattle.sqlite.specs.Held.{state}
 use Rattle.table_rows.specs.Keys.{is_batch_named}
 use Rattle.image_laws.specs.Image.{stored_batches, stored_groupings}
-use Rattle.store_reads.proofs.Sizes.{no_size, size_told}
-use Rattle.store_reads.proofs.Telling.{both_shown, shown}
+use Rattle.store_reads.proofs.Sizes.{no_size, size_read}
+use Rattle.store_reads.proofs.ReadContents.{both_shown, shown}
 use Rattle.store_reads.proofs.batches.batch_size.Goals as goal
 
 pub returns-in_default-clause-value : goal.returns-in_default-clause-value
@@ -21,5 +21,5 @@ returns-clause-value g c =
     both_shown (state g.S.Store c.args.conn.now) (state g.S.Store c.batch_head.new.conn) (state g.S.Store c.grouping_count.new.conn) _ _ _
     c.batch_head.ensures.looks c.grouping_count.ensures.looks (rw c.in-Some.is at c.in_ok-head.ensures.found) c.in_ok-rows.ensures.found
     (λ d sound one two.
-    size_told (stored_groupings d.facts) (find (is_batch_named n) (stored_batches d.facts)) c.in-Some.head c.in_ok-rows.rows (one (c.batches_by_name.ensures.once d.facts n sound.facts)) two
+    size_read (stored_groupings d.facts) (find (is_batch_named n) (stored_batches d.facts)) c.in-Some.head c.in_ok-rows.rows (one (c.batches_by_name.ensures.once d.facts n sound.facts)) two
     ∙ sym (c.batches_by_rows.ensures.size d.facts n))

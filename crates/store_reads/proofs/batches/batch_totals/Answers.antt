@@ -1,13 +1,13 @@
 use Rattle.std.proofs.Common.{◌≡◌, Option, Some, None, refl, sym, ap, ◌∙◌}
 use Rattle.std.specs.Prelude.{find, option_map}
 use Rattle.sqlite.specs.Held.{state}
-use Rattle.row_reads.specs.Telling.{head_of}
+use Rattle.row_reads.specs.RowValues.{head_of}
 use Rattle.table_rows.specs.Keys.{is_batch_named}
 use Rattle.table_rows.specs.Tables.{StoredBatch}
-use Rattle.row_laws.specs.Telling as rows
+use Rattle.row_laws.specs.RowValues as rows
 use Rattle.image_laws.specs.Image.{stored_batches}
 use Rattle.store_reads.specs.Heads.{totals_in}
-use Rattle.store_reads.proofs.Telling.{shown}
+use Rattle.store_reads.proofs.ReadContents.{shown}
 use Rattle.store_reads.proofs.batches.batch_totals.Goals as goal
 
 by_row : (o : Option StoredBatch) → totals_in (option_map head_of o) ≡ rows.totals_in o

@@ -3,10 +3,10 @@ use Rattle.std.specs.Prelude.{find}
 use Rattle.sqlite.specs.Held.{state}
 use Rattle.table_rows.specs.Keys.{is_batch_named}
 use Rattle.table_rows.specs.Tables.{StoredBatch}
-use Rattle.row_laws.specs.Telling as rows
+use Rattle.row_laws.specs.RowValues as rows
 use Rattle.image_laws.specs.Image.{stored_batches}
 use Rattle.store_reads.specs.Heads.{is_over}
-use Rattle.store_reads.proofs.Told.{shows_as}
+use Rattle.store_reads.proofs.ReadShown.{shows_as}
 use Rattle.store_reads.proofs.batches.is_finished.Goals as goal
 
 by_row : (o : Option StoredBatch) → is_over (rows.totals_in o) ≡ rows.is_over_in o

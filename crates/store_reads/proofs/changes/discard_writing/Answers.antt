@@ -1,7 +1,7 @@
 use Rattle.std.proofs.Common.{refl}
 use Rattle.sqlite.specs.Held.{state}
 use Rattle.store_reads.proofs.Placed.{lot_discarded}
-use Rattle.store_reads.proofs.Telling.{shown}
+use Rattle.store_reads.proofs.ReadContents.{shown}
 use Rattle.store_reads.proofs.changes.discard_writing.Goals as goal
 
 pub returns-clause-value : goal.returns-clause-value

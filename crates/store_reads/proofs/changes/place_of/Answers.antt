@@ -9,7 +9,7 @@ use Rattle.image_laws.specs.WritingOf.{IsPlaceOf}
 use Rattle.row_reads.specs.contracts.records.RecordAt.{the_row}
 use Rattle.store_reads.proofs.KnownRows.{all_known_in, standing_told}
 use Rattle.store_reads.proofs.Placed.{record_placed}
-use Rattle.store_reads.proofs.Telling.{shown, shown_then}
+use Rattle.store_reads.proofs.ReadContents.{shown, shown_then}
 use Rattle.store_reads.proofs.changes.place_of.Goals as goal
 
 pub returns-in-Some-stands-clause-value : goal.returns-in-Some-stands-clause-value

@@ -1,9 +1,9 @@
 use Rattle.std.proofs.Common.{refl}
-use Rattle.store_reads.proofs.Telling.{if_ok}
+use Rattle.store_reads.proofs.ReadContents.{if_ok}
 use Rattle.store_reads.proofs.changes.writing_of.Goals as goal
 
 pub returns-in-AddsWord-clause-value : goal.returns-in-AddsWord-clause-value
-returns-in-AddsWord-clause-value g c clean = rw c.in-AddsWord.is (if_ok c.word_writing.result _ _ (λ w told d sound is owed. told d sound is) (c.word_writing.ensures.value clean))
+returns-in-AddsWord-clause-value g c clean = rw c.in-AddsWord.is (if_ok c.word_writing.result _ _ (λ w as_read d sound is owed. as_read d sound is) (c.word_writing.ensures.value clean))
 
 pub returns-in_ok-place-in-Opens-clause-value : goal.returns-in_ok-place-in-Opens-clause-value
 returns-in_ok-place-in-Opens-clause-value g c clean d sound is owed = rw c.in-Opens.is (c.in_ok-place-in-Opens.place, (c.in_ok-place-in-Opens.ensures.value clean).1 d sound is, refl)
@@ -18,4 +18,4 @@ pub returns-in_ok-place-in-Withdraws-clause-value : goal.returns-in_ok-place-in-
 returns-in_ok-place-in-Withdraws-clause-value g c clean d sound is owed = rw c.in-Withdraws.is (c.in_ok-place-in-Withdraws.place, (c.in_ok-place-in-Withdraws.ensures.value clean).1 d sound is, refl)
 
 pub returns-in-Discards-clause-value : goal.returns-in-Discards-clause-value
-returns-in-Discards-clause-value g c clean = rw c.in-Discards.is (if_ok c.discard_writing.result _ _ (λ w told d sound is owed. told.1 d sound is) (c.discard_writing.ensures.value clean))
+returns-in-Discards-clause-value g c clean = rw c.in-Discards.is (if_ok c.discard_writing.result _ _ (λ w as_read d sound is owed. as_read.1 d sound is) (c.discard_writing.ensures.value clean))

@@ -1,9 +1,9 @@
 use Rattle.std.proofs.Common.{sym, ◌∙◌}
 use Rattle.sqlite.specs.Held.{state}
-use Rattle.store_reads.proofs.Telling.{tells}
+use Rattle.store_reads.proofs.ReadContents.{reads}
 use Rattle.store_reads.proofs.lots.is_charged.Goals as goal
 
 pub returns-clause-value : goal.returns-clause-value
 returns-clause-value g c =
-    tells (state g.S.Store c.args.conn.now) (state g.S.Store c.is_charged.new.conn) c.is_charged.result _ _ c.is_charged.ensures.found
+    reads (state g.S.Store c.args.conn.now) (state g.S.Store c.is_charged.new.conn) c.is_charged.result _ _ c.is_charged.ensures.found
     (λ d sound x is. is ∙ sym (c.blanks_by_serial.ensures.charged d.facts c.args.blank))

@@ -2,9 +2,9 @@ use Rattle.std.proofs.Common.{rules, sym, ap, ◌∙◌}
 use Rattle.std.specs.Prelude.{option_map}
 use Rattle.sqlite.specs.Held.{state}
 use Rattle.row_reads.specs.declared.lots.LotRow.{LotRow}
-use Rattle.row_reads.specs.Telling.{lot_row_of}
+use Rattle.row_reads.specs.RowValues.{lot_row_of}
 use Rattle.row_laws.proofs.Finding.{option_map-map}
-use Rattle.store_reads.proofs.Telling.{shown}
+use Rattle.store_reads.proofs.ReadContents.{shown}
 use Rattle.store_reads.proofs.lots.lot.Goals as goal
 
 pub returns-clause-value : goal.returns-clause-value

@@ -7,8 +7,8 @@ use Rattle.table_rows.specs.Tables.{StoredBatch}
 use Rattle.store_reads.specs.Waiting.{IsFirstWaiting}
 use Rattle.store_reads.proofs.ByKnown.{sound_apart, waiting_by_known}
 use Rattle.store_reads.proofs.Knowing.{knows_after}
-use Rattle.store_reads.proofs.Told.{told_then}
-use Rattle.store_reads.proofs.Telling.{shown, tells}
+use Rattle.store_reads.proofs.ReadShown.{reads_shown_then}
+use Rattle.store_reads.proofs.ReadContents.{reads, shown}
 use Rattle.store_reads.proofs.Waiting.{first_waits, none_waits}
 use Rattle.store_reads.proofs.records.first_waiting.Goals as goal
 
@@ -45,9 +45,9 @@ returns-clause-value g c =
     let old = state g.S.Store c.args.conn.now in
     let mid = state g.S.Store c.batch_id.new.conn in
     let new = state g.S.Store c.waiting_of-2.new.conn in
-    told_then old mid new c.waiting_of-2.result (λ d. Some id ≡ option_map (λ (row : StoredBatch). row.id) (find (is_batch_named b) (stored_batches d.facts))) (λ d. IsFirstWaiting id (image d)) _
+    reads_shown_then old mid new c.waiting_of-2.result (λ d. Some id ≡ option_map (λ (row : StoredBatch). row.id) (find (is_batch_named b) (stored_batches d.facts))) (λ d. IsFirstWaiting id (image d)) _
     c.batch_id.ensures.looks c.waiting_of-2.ensures.looks
     (shown old mid _ _ (rw c.in-Some-2.is at c.in_ok-id.ensures.found) (λ d sound is. is (c.batches_by_name.ensures.once d.facts b sound.facts)))
-    (tells mid new c.waiting_of-2.result _ _ c.waiting_of-2.ensures.value (λ d sound x is. is))
+    (reads mid new c.waiting_of-2.result _ _ c.waiting_of-2.ensures.value (λ d sound x is. is))
     (λ d sound one name first.
     first_waits (stored_batches d.facts) (stored_records d.facts) b id one (c.records_of_batches.ensures.waiting_rising d.facts id) name first ∙ sym (c.records_of_batches.ensures.waiting d.facts b))

@@ -1,8 +1,8 @@
 use Rattle.std.proofs.Common.{rules, sym, ◌∙◌}
 use Rattle.sqlite.specs.Held.{state}
 use Rattle.image_laws.specs.Image.{stored_batches, stored_records}
-use Rattle.store_reads.proofs.Found.{no_batch_of, state_told}
-use Rattle.store_reads.proofs.Telling.{both_shown, shown}
+use Rattle.store_reads.proofs.Found.{no_batch_of, state_read}
+use Rattle.store_reads.proofs.ReadContents.{both_shown, shown}
 use Rattle.store_reads.proofs.records.record_state.Goals as goal
 
 pub returns-in_default-clause-value : goal.returns-in_default-clause-value
@@ -20,5 +20,5 @@ returns-clause-value g c =
     both_shown (state g.S.Store c.args.conn.now) (state g.S.Store c.batch_id.new.conn) (state g.S.Store c.record_named.new.conn) _ _ _
     c.batch_id.ensures.looks c.record_named.ensures.looks (rw c.in-Some.is at c.in_ok-id.ensures.found) c.in_ok-found.ensures.found
     (λ d sound one two.
-    search rules ∙ state_told (stored_batches d.facts) (stored_records d.facts) b r c.in-Some.id (one (c.batches_by_name.ensures.once d.facts b sound.facts)) c.in_ok-found.found
+    search rules ∙ state_read (stored_batches d.facts) (stored_records d.facts) b r c.in-Some.id (one (c.batches_by_name.ensures.once d.facts b sound.facts)) c.in_ok-found.found
     (two (c.records_by_name.ensures.once d.facts c.in-Some.id r)) ∙ sym (c.records_by_name.ensures.state d.facts b r))

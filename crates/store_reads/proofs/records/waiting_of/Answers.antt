@@ -2,7 +2,7 @@ use Rattle.std.proofs.Common.{Some, None, refl}
 use Rattle.sqlite.specs.Held.{state}
 use Rattle.store_reads.proofs.Knowing.{knows_after, knows_standing}
 use Rattle.store_reads.proofs.KnownRows.{waiting_stands}
-use Rattle.store_reads.proofs.Telling.{rows_as}
+use Rattle.store_reads.proofs.ReadContents.{rows_as}
 use Rattle.store_reads.proofs.records.waiting_of.Goals as goal
 
 pub returns-in_err-card-clause-knows : goal.returns-in_err-card-clause-knows

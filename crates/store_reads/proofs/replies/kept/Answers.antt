@@ -1,7 +1,7 @@
 use Rattle.sqlite.specs.Held.{state}
-use Rattle.store_reads.proofs.Telling.{tells}
+use Rattle.store_reads.proofs.ReadContents.{reads}
 use Rattle.store_reads.proofs.replies.kept.Goals as goal
 
 pub returns-clause-value : goal.returns-clause-value
 returns-clause-value g c =
-    tells (state g.S.Store c.args.conn.now) (state g.S.Store c.kept.new.conn) c.kept.result _ _ c.kept.ensures.found (λ d sound x is. is (c.replies_by_number.ensures.once d c.args.client.now c.args.number sound))
+    reads (state g.S.Store c.args.conn.now) (state g.S.Store c.kept.new.conn) c.kept.result _ _ c.kept.ensures.found (λ d sound x is. is (c.replies_by_number.ensures.once d c.args.client.now c.args.number sound))

@@ -1,6 +1,6 @@
 use Rattle.sqlite.specs.Held.{state}
-use Rattle.store_reads.proofs.Telling.{tells}
+use Rattle.store_reads.proofs.ReadContents.{reads}
 use Rattle.store_reads.proofs.replies.mark.Goals as goal
 
 pub returns-clause-value : goal.returns-clause-value
-returns-clause-value g c = tells (state g.S.Store c.args.conn.now) (state g.S.Store c.mark.new.conn) c.mark.result _ _ c.mark.ensures.found (λ d sound x is. is (c.replies_by_number.ensures.marks_named d sound))
+returns-clause-value g c = reads (state g.S.Store c.args.conn.now) (state g.S.Store c.mark.new.conn) c.mark.result _ _ c.mark.ensures.found (λ d sound x is. is (c.replies_by_number.ensures.marks_named d sound))

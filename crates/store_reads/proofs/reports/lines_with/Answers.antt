@@ -5,10 +5,10 @@ use Rattle.row_reads.specs.CardDecoding.{good_at, place_of, record_at}
 use Rattle.row_reads.specs.Extremes.{AreSorted}
 use Rattle.table_rows.specs.Keys.{is_good_of, is_record_of}
 use Rattle.image_laws.specs.Image.{stored_records, stored_sessions}
-use Rattle.store_reads.specs.Lines.{is_card_at, line_told}
+use Rattle.store_reads.specs.Lines.{is_card_at, line_for}
 use Rattle.store_reads.proofs.RecordLines.{lines_are}
-use Rattle.store_reads.proofs.Told.{ok_both, told}
-use Rattle.store_reads.proofs.Telling.{shown, shown_then}
+use Rattle.store_reads.proofs.ReadShown.{ok_both, reads_shown}
+use Rattle.store_reads.proofs.ReadContents.{shown, shown_then}
 use Rattle.store_reads.proofs.reports.lines_with.Goals as goal
 
 pub returns-clause-value : goal.returns-clause-value
@@ -19,11 +19,11 @@ returns-clause-value g c =
     let old = state g.S.Store c.args.conn.now in
     let mid = state g.S.Store c.records_of.new.conn in
     let new = state g.S.Store c.good_sessions.new.conn in
-    told old new c.lines_told.result
+    reads_shown old new c.lines_for.result
     (λ d. AreSorted place_of (map record_at (filter (is_record_of id) (stored_records d.facts))) records × IsPermutation (map good_at (filter (is_good_of id) (stored_sessions d.facts))) good)
-    (λ lines. (lines.items ≡ map (line_told good) records) × ((k : ℕ) → count_by (is_card_at k) good ≤ 1)) _
+    (λ lines. (lines.items ≡ map (line_for good) records) × ((k : ℕ) → count_by (is_card_at k) good ≤ 1)) _
     (shown_then old mid new _ _ _ c.records_of.ensures.looks c.good_sessions.ensures.looks
     (shown old mid _ _ c.in_ok-records.ensures.found (λ d sound is. is)) (shown mid new _ _ c.in_ok-good.ensures.found (λ d sound is. is)) (λ d sound one two. (one, two)))
-    (ok_both c.lines_told.result _ _ (rw (c.as_slice.ensures.value, c.as_slice-2.ensures.value) at c.lines_told.ensures.value) (rw c.as_slice-2.ensures.value at c.lines_told.ensures.once))
+    (ok_both c.lines_for.result _ _ (rw (c.as_slice.ensures.value, c.as_slice-2.ensures.value) at c.lines_for.ensures.value) (rw c.as_slice-2.ensures.value at c.lines_for.ensures.once))
     (λ d sound both lines made.
     made.0 ∙ lines_are (filter (is_good_of id) (stored_sessions d.facts)) good both.1 made.1 (filter (is_record_of id) (stored_records d.facts)) (c.records_of_batches.ensures.rising d.facts id) records both.0)

@@ -6,8 +6,8 @@ use Rattle.table_rows.specs.Tables.{StoredBatch}
 use Rattle.image_laws.specs.Image.{stored_batches}
 use Rattle.store_reads.specs.Lines.{lines_with}
 use Rattle.store_reads.proofs.RecordLines.{lines_by_id}
-use Rattle.store_reads.proofs.Told.{told_then}
-use Rattle.store_reads.proofs.Telling.{shown}
+use Rattle.store_reads.proofs.ReadShown.{reads_shown_then}
+use Rattle.store_reads.proofs.ReadContents.{shown}
 use Rattle.store_reads.proofs.reports.record_lines.Goals as goal
 
 pub returns-clause-value : goal.returns-clause-value
@@ -17,7 +17,7 @@ returns-clause-value g c =
     let old = state g.S.Store c.args.conn.now in
     let mid = state g.S.Store c.batch_id.new.conn in
     let new = state g.S.Store c.lines_with.new.conn in
-    told_then old mid new c.lines_with.result (λ d. found ≡ option_map (λ (row : StoredBatch). row.id) (find (is_batch_named b) (stored_batches d.facts)))
+    reads_shown_then old mid new c.lines_with.result (λ d. found ≡ option_map (λ (row : StoredBatch). row.id) (find (is_batch_named b) (stored_batches d.facts)))
     (λ d lines. lines.items ≡ lines_with d.facts (unwrap_or found 0)) _
     c.batch_id.ensures.looks c.lines_with.ensures.looks
     (shown old mid _ _ c.in_ok-batch_id.ensures.found (λ d sound is. is (c.batches_by_name.ensures.once d.facts b sound.facts)))

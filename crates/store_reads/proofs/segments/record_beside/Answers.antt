@@ -1,7 +1,7 @@
 use Rattle.std.proofs.Common.{◌∙◌}
 use Rattle.sqlite.specs.Held.{state}
 use Rattle.store_reads.proofs.KnownRows.{read_beside}
-use Rattle.store_reads.proofs.Telling.{rows_as}
+use Rattle.store_reads.proofs.ReadContents.{rows_as}
 use Rattle.store_reads.proofs.segments.record_beside.Goals as goal
 
 pub returns-clause-known : goal.returns-clause-known

@@ -3,7 +3,7 @@ use Rattle.sqlite.specs.Held.{state}
 use Rattle.store_reads.proofs.ByKnown.{sound_apart}
 use Rattle.store_reads.proofs.KnownRows.{read_known, records_once}
 use Rattle.store_reads.proofs.SegmentRows.{segment_without_product, segment_without_record}
-use Rattle.store_reads.proofs.Telling.{looks_then, rows_both, rows_then, shown}
+use Rattle.store_reads.proofs.ReadContents.{looks_then, rows_both, rows_then, shown}
 use Rattle.store_reads.proofs.segments.record_read.Goals as goal
 
 pub returns-in_default-clause-none : goal.returns-in_default-clause-none

@@ -1,7 +1,7 @@
 use Rattle.sqlite.specs.Held.{state}
 use Rattle.store_reads.proofs.ByKnown.{segment_by_read, sound_apart}
 use Rattle.store_reads.proofs.Knowing.{knows_after, knows_more}
-use Rattle.store_reads.proofs.Telling.{looks_then}
+use Rattle.store_reads.proofs.ReadContents.{looks_then}
 use Rattle.store_reads.proofs.segments.segment_read.Goals as goal
 
 pub returns-in_err-card-clause-knows : goal.returns-in_err-card-clause-knows

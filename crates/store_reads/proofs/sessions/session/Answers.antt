@@ -5,9 +5,9 @@ use Rattle.sqlite.specs.State.{HasCleanDisk}
 use Rattle.image_laws.specs.Image.{image, stored_batches, stored_records, stored_sessions}
 use Rattle.table_rows.specs.Keys.{is_record_at}
 use Rattle.store_reads.proofs.ByKnown.{session_by_known, sound_apart}
-use Rattle.store_reads.proofs.Found.{name_told, no_batch, no_record, no_session, session_told}
+use Rattle.store_reads.proofs.Found.{name_read, no_batch, no_record, no_session, session_read}
 use Rattle.store_reads.proofs.KnownRows.{known_in}
-use Rattle.store_reads.proofs.Telling.{both_shown, shown, three_shown}
+use Rattle.store_reads.proofs.ReadContents.{both_shown, shown, three_shown}
 use Rattle.store_reads.proofs.sessions.session.Goals as goal
 
 pub returns-in_default-clause-value : goal.returns-in_default-clause-value
@@ -48,9 +48,9 @@ returns-clause-value g c =
     (rw c.in-Some.is at c.in_ok-found.ensures.found) (rw c.in-Some-2.is at c.in_ok-batch.ensures.found) (rw c.in-Some-3.is at c.in_ok-card.ensures.found)
     (λ d sound first second third.
     ap Some c.row_named-2.ensures
-    ∙ session_told (stored_sessions d.facts) (stored_batches d.facts) (stored_records d.facts) id s (first (c.sessions_by_number.ensures.once d.facts id))
+    ∙ session_read (stored_sessions d.facts) (stored_batches d.facts) (stored_records d.facts) id s (first (c.sessions_by_number.ensures.once d.facts id))
     c.in-Some-2.batch (second (c.batches_by_id.ensures.once d.facts s.batch))
-    c.in-Some-3.card.name (name_told (find (is_record_at s.batch s.place) (stored_records d.facts)) c.in-Some-3.card (third (c.records_by_place.ensures.once d.facts s.batch s.place)))
+    c.in-Some-3.card.name (name_read (find (is_record_at s.batch s.place) (stored_records d.facts)) c.in-Some-3.card (third (c.records_by_place.ensures.once d.facts s.batch s.place)))
     ∙ sym (c.sessions_by_number.ensures.row d.facts id sound.facts))
 
 pub returns-in-Some-at-clause-value : goal.returns-in-Some-at-clause-value

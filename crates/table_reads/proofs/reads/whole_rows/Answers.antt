@@ -2,11 +2,11 @@ use Rattle.std.proofs.Common.{true}
 use Rattle.sqlite.specs.Held.{state}
 use Rattle.sql_base.proofs.Querying.{shown_open}
 use Rattle.sql_base.proofs.Selecting.{if_ok}
-use Rattle.table_reads.proofs.Telling.{exact}
+use Rattle.table_reads.proofs.ReadRows.{exact}
 use Rattle.table_reads.proofs.reads.whole_rows.Goals as goal
 
-pub returns-clause-told : goal.returns-clause-told
-returns-clause-told g c clean =
+pub returns-clause-value : goal.returns-clause-value
+returns-clause-value g c clean =
     let begun = state g.S.Store (record c.args.conn.now { in_transaction = true }) in
     if_ok c.rows_of.result _ _ (λ rows h.
     let end = state g.S.Store h.0 in

@@ -18,18 +18,18 @@ loop-text-preserved g c =
     let before = c.loop-text.invariant in
     record {
       idle = c.has_rising.ensures.idle;
-      was_open = λ clean some. (before.kept (early clean)).was_open (c.in_ok-has_rising.ensures.told clean).0;
+      was_open = λ clean some. (before.kept (early clean)).was_open (c.in_ok-has_rising.ensures.value clean).0;
       apart = λ clean ours.
-          let told = c.in_ok-has_rising.ensures.told clean in
+          let value = c.in_ok-has_rising.ensures.value clean in
           one_more old.now ours k (omega (arith, ap length c.rowid_texts-text-items.ensures, length-map xs (λ t. t.now))) x.now
           (sym (get_or-map (λ t. t.now) xs k (record { ref_ptr = (0, 0); now = [] }) [] c.loop-text-test.true) ∙ ap (λ texts. get_or texts k []) c.rowid_texts-text-items.ensures)
-          _ (told_before old mid x.now _ (before.kept (early clean)) told.0 told.1) c.if-not-branch.false (before.apart (early clean) ours);
+          _ (told_before old mid x.now _ (before.kept (early clean)) value.0 value.1) c.if-not-branch.false (before.apart (early clean) ours);
       kept = λ clean. kept_then old mid new (before.kept (early clean)) (c.has_rising.ensures.kept clean);
       survives = search rules;
     }
 
-pub returns-then-not-branch-clause-told : goal.returns-then-not-branch-clause-told
-returns-then-not-branch-clause-told g c clean =
+pub returns-then-not-branch-clause-value : goal.returns-then-not-branch-clause-value
+returns-then-not-branch-clause-value g c clean =
     let old = state g.S.Store c.args.conn.now in
     let mid = state g.S.Store c.loop-text.conn in
     let early : HasCleanDisk mid = omega (arith, c.has_rising.ensures.survives.clean) in
@@ -37,20 +37,20 @@ returns-then-not-branch-clause-told g c clean =
     let xs = c.rowid_texts-text-items.result.now in
     let x = get_or xs k (record { ref_ptr = (0, 0); now = [] }) in
     let kept = c.loop-text.invariant.kept early in
-    let told = c.in_ok-has_rising.ensures.told clean in (
-      kept.was_open told.0,
+    let value = c.in_ok-has_rising.ensures.value clean in (
+      kept.was_open value.0,
       λ ours. (
         (λ rises. absurd (cc)),
         (λ apart.
             let rises = at_fault old.now ours k (omega (arith, ap length c.rowid_texts-text-items.ensures, length-map xs (λ t. t.now))) x.now
             (sym (get_or-map (λ t. t.now) xs k (record { ref_ptr = (0, 0); now = [] }) [] c.loop-text-test.true) ∙ ap (λ texts. get_or texts k []) c.rowid_texts-text-items.ensures)
-            _ (told_before old mid x.now _ kept told.0 told.1) apart in
+            _ (told_before old mid x.now _ kept value.0 value.1) apart in
             sym c.if-not-branch.true ∙ rises),
       ),
     )
 
-pub returns-clause-told : goal.returns-clause-told
-returns-clause-told g c clean =
+pub returns-clause-value : goal.returns-clause-value
+returns-clause-value g c clean =
     let xs = c.rowid_texts-text-items.result.now in
     let long = length-map xs (λ t. t.now) in
     let k = c.loop-text.text-index in

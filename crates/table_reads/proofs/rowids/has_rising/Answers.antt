@@ -5,8 +5,8 @@ use Rattle.table_reads.specs.Rowids.{AreRising}
 use Rattle.table_reads.proofs.Rising.{rowids_apart}
 use Rattle.table_reads.proofs.rowids.has_rising.Goals as goal
 
-pub returns-clause-told : goal.returns-clause-told
-returns-clause-told g c clean =
+pub returns-clause-value : goal.returns-clause-value
+returns-clause-value g c clean =
     let begun = state g.S.Store (record c.args.conn.now { in_transaction = true }) in
     let shown = c.in_ok-rows.ensures.shown clean in
     let end = state g.S.Store shown.0 in

@@ -1,13 +1,13 @@
 use Rattle.std.proofs.Common.{◌≡◌, ◌∷◌, [], length, ap, subst, ◌∙◌, MatchOption, arith, rules, append_assoc}
 use Rattle.table_reads.specs.Whole.{as_stored}
-use Rattle.table_reads.proofs.Telling.{further}
+use Rattle.table_reads.proofs.ReadRows.{further}
 use Rattle.table_reads.proofs.stored.all_in.Goals as goal
 
 pub loop-row-init : goal.loop-row-init
 loop-row-init g c = record {
   rest = search rules;
   left = omega (arith, c.into_iter-row-iterator.ensures.into_iter_gives.1, ap length c.into_iter-row-iterator.ensures.into_iter_gives.0, c.args.rows.ok.0);
-  told = search rules;
+  value = search rules;
 }
 
 pub loop-row-preserved : goal.loop-row-preserved
@@ -17,6 +17,6 @@ loop-row-preserved g c =
     record {
       rest = append_assoc c.loop-row.yielded (c.in-Some.row ∷ []) _ ∙ rw (← steps.0) c.loop-row.invariant.rest;
       left = omega (arith, steps.1, ap length steps.0, c.loop-row.invariant.left);
-      told = further t.encode (as_stored t.by_rowid) c.loop-row.yielded c.in-Some.row c.in-Some-2.it
-          (subst (λ o. MatchOption o (t.is_row c.in-Some.row → ⊥) (λ it. t.encode it ≡ as_stored t.by_rowid c.in-Some.row)) c.in-Some-2.is c.in_ok-it.ensures) c.loop-row.all.items _ c.loop-row.invariant.told c.in_ok-push.ensures.items;
+      value = further t.encode (as_stored t.by_rowid) c.loop-row.yielded c.in-Some.row c.in-Some-2.it
+          (subst (λ o. MatchOption o (t.is_row c.in-Some.row → ⊥) (λ it. t.encode it ≡ as_stored t.by_rowid c.in-Some.row)) c.in-Some-2.is c.in_ok-it.ensures) c.loop-row.all.items _ c.loop-row.invariant.value c.in_ok-push.ensures.items;
     }

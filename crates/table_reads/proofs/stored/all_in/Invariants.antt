@@ -7,5 +7,5 @@ abbrev pub invariant-loop-row : goal.invariant-loop-row
 invariant-loop-row g l = record {
   rest : l.yielded ++ into_iter_items l.row-iterator ≡ into_iter_items l.initial.row-iterator;
   left : into_iter_len l.row-iterator ≡ length (into_iter_items l.row-iterator);
-  told : map g.T.Stored.encode l.all.items ≡ map (as_stored g.T.Stored.by_rowid) l.yielded;
+  value : map g.T.Stored.encode l.all.items ≡ map (as_stored g.T.Stored.by_rowid) l.yielded;
 }

@@ -6,18 +6,18 @@ use Rattle.table_reads.proofs.tables.groupings.Goals as goal
 
 pub returns-in-One : goal.returns-in-One
 returns-in-One g c = record {
-  told = λ clean.
+  value = λ clean.
       let old = state g.S.Store c.args.conn.now in
-      if_ok c.whole.result _ _ (λ found told. elim c.in-One.is [
-        | inl is ↦ subst (λ v. GroupingsRead v old found) (sym is) (unmixed_read_one old found told)
-        | inr is ↦ subst (λ v. GroupingsRead v old found) (sym is) (unmixed_read_two old found told)
-      ]) (c.whole.ensures.told clean);
+      if_ok c.whole.result _ _ (λ found value. elim c.in-One.is [
+        | inl is ↦ subst (λ v. GroupingsRead v old found) (sym is) (unmixed_read_one old found value)
+        | inr is ↦ subst (λ v. GroupingsRead v old found) (sym is) (unmixed_read_two old found value)
+      ]) (c.whole.ensures.value clean);
   kept = c.whole.ensures.kept;
   idle = c.whole.ensures.idle;
   survives = c.whole.ensures.survives;
 }
 
-pub returns-in-Three-clause-told : goal.returns-in-Three-clause-told
-returns-in-Three-clause-told g c clean =
+pub returns-in-Three-clause-value : goal.returns-in-Three-clause-value
+returns-in-Three-clause-value g c clean =
     let old = state g.S.Store c.args.conn.now in
-    if_ok c.whole-in-Three.result _ _ (λ found told. subst (λ v. GroupingsRead v old found) (sym c.in-Three.is) (groupings_read old found told)) (c.whole-in-Three.ensures.told clean)
+    if_ok c.whole-in-Three.result _ _ (λ found value. subst (λ v. GroupingsRead v old found) (sym c.in-Three.is) (groupings_read old found value)) (c.whole-in-Three.ensures.value clean)

@@ -6,12 +6,12 @@ use Rattle.table_reads.proofs.tables.marks.Goals as goal
 
 pub returns-in-Two : goal.returns-in-Two
 returns-in-Two g c = record {
-  told = λ clean.
+  value = λ clean.
       let old = state g.S.Store c.args.conn.now in
-      if_ok c.whole.result _ _ (λ found told. elim c.in-Two.is [
-        | inl is ↦ subst (λ v. MarksRead v old.now found) (sym is) (marks_read_two old found told)
-        | inr is ↦ subst (λ v. MarksRead v old.now found) (sym is) (marks_read_three old found told)
-      ]) (c.whole.ensures.told clean);
+      if_ok c.whole.result _ _ (λ found value. elim c.in-Two.is [
+        | inl is ↦ subst (λ v. MarksRead v old.now found) (sym is) (marks_read_two old found value)
+        | inr is ↦ subst (λ v. MarksRead v old.now found) (sym is) (marks_read_three old found value)
+      ]) (c.whole.ensures.value clean);
   kept = c.whole.ensures.kept;
   idle = c.whole.ensures.idle;
   survives = c.whole.ensures.survives;

@@ -35,8 +35,8 @@ returns-clause-survives g c =
     outlives (outlives (outlives_four c.marks.ensures.survives c.whole.ensures.survives c.whole-2.ensures.survives c.whole-3.ensures.survives)
     (outlives_four c.whole-4.ensures.survives c.groupings.ensures.survives c.whole-5.ensures.survives c.whole-6.ensures.survives)) (outlives (outlives c.whole-7.ensures.survives c.whole-8.ensures.survives) c.whole-9.ensures.survives)
 
-pub returns-clause-told : goal.returns-clause-told
-returns-clause-told g c clean =
+pub returns-clause-value : goal.returns-clause-value
+returns-clause-value g c clean =
     let v = c.args.version in
     let s0 = state g.S.Store c.args.conn.now in
     let s1 = state g.S.Store c.marks.new.conn in
@@ -70,19 +70,19 @@ returns-clause-told g c clean =
     let kept8 = kept_then s0 s7 s8 kept7 (c.whole-6.ensures.kept clean8) in
     let kept9 = kept_then s0 s8 s9 kept8 (c.whole-7.ensures.kept clean9) in
     let kept10 = kept_then s0 s9 s10 kept9 (c.whole-8.ensures.kept clean10) in
-    let first = c.in_ok-products.ensures.told clean2 in (
+    let first = c.in_ok-products.ensures.value clean2 in (
       kept1.was_open first.0,
       subst (λ all. MatchOption all (HoldsNoneOf v s0.now) (HasRows v s0.now)) (sym c.gathered.ensures)
           (all_read v s0.now c.in_ok-products.products c.in_ok-lots.lots c.in_ok-batches.batches c.in_ok-records.records c.in_ok-groupings.groupings c.in_ok-sessions.sessions c.in_ok-words.words c.in_ok-blanks.blanks c.in_ok-remakes.remakes c.in_ok-replies.replies c.in_ok-marks.marks
-          (read_of _ FitsProduct _ _ v (λ t. t.products) (λ t fit. fit.products) (λ t db held. held.products) _ wholes.products s0 s1 kept1 c.in_ok-products.products (c.in_ok-products.ensures.told clean2))
-          (read_of _ FitsLot _ _ v (λ t. t.lots) (λ t fit. fit.lots) (λ t db held. held.lots) _ wholes.lots s0 s2 kept2 c.in_ok-lots.lots (c.in_ok-lots.ensures.told clean3))
-          (read_of _ IsAny _ _ v (λ t. t.batches) (λ t fit k d low. tt) (λ t db held. held.batches) _ wholes.batches s0 s3 kept3 c.in_ok-batches.batches (c.in_ok-batches.ensures.told clean4))
-          (read_of _ IsAny _ _ v (λ t. t.records) (λ t fit k d low. tt) (λ t db held. held.records) _ wholes.records s0 s4 kept4 c.in_ok-records.records (c.in_ok-records.ensures.told clean5))
-          (carried (HoldsNoneOf v) (λ db all. HasGroupings v all db) s0 s5 kept5 c.in_ok-groupings.groupings (c.in_ok-groupings.ensures.told clean6))
-          (read_of _ IsAny _ _ v (λ t. t.sessions) (λ t fit k d low. tt) (λ t db held. held.sessions) _ wholes.sessions s0 s6 kept6 c.in_ok-sessions.sessions (c.in_ok-sessions.ensures.told clean7))
-          (read_of _ FitsWord _ _ v (λ t. t.words) (λ t fit. fit.words) (λ t db held. held.words) _ wholes.words s0 s7 kept7 c.in_ok-words.words (c.in_ok-words.ensures.told clean8))
-          (read_of _ IsAny _ _ v (λ t. t.blanks) (λ t fit k d low. tt) (λ t db held. held.blanks) _ wholes.blanks s0 s8 kept8 c.in_ok-blanks.blanks (c.in_ok-blanks.ensures.told clean9))
-          (read_of _ IsAny _ _ v (λ t. t.remakes) (λ t fit k d low. tt) (λ t db held. held.remakes) _ wholes.remakes s0 s9 kept9 c.in_ok-remakes.remakes (c.in_ok-remakes.ensures.told clean10))
-          (read_of _ IsAny _ _ v (λ t. t.replies) (λ t fit k d low. tt) (λ t db held. held.replies) _ wholes.replies s0 s10 kept10 c.in_ok-replies.replies (c.in_ok-replies.ensures.told clean))
-          (listed (HoldsNoneOf v s0.now) (λ all. HasMarks v all s0.now) c.in_ok-marks.marks (c.in_ok-marks.ensures.told clean1))),
+          (read_of _ FitsProduct _ _ v (λ t. t.products) (λ t fit. fit.products) (λ t db held. held.products) _ wholes.products s0 s1 kept1 c.in_ok-products.products (c.in_ok-products.ensures.value clean2))
+          (read_of _ FitsLot _ _ v (λ t. t.lots) (λ t fit. fit.lots) (λ t db held. held.lots) _ wholes.lots s0 s2 kept2 c.in_ok-lots.lots (c.in_ok-lots.ensures.value clean3))
+          (read_of _ IsAny _ _ v (λ t. t.batches) (λ t fit k d low. tt) (λ t db held. held.batches) _ wholes.batches s0 s3 kept3 c.in_ok-batches.batches (c.in_ok-batches.ensures.value clean4))
+          (read_of _ IsAny _ _ v (λ t. t.records) (λ t fit k d low. tt) (λ t db held. held.records) _ wholes.records s0 s4 kept4 c.in_ok-records.records (c.in_ok-records.ensures.value clean5))
+          (carried (HoldsNoneOf v) (λ db all. HasGroupings v all db) s0 s5 kept5 c.in_ok-groupings.groupings (c.in_ok-groupings.ensures.value clean6))
+          (read_of _ IsAny _ _ v (λ t. t.sessions) (λ t fit k d low. tt) (λ t db held. held.sessions) _ wholes.sessions s0 s6 kept6 c.in_ok-sessions.sessions (c.in_ok-sessions.ensures.value clean7))
+          (read_of _ FitsWord _ _ v (λ t. t.words) (λ t fit. fit.words) (λ t db held. held.words) _ wholes.words s0 s7 kept7 c.in_ok-words.words (c.in_ok-words.ensures.value clean8))
+          (read_of _ IsAny _ _ v (λ t. t.blanks) (λ t fit k d low. tt) (λ t db held. held.blanks) _ wholes.blanks s0 s8 kept8 c.in_ok-blanks.blanks (c.in_ok-blanks.ensures.value clean9))
+          (read_of _ IsAny _ _ v (λ t. t.remakes) (λ t fit k d low. tt) (λ t db held. held.remakes) _ wholes.remakes s0 s9 kept9 c.in_ok-remakes.remakes (c.in_ok-remakes.ensures.value clean10))
+          (read_of _ IsAny _ _ v (λ t. t.replies) (λ t fit k d low. tt) (λ t db held. held.replies) _ wholes.replies s0 s10 kept10 c.in_ok-replies.replies (c.in_ok-replies.ensures.value clean))
+          (listed (HoldsNoneOf v s0.now) (λ all. HasMarks v all s0.now) c.in_ok-marks.marks (c.in_ok-marks.ensures.value clean1))),
     )

@@ -2,7 +2,7 @@ use Rattle.std.proofs.Common.{◌≡◌, ◌∙◌, length, take, ap}
 use Rattle.std.proofs.lemmas.Bool.Decides.{Decides-eqb}
 use Rattle.std.proofs.lemmas.Slice.Eq.{strip_prefix_is}
 use Rattle.std.specs.Prelude.{bytes_eq}
-use Rattle.arrivals.specs.Told.{body_of, status_of}
+use Rattle.arrivals.specs.HttpReplies.{body_of, status_of}
 use Rattle.http_messages.specs.declared.reply.Content.TheVariants.{Json}
 use Rattle.http_messages.specs.Texts.{head_text}
 use Rattle.wire.proofs.ParseLemmas.{same_text, other_text}

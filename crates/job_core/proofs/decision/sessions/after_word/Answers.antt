@@ -20,7 +20,7 @@ returns-in_default c = λ plan k is at before segment.
 pub returns-in-Stop : goal.returns-in-Stop
 returns-in-Stop c = λ plan k is at before segment.
     let v = mapped (segment_row plan) _ c.in-Some.segment (sym segment ∙ c.in-Some.is) in
-    let told = tolerance_there plan is k c.args.cursor.now at v.0 v.1 in
+    let tolerance_is = tolerance_there plan is k c.args.cursor.now at v.0 v.1 in
     let by_class = class_stops (goes_on c.args.sw c.if-segment.tolerated) (sym c.class.ensures ∙ c.in-Stop.is) in
     let last : Bool = is_last_piece plan.max c.args.cursor.now v.0.segment.bytes in
     let bytes : v.0.segment.bytes ≡ c.view-view.result.bytes.now = ap (λ (r : SegmentRow). r.bytes) v.2 ∙ sym (ap (λ (p : PlacedSegment). p.segment.bytes) c.view-view.ensures.shown) in
@@ -32,4 +32,4 @@ returns-in-Stop c = λ plan k is at before segment.
           ∙ ap (λ m. is_last_piece m c.args.cursor.now v.0.segment.bytes) (sym most) ∙ ap (λ t. t && last) (sym (marked ∙ w.if-segment.true))
       | else-segment w ↦ w.tolerated-is ∙ w.if-segment.false ∙ ap (λ t. t && last) (sym (marked ∙ w.if-segment.false))
     ] in
-    goes_by plan k c.args.sw (v.0.segment.tol && last) told ∙ ap (goes_on c.args.sw) (sym tolerated) ∙ by_class
+    goes_by plan k c.args.sw (v.0.segment.tol && last) tolerance_is ∙ ap (goes_on c.args.sw) (sym tolerated) ∙ by_class

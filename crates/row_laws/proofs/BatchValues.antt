@@ -1,4 +1,4 @@
--- What the row of a batch tells of it: its product, its bytes, and how many rows and records it
+-- What the row of a batch gives of it: its product, its bytes, and how many rows and records it
 -- has.
 use Rattle.std.proofs.Common.{◌≡◌, ℕ, false, List, length, map, Option, Some, None, refl, sym, ap, ◌∙◌}
 use Rattle.std.specs.Prelude.{bytes_eq, find, option_map, unwrap_or}
@@ -19,7 +19,7 @@ use Rattle.job_facts.specs.States.{batch_named, is_closed, record_state, records
 use Rattle.table_rows.specs.Keys.{is_batch_named, is_batch_with}
 use Rattle.table_rows.specs.Tables.{StoredBatch}
 use Rattle.image_laws.specs.Image.{batch_id, stored_batch, stored_batches, stored_groupings}
-use Rattle.row_laws.specs.Telling.{batch_of_row, has_raw_in, size_of}
+use Rattle.row_laws.specs.RowValues.{batch_of_row, has_raw_in, size_of}
 use Rattle.row_laws.proofs.BatchRows.{name_once, named_row, own_name, totals_are}
 use Rattle.row_laws.proofs.Finding.{any_beside}
 use Rattle.row_laws.proofs.GroupingRows.{count_of_batch}
@@ -29,8 +29,8 @@ module _ (f : Facts) (b : List ℕ) where
   abbrev row_at : Batch → StoredBatch
   row_at c = stored_batch f (batch_id f.batches b, c)
 
-  pub row_told : batch_row_of f b ≡ option_map batch_of_row (find (is_batch_named b) (stored_batches f))
-  row_told = by_batch (batch_named f.batches b) refl ∙ sym (ap (option_map batch_of_row) (named_row f b))
+  pub row_in_rows : batch_row_of f b ≡ option_map batch_of_row (find (is_batch_named b) (stored_batches f))
+  row_in_rows = by_batch (batch_named f.batches b) refl ∙ sym (ap (option_map batch_of_row) (named_row f b))
     where
       by_batch : (o : Option Batch) → batch_named f.batches b ≡ o → batch_row_of f b ≡ option_map batch_of_row (option_map row_at o)
       by_batch None is = ap (option_map (batch_row f b)) is
@@ -38,8 +38,8 @@ module _ (f : Facts) (b : List ℕ) where
           ap (option_map (batch_row f b)) is
           ∙ ap (λ m. let row : BatchRow = record { product = c.product; is_closed = is_closed f m } in Some row) (sym (own_name f b c is))
 
-  pub has_told : (raw : List ℕ) → batch_has f b raw ≡ has_raw_in raw (find (is_batch_named b) (stored_batches f))
-  has_told raw = by_batch (batch_named f.batches b) ∙ sym (ap (has_raw_in raw) (named_row f b))
+  pub has_in_rows : (raw : List ℕ) → batch_has f b raw ≡ has_raw_in raw (find (is_batch_named b) (stored_batches f))
+  has_in_rows raw = by_batch (batch_named f.batches b) ∙ sym (ap (has_raw_in raw) (named_row f b))
     where
       by_batch : (o : Option Batch) → has_bytes raw o ≡ has_raw_in raw (option_map row_at o)
       by_batch None = refl
@@ -51,7 +51,7 @@ module _ (f : Facts) (b : List ℕ) where
 
   pub has_any : IsSound f → (raw : List ℕ) → batch_has f b raw ≡ list_any (is_batch_with b raw) (stored_batches f)
   has_any sound raw =
-      has_told raw ∙ raw_tested raw (find (is_batch_named b) (stored_batches f))
+      has_in_rows raw ∙ raw_tested raw (find (is_batch_named b) (stored_batches f))
       ∙ sym (any_beside (is_batch_named b) (λ (x : StoredBatch). bytes_eq x.raw raw) (stored_batches f) (name_once f sound b))
 
   -- the records of its rows are its records
@@ -67,8 +67,8 @@ module _ (f : Facts) (b : List ℕ) where
   unfolding batch_totals record_states
   states_many = length-map (records_named f b) (record_state f b)
 
-  pub size_told : batch_size_of f b ≡ option_map (size_of (stored_groupings f)) (find (is_batch_named b) (stored_batches f))
-  size_told = by_batch (batch_named f.batches b) refl ∙ sym (ap (option_map (size_of (stored_groupings f))) (named_row f b))
+  pub size_in_rows : batch_size_of f b ≡ option_map (size_of (stored_groupings f)) (find (is_batch_named b) (stored_batches f))
+  size_in_rows = by_batch (batch_named f.batches b) refl ∙ sym (ap (option_map (size_of (stored_groupings f))) (named_row f b))
     where
       size : ℕ → ℕ → Option BatchSize
       size rows records = let s : BatchSize = record { rows = rows; records = records } in Some s

@@ -10,22 +10,22 @@ use Rattle.reports.specs.declared.fault.AccountFault.TheVariants.{Refused, Store
 use Rattle.text_io.specs.Written.{AppendsBeginning}
 
 -- the text was answered, or where there is none, the refusal
-abbrev pub IsTold : Refusal → Option (List ℕ) → Result (List ℕ) AccountFault → Type 0
-IsTold why text (Ok told) = text ≡ Some told
-IsTold why text (Err (Refused refusal)) = (refusal ≡ why) × (text ≡ None)
-IsTold why text (Err (Store fault)) = ⊤
-IsTold why text (Err Write) = ⊥
+abbrev pub IsAnswer : Refusal → Option (List ℕ) → Result (List ℕ) AccountFault → Type 0
+IsAnswer why text (Ok answered) = text ≡ Some answered
+IsAnswer why text (Err (Refused refusal)) = (refusal ≡ why) × (text ≡ None)
+IsAnswer why text (Err (Store fault)) = ⊤
+IsAnswer why text (Err Write) = ⊥
 
 -- what is answered is this of the contents
-abbrev pub TellsText : State → State → Refusal → (Contents → Option (List ℕ)) → Result (List ℕ) AccountFault → Type 0
-TellsText old new why text_of result = IsHonest new → (c : Contents) → old.holds c → IsTold why (text_of c) result
+abbrev pub AnswersText : State → State → Refusal → (Contents → Option (List ℕ)) → Result (List ℕ) AccountFault → Type 0
+AnswersText old new why text_of result = IsHonest new → (c : Contents) → old.holds c → IsAnswer why (text_of c) result
 
--- what isn't told: another refusal, or a failed write
-abbrev pub MayTell : Refusal → Result (List ℕ) AccountFault → Type 0
-MayTell why (Ok told) = ⊤
-MayTell why (Err (Refused refusal)) = refusal ≡ why
-MayTell why (Err (Store fault)) = ⊤
-MayTell why (Err Write) = ⊥
+-- what isn't answered: another refusal, or a failed write
+abbrev pub MayAnswer : Refusal → Result (List ℕ) AccountFault → Type 0
+MayAnswer why (Ok answered) = ⊤
+MayAnswer why (Err (Refused refusal)) = refusal ≡ why
+MayAnswer why (Err (Store fault)) = ⊤
+MayAnswer why (Err Write) = ⊥
 
 -- whether the store answered
 abbrev pub store_answer : {T : Type 0} → Result T AccountFault → Result (Unit {0}) StoreFault
@@ -37,25 +37,25 @@ store_answer (Err Write) = Ok tt
 -- ---- what is written
 
 -- the text was written, a beginning of it where the writer failed, or where there is none, the
--- refusal was told
+-- refusal was answered
 abbrev pub IsWritten : Refusal → Option (List ℕ) → Option (List ℕ) → Option (List ℕ) → Result (Unit {0}) AccountFault → Type 0
-IsWritten why text before after (Ok u) = (told : List ℕ) × (text ≡ Some told) × Appends before after told
+IsWritten why text before after (Ok u) = (answered : List ℕ) × (text ≡ Some answered) × Appends before after answered
 IsWritten why text before after (Err (Refused refusal)) = (refusal ≡ why) × (text ≡ None)
 IsWritten why text before after (Err (Store fault)) = ⊤
-IsWritten why text before after (Err Write) = (told : List ℕ) × (text ≡ Some told) × AppendsBeginning before after told
+IsWritten why text before after (Err Write) = (answered : List ℕ) × (text ≡ Some answered) × AppendsBeginning before after answered
 
 -- what is written is this of the contents
 abbrev pub Reports : State → State → Refusal → (Contents → Option (List ℕ)) → Option (List ℕ) → Option (List ℕ) → Result (Unit {0}) AccountFault → Type 0
 Reports old new why text_of before after result = IsHonest new → (c : Contents) → old.holds c → IsWritten why (text_of c) before after result
 
 -- what was there stays, and nothing is written where no write was tried
-abbrev pub KeepsUntold : Option (List ℕ) → Option (List ℕ) → Result (Unit {0}) AccountFault → Type 0
-KeepsUntold before after (Ok u) = (told : List ℕ) × Appends before after told
-KeepsUntold before after (Err (Refused refusal)) = Keeps before after
-KeepsUntold before after (Err (Store fault)) = Keeps before after
-KeepsUntold before after (Err Write) = (told : List ℕ) × Appends before after told
+abbrev pub KeepsUnwritten : Option (List ℕ) → Option (List ℕ) → Result (Unit {0}) AccountFault → Type 0
+KeepsUnwritten before after (Ok u) = (answered : List ℕ) × Appends before after answered
+KeepsUnwritten before after (Err (Refused refusal)) = Keeps before after
+KeepsUnwritten before after (Err (Store fault)) = Keeps before after
+KeepsUnwritten before after (Err Write) = (answered : List ℕ) × Appends before after answered
 
--- a report tells no other refusal; its write may fail
+-- a report gives no other refusal; its write may fail
 abbrev pub MayReport : Refusal → Result (Unit {0}) AccountFault → Type 0
 MayReport why (Ok u) = ⊤
 MayReport why (Err (Refused refusal)) = refusal ≡ why

@@ -1,4 +1,4 @@
--- What audited rows tell: their records and batches, and so all that is told.
+-- What audited rows give: their records and batches, and so all states.
 use Rattle.std.proofs.Common.{◌≡◌, ℕ, ◌==◌, ◌&&◌, Bool, true, false, cond, List, map, get_or, All, Some, refl, sym, ap, ◌∙◌}
 use Rattle.std.specs.Prelude.{bytes_eq, count_by, filter, find}
 use Rattle.std.specs.List.{enumerate_from, range_with_len}
@@ -19,10 +19,10 @@ use Rattle.image_laws.specs.Decided.{batch_name, batch_of_row, closed_rows, fact
 use Rattle.table_rows.specs.Keys.{is_batch, is_record_at, is_record_of}
 use Rattle.row_laws.proofs.Finding.{filter_all, kept_joined, unnumbered}
 use Rattle.audit_laws.specs.Audited.{IsAudited, IsAuditedRecord, IsAuditedSession, file_keys, file_records, is_session_at, is_session_of, is_withdrawn, key_of, record_states_of, session_states_of, states_at, turns_of}
-use Rattle.audit_laws.proofs.Tells.{IsToldBatch, IsToldRecord, Tells}
+use Rattle.audit_laws.proofs.Agreeing.{BatchAgrees, RecordAgrees, RowsAgree}
 use Rattle.audit_laws.proofs.SoundLists.{any_kept, count_alike, equal, same_number, sum_alone}
 use Rattle.audit_laws.proofs.SoundNames.{IsPlaced, batch_found, batch_once, batches_numbered, id_found, key_found, name_found, named_found, of_batch, of_record, own_ids, record_found, record_name_found, record_once, records_placed, same_batches, same_names}
-use Rattle.audit_laws.proofs.SoundSessions.{batch_is, kept_states, rec_is, sessions_numbered, told_sessions}
+use Rattle.audit_laws.proofs.SoundSessions.{batch_is, kept_states, rec_is, sessions_agree, sessions_numbered}
 
 module _ (t : Tables) (audited : IsAudited t) where
   abbrev f : Facts
@@ -97,8 +97,8 @@ module _ (t : Tables) (audited : IsAudited t) where
         ∙ ap (λ gone. state_by (states_at t r) gone (remakes_of f batch r.name)) withdrawn_is
         ∙ ap (state_by (states_at t r) (is_withdrawn r)) remakes_are ∙ sym is.state
 
-    told_record : IsToldRecord t r
-    told_record = record {
+    record_agrees : RecordAgrees t r
+    record_agrees = record {
       states = states_are;
       withdrawn = withdrawn_is;
       remakes = remakes_are;
@@ -106,9 +106,9 @@ module _ (t : Tables) (audited : IsAudited t) where
       spoiled = ap (count_by is_spoiled) states_are ∙ sym is.spoiled;
     }
 
-  pub told_records : All (IsToldRecord t) t.records
-  told_records k d within =
-      told_record (get_or t.records k d) (records_placed t audited k d within) (record_found t audited k d within)
+  pub records_agree : All (RecordAgrees t) t.records
+  records_agree k d within =
+      record_agrees (get_or t.records k d) (records_placed t audited k d within) (record_found t audited k d within)
       (audited.each_record k d within)
 
   -- ---- a batch
@@ -159,10 +159,10 @@ module _ (t : Tables) (audited : IsAudited t) where
         sym (map-map name key_of rows) ∙ ap (map name) keys_are ∙ map-map name (key_in b.id) (enumerate_from 0 (file_records t b))
         ∙ unnumbered 0 (file_records t b)
 
-    row_state : (r : StoredRecord) → (r.batch == b.id) ≡ true → IsToldRecord t r → record_state f b.name r.name ≡ r.state
-    row_state r hit told =
+    row_state : (r : StoredRecord) → (r.batch == b.id) ≡ true → RecordAgrees t r → record_state f b.name r.name ≡ r.state
+    row_state r hit agrees =
         let name : batch_name t r.batch ≡ b.name = ap (batch_name t) (same_number r.batch b.id hit) ∙ name_found t audited b.id b found in
-        ap (λ n. record_state f n r.name) (sym name) ∙ told.state
+        ap (λ n. record_state f n r.name) (sym name) ∙ agrees.state
 
     records_are : record_states f b.name ≡ record_states_of t b
     unfolding record_states
@@ -172,21 +172,21 @@ module _ (t : Tables) (audited : IsAudited t) where
         ∙ map-map (record_state f b.name) (λ (r : StoredRecord). r.name) rows
         ∙ map_same (λ (r : StoredRecord). record_state f b.name r.name) (λ (r : StoredRecord). r.state) rows
         (λ k d within. row_state (get_or rows k d) (filter_passes (is_record_of b.id) t.records k d within)
-        (All-filter (is_record_of b.id) (IsToldRecord t) t.records told_records k d within))
+        (All-filter (is_record_of b.id) (RecordAgrees t) t.records records_agree k d within))
 
-    told_batch : IsToldBatch t b
-    told_batch =
+    batch_agrees : BatchAgrees t b
+    batch_agrees =
         record { name = name_found t audited b.id b found; closed = closed_is; its_records = records_are; its_sessions = sessions_are }
 
-  pub told_batches : All (IsToldBatch t) t.batches
-  told_batches k d within =
-      told_batch (get_or t.batches k d) (batch_found t audited k d within) (own_ids t audited k d within) (named_found t audited k d within)
+  pub batches_agree : All (BatchAgrees t) t.batches
+  batches_agree k d within =
+      batch_agrees (get_or t.batches k d) (batch_found t audited k d within) (own_ids t audited k d within) (named_found t audited k d within)
 
-pub tells : (t : Tables) → IsAudited t → Tells t
-tells t audited = record {
+pub rows_agree : (t : Tables) → IsAudited t → RowsAgree t
+rows_agree t audited = record {
   batches = batches_numbered t audited;
   sessions = sessions_numbered t audited;
-  each_batch = told_batches t audited;
-  each_record = told_records t audited;
-  each_session = told_sessions t audited;
+  each_batch = batches_agree t audited;
+  each_record = records_agree t audited;
+  each_session = sessions_agree t audited;
 }

@@ -1,9 +1,9 @@
--- What is told of a row.
+-- What is read of a row.
 use Rattle.std.specs.Prelude.{◌<◌, ◌^◌}
 use Rattle.job_facts.specs.declared.rows.BatchTotals.{BatchTotals}
 use Rattle.table_rows.specs.Tables.{StoredBatch, StoredLot, totals_of}
 use Rattle.row_reads.specs.declared.batches.BatchHead.{BatchHead}
-use Rattle.row_reads.specs.declared.batches.BatchTold.{BatchTold}
+use Rattle.row_reads.specs.declared.batches.BatchAt.{BatchAt}
 use Rattle.row_reads.specs.declared.lots.LotRow.{LotRow}
 
 -- a batch without its bytes
@@ -26,12 +26,12 @@ pub record IsHead (h : BatchHead) : Type 0 where
   pub totals : AreCounts h.totals
 
 -- a batch without its bytes and its counters
-abbrev pub told_of : StoredBatch → BatchTold
-told_of b = record { id = b.id; product = b.product; is_closed = b.closed }
+abbrev pub batch_at : StoredBatch → BatchAt
+batch_at b = record { id = b.id; product = b.product; is_closed = b.closed }
 
 -- its id is a number of SQL
-abbrev pub IsTold : BatchTold → Type 0
-IsTold b = b.id < 2 ^ 63
+abbrev pub IsBatchAt : BatchAt → Type 0
+IsBatchAt b = b.id < 2 ^ 63
 
 -- a lot with its discarded blanks
 abbrev pub lot_row_of : StoredLot → LotRow

@@ -1,4 +1,4 @@
--- What an audit tells of a database.
+-- What an audit finds in a database.
 use Rattle.std.specs.Prelude.{◌≡◌}
 use Rattle.sqlite.specs.Effect.{Database}
 use Rattle.sql_tables.specs.declared.versions.Version.{Version}
@@ -13,12 +13,12 @@ use Rattle.adoption.specs.declared.auditing.Found.TheVariants.{NotOurs, Sound, U
 abbrev pub AreOfSoundContents : Tables → Type 0
 AreOfSoundContents t = (c : Contents) × AreSound c × HaveSameRows t (image c)
 
-abbrev pub Tells : Found → Database → Type 0
-Tells NotOurs db = (v : Version) → ¬ IsOfVersion v db
-Tells Unsound db = ((v : Version) × IsOfVersion v db) × ((v : Version) → ¬ HoldsSoundRows v db)
-Tells (Sound v t) db = HoldsRows v t db × AreOfSoundContents t
+abbrev pub IsFinding : Found → Database → Type 0
+IsFinding NotOurs db = (v : Version) → ¬ IsOfVersion v db
+IsFinding Unsound db = ((v : Version) × IsOfVersion v db) × ((v : Version) → ¬ HoldsSoundRows v db)
+IsFinding (Sound v t) db = HoldsRows v t db × AreOfSoundContents t
 
--- rows of this version are those of sound contents, or not; where they are, they are told in
+-- rows of this version are those of sound contents, or not; where they are, they are given in
 -- another order
 abbrev pub Judges : Version → Tables → Found → Type 0
 Judges v t NotOurs = ⊥

@@ -1,5 +1,5 @@
--- What is told of a reply (this project's profile): its status, and its body, which is compact JSON
--- (RFC 8259) with the members in order of their names.
+-- What a client gets for a reply (this project's profile): its status, and its body, which is
+-- compact JSON (RFC 8259) with the members in order of their names.
 use Rattle.std.specs.Prelude.{ℕ, List}
 use Rattle.job_facts.specs.declared.refusal.Refusal.TheVariants.{NumberReused}
 use Rattle.job_facts.specs.declared.reply.Reply.{Reply}
@@ -8,7 +8,7 @@ use Rattle.arrivals.specs.declared.kept.Kept.{Kept}
 use Rattle.serde_json.specs.Written.{compact_text}
 use Rattle.arrivals.specs.Values.{value_of}
 
-pub record Told : Type 0 where
+pub record HttpReply : Type 0 where
   pub status : ℕ
   pub body : List ℕ
 
@@ -36,12 +36,12 @@ status_of (Faulty fault) = 409
 unfoldable pub body_of : Reply → List ℕ
 body_of r = compact_text (value_of r)
 
-abbrev pub told_of : Reply → Told
-told_of reply = record { status = status_of reply; body = body_of reply }
+abbrev pub http_reply_of : Reply → HttpReply
+http_reply_of reply = record { status = status_of reply; body = body_of reply }
 
 -- the number is kept with another ask
-abbrev pub reused : Told
-reused = told_of (Refused NumberReused)
+abbrev pub reused : HttpReply
+reused = http_reply_of (Refused NumberReused)
 
-abbrev pub told : Kept → Told
-told k = record { status = k.status; body = k.body }
+abbrev pub http_reply : Kept → HttpReply
+http_reply k = record { status = k.status; body = k.body }

@@ -2,7 +2,7 @@ use Rattle.std.proofs.Common.{ℕ, sym, subst}
 use Rattle.server.specs.ServerLines.{WritesLines}
 use Rattle.server.proofs.RunLemmas.{notes-run, serves-begun}
 use Rattle.server.proofs.ServerLinesLemmas.{both-lines, store-stops}
-use Rattle.server.proofs.run.serve_and_tell.Goals as goal
+use Rattle.server.proofs.run.serve_and_report.Goals as goal
 
 pub returns : goal.returns
 returns g c =

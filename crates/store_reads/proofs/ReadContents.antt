@@ -1,4 +1,4 @@
--- From what reads show of rows to what they tell of contents, once for all reads.
+-- From what reads show of rows to what they give of contents, once for all reads.
 use Rattle.std.proofs.Common.{Result, Ok, Err, IfOk, IsTrue, sym, subst, ◌∙◌, arith}
 use Rattle.sqlite.specs.State.{HasCleanDisk, State}
 use Rattle.sqlite.specs.declared.error.Error.{Error}
@@ -9,7 +9,7 @@ use Rattle.image_laws.specs.Image.{image}
 use Rattle.sql_base.specs.Ends.{IsKept}
 use Rattle.sql_rows.specs.Image.{IsImage}
 use Rattle.row_reads.specs.Reads.{Looks}
-use Rattle.store_reads.specs.Tells.{Tells}
+use Rattle.store_reads.specs.ReadsContents.{ReadsContents}
 
 -- an open connection shows this of whatever rows it has
 abbrev pub ShowsRows : State → (Tables → Type 0) → Type 0
@@ -35,7 +35,7 @@ looks_then a b c one two = record {
   survives = survives_then a b c (λ _. ⊥) (λ _. ⊥) (λ _. ⊥) (λ _ db none. none) (λ _ db none. none) one.survives two.survives;
 }
 
--- ---- what is told
+-- ---- what is given
 
 -- by what is shown of rows, and a law of the rows of contents
 pub shown : (a b : State) (Q : Tables → Type 0) (P : Contents → Type 0) → (HasCleanDisk b → ShowsRows a Q) → ((c : Contents) → AreSound c → Q (image c) → P c) → HasCleanDisk b → Shows a P
@@ -69,30 +69,30 @@ three_shown a b c d Q T U P one two three first second third =
     shown_third a b c d (λ x. Q (image x)) (λ x. T (image x)) (λ x. U (image x)) P one two three
     (shown a b Q (λ x. Q (image x)) first (λ x sound is. is)) (shown b c T (λ x. T (image x)) second (λ x sound is. is)) (shown c d U (λ x. U (image x)) third (λ x sound is. is))
 
--- a read that tells all that is asked
-pub tells : {T : Type 0} (a b : State) (r : Result T Error) (Q : Tables → T → Type 0) (P : Contents → T → Type 0) → (HasCleanDisk b → IfOk r (λ x. ShowsRows a (λ t. Q t x)))
-    → ((c : Contents) → AreSound c → (x : T) → Q (image c) x → P c x) → Tells a b r P
-tells a b (Ok x) Q P rows law = shown a b (λ t. Q t x) (λ c. P c x) rows (λ c sound. law c sound x)
-tells a b (Err e) Q P rows law = λ clean. tt
+-- a read that gives all that is asked
+pub reads : {T : Type 0} (a b : State) (r : Result T Error) (Q : Tables → T → Type 0) (P : Contents → T → Type 0) → (HasCleanDisk b → IfOk r (λ x. ShowsRows a (λ t. Q t x)))
+    → ((c : Contents) → AreSound c → (x : T) → Q (image c) x → P c x) → ReadsContents a b r P
+reads a b (Ok x) Q P rows law = shown a b (λ t. Q t x) (λ c. P c x) rows (λ c sound. law c sound x)
+reads a b (Err e) Q P rows law = λ clean. tt
 
 -- a read of what the first found, whose answer is handed on
-pub tells_then : {T : Type 0} (a b c : State) (r : Result T Error) (P : Contents → Type 0) (Q R : Contents → T → Type 0) → Looks a b → Looks b c → (HasCleanDisk b → Shows a P) → Tells b c r Q
-    → ((d : Contents) → AreSound d → (x : T) → P d → Q d x → R d x) → Tells a c r R
-tells_then a b c (Ok x) P Q R one two first second law = shown_then a b c P (λ d. Q d x) (λ d. R d x) one two first second (λ d sound. law d sound x)
-tells_then a b c (Err e) P Q R one two first second law = λ clean. tt
+pub reads_then : {T : Type 0} (a b c : State) (r : Result T Error) (P : Contents → Type 0) (Q R : Contents → T → Type 0) → Looks a b → Looks b c → (HasCleanDisk b → Shows a P) → ReadsContents b c r Q
+    → ((d : Contents) → AreSound d → (x : T) → P d → Q d x → R d x) → ReadsContents a c r R
+reads_then a b c (Ok x) P Q R one two first second law = shown_then a b c P (λ d. Q d x) (λ d. R d x) one two first second (λ d sound. law d sound x)
+reads_then a b c (Err e) P Q R one two first second law = λ clean. tt
 
 -- and so what follows of it
 pub if_ok : {T : Type 0} (r : Result T Error) (P Q : T → Type 0) → ((x : T) → P x → Q x) → IfOk r P → IfOk r Q
-if_ok (Ok x) P Q then told = then x told
-if_ok (Err e) P Q then told = tt
+if_ok (Ok x) P Q then as_read = then x as_read
+if_ok (Err e) P Q then as_read = tt
 
--- a read behind another that told nothing
-pub tells_later : {T : Type 0} (a b c : State) (r : Result T Error) (P : Contents → T → Type 0) → Looks a b → Looks b c → Tells b c r P → Tells a c r P
-tells_later a b c (Err e) P one two told = λ clean. tt
-tells_later a b c (Ok x) P one two told = λ clean.
+-- a read behind another that gave nothing
+pub reads_later : {T : Type 0} (a b c : State) (r : Result T Error) (P : Contents → T → Type 0) → Looks a b → Looks b c → ReadsContents b c r P → ReadsContents a c r P
+reads_later a b c (Err e) P one two as_read = λ clean. tt
+reads_later a b c (Ok x) P one two as_read = λ clean.
     let early : HasCleanDisk b = omega (arith, clean, two.survives.clean) in
     let k = one.kept early in
-    let p = told clean in
+    let p = as_read clean in
     (k.was_open p.0, λ d sound is. p.1 d sound (subst (IsImage (image d)) (sym (k.now_is p.0)) is))
 
 -- the same of rows alone
@@ -110,12 +110,12 @@ rows_as a b P Q shows law clean = let s = shows clean in (s.0, λ t is. law t (s
 pub rows_both : (a b c : State) (P Q : Tables → Type 0) → Looks a b → Looks b c → (HasCleanDisk b → ShowsRows a P) → (HasCleanDisk c → ShowsRows b Q) → HasCleanDisk c → ShowsRows a (λ t. P t × Q t)
 rows_both a b c P Q one two first second = rows_then a b c P Q (λ t. P t × Q t) one two first second (λ t p q. (p, q))
 
--- a read of rows behind another that told nothing
+-- a read of rows behind another that gave nothing
 pub rows_later : {T : Type 0} (a b c : State) (r : Result T Error) (P Q : Tables → T → Type 0) → Looks a b → Looks b c → (HasCleanDisk c → IfOk r (λ x. ShowsRows b (λ t. P t x)))
     → ((t : Tables) (x : T) → P t x → Q t x) → HasCleanDisk c → IfOk r (λ x. ShowsRows a (λ t. Q t x))
-rows_later a b c (Err e) P Q one two told law = λ clean. tt
-rows_later a b c (Ok x) P Q one two told law = λ clean.
+rows_later a b c (Err e) P Q one two as_read law = λ clean. tt
+rows_later a b c (Ok x) P Q one two as_read law = λ clean.
     let early : HasCleanDisk b = omega (arith, clean, two.survives.clean) in
     let k = one.kept early in
-    let p = told clean in
+    let p = as_read clean in
     (k.was_open p.0, λ t is. law t x (p.1 t (subst (IsImage t) (sym (k.now_is p.0)) is)))

@@ -1,4 +1,4 @@
--- What rows tell: how a batch stands, where a record does, what its plan is, and a session with the
+-- What rows give: how a batch stands, where a record does, what its plan is, and a session with the
 -- names of its batch and its record.
 use Rattle.std.specs.Prelude.{◌+◌, ◌==◌, ◌&&◌, ℕ, Bool, true, false, List, [], length, map, filter, find, sum_by, bytes_eq, Option, Some, None, option_and_then, option_map}
 use Rattle.store_data.specs.declared.row.Product.{Product}

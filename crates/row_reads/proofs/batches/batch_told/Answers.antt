@@ -1,7 +1,0 @@
-use Rattle.row_reads.proofs.BatchAnswers.{batch_told_found}
-use Rattle.row_reads.proofs.Told.{told}
-use Rattle.row_reads.proofs.batches.batch_told.Goals as goal
-
-pub returns-clause-found : goal.returns-clause-found
-returns-clause-found g c =
-    told g.S.Store c.args.conn.now c.one_of.new.conn _ _ c.one_of.result _ _ (rw c.bytes.ensures.value at c.one_of.ensures.answered) (batch_told_found c.args.name.now _)
