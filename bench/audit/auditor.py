@@ -27,9 +27,9 @@ Findings = Iterator[str]
 
 
 class Verdict(NamedTuple):
-    """What is told, the first reason, and the names of the sentences that the rows break."""
+    """The result, the first reason, and the names of the sentences that the rows break."""
 
-    told: str
+    result: str
     why: str = ""
     sentences: frozenset[str] = frozenset()
 
@@ -337,8 +337,8 @@ def main() -> None:
     if len(sys.argv) != 2:
         sys.exit("usage: auditor.py FILE")
     found = verdict(pathlib.Path(sys.argv[1]))
-    print(f"{found.told} {found.why}".strip())
-    sys.exit(found.told != TAKEN)
+    print(f"{found.result} {found.why}".strip())
+    sys.exit(found.result != TAKEN)
 
 
 if __name__ == "__main__":

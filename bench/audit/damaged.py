@@ -24,7 +24,7 @@ SHAPES = {"as ours": Shape(indices=OURS), "in another order": Shape(order="mixed
 
 
 class Change(NamedTuple):
-    """One change of a file, by SQL that has no care for references and checks; whether of the rich file; and what is to be told."""
+    """One change of a file, by SQL that has no care for references and checks; whether of the rich file; and the verdict that is wanted."""
 
     name: str
     sql: str
@@ -251,7 +251,7 @@ def counters() -> Iterator[Change]:
 
 
 def rules() -> Iterator[Change]:
-    """What breaks one rule between rows, with all that is derived told as it would be."""
+    """What breaks one rule between rows, with all that is derived from it set as it would be."""
     for name, sentence, sql, is_rich in [
         ("a withdrawn record with a good card", "withdrawn_records_have_no_card",
          "UPDATE record SET state = 3; UPDATE batch SET good = 0, withdrawn = 1", False),

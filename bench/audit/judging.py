@@ -18,7 +18,7 @@ SECONDS = 120
 
 
 class Case(NamedTuple):
-    """A file, what is to be told of it, and, where it matters, a sentence of auditor.py that it has to break."""
+    """A file, the verdict that is wanted, and, where it matters, a sentence of auditor.py that it has to break."""
 
     name: str
     path: pathlib.Path
@@ -54,52 +54,52 @@ def version_in(path: pathlib.Path) -> int | None:
 
 
 def report(program: str, path: pathlib.Path) -> str:
-    """What the program tells of a file that it may change: `taken`, the number of a refusal, or what came in its place."""
+    """The program's verdict on a file that it may change: `taken`, the number of a refusal, or what came in its place."""
     run = subprocess.run([program, "report", "--db", str(path), "--batch", BATCH], capture_output=True, timeout=SECONDS)
-    told = run.stderr.decode(errors="replace")
-    refused = told.removeprefix("refused ").removesuffix("\n")
-    if (run.returncode, told) == (0, "") or (run.returncode, refused) == (1, BATCH_UNKNOWN):
+    printed = run.stderr.decode(errors="replace")
+    refused = printed.removeprefix("refused ").removesuffix("\n")
+    if (run.returncode, printed) == (0, "") or (run.returncode, refused) == (1, BATCH_UNKNOWN):
         return TAKEN
     if (run.returncode, run.stdout) == (1, b"") and refused in (OTHER_TABLES, DAMAGED):
         return refused
-    return f"status {run.returncode}, {told!r}"
+    return f"status {run.returncode}, {printed!r}"
 
 
 def by_program(program: str, path: pathlib.Path) -> str:
-    """What the program tells, and whether the copy holds afterwards what it held before, in our own tables where it was taken."""
+    """The program's verdict, and whether the copy holds afterwards what it held before, in our own tables where it was taken."""
     with tempfile.TemporaryDirectory() as folder:
         copy = pathlib.Path(folder) / "copy.db"
         for end in ("", "-wal"):
             if (its := path.with_name(path.name + end)).exists():
                 shutil.copyfile(its, copy.with_name(copy.name + end))
         before = held(copy)
-        told = report(program, copy)
+        answer = report(program, copy)
         if held(copy) != before:
-            return f"{told}, but the file holds something else"
-        if told == TAKEN and (again := verdict(copy)).told != TAKEN:
-            return f"{told}, and left as {again.told} {again.why}"
-        if told == TAKEN and version_in(copy) != 3:
-            return f"{told}, and left in an earlier version"
-    return told
+            return f"{answer}, but the file holds something else"
+        if answer == TAKEN and (again := verdict(copy)).result != TAKEN:
+            return f"{answer}, and left as {again.result} {again.why}"
+        if answer == TAKEN and version_in(copy) != 3:
+            return f"{answer}, and left in an earlier version"
+    return answer
 
 
 def difference(case: Case, program: str | None) -> str | None:
     """How the verdicts on a file are other than wanted, if they are."""
     found = verdict(case.path)
-    if found.told != case.wanted:
-        return f"{case.wanted} is wanted, and auditor.py says {found.told} {found.why}"
+    if found.result != case.wanted:
+        return f"{case.wanted} is wanted, and auditor.py says {found.result} {found.why}"
     if case.sentence and case.sentence not in found.sentences:
         return f"{case.sentence} is to find something, and it is {', '.join(found.sentences)} that does"
-    told = by_program(program, case.path) if program else found.told
-    return f"{case.wanted} is wanted, and the program says {told}" if told != case.wanted else None
+    answer = by_program(program, case.path) if program else found.result
+    return f"{case.wanted} is wanted, and the program says {answer}" if answer != case.wanted else None
 
 
 def judge_all(what: str, cases: list[Case], program: str | None) -> bool:
-    """Prints what differs, and how many there are of each verdict; tells whether nothing differs."""
+    """Prints what differs, and how many there are of each verdict; answers whether nothing differs."""
     with concurrent.futures.ThreadPoolExecutor() as pool:
-        found = {case.name: told for case, told in zip(cases, pool.map(lambda case: difference(case, program), cases)) if told}
-    for name, told in found.items():
-        print(f"{name}: {told}")
-    counts = ", ".join(f"{count} {told}" for told, count in Counter(case.wanted for case in cases).most_common())
+        found = {case.name: why for case, why in zip(cases, pool.map(lambda case: difference(case, program), cases)) if why}
+    for name, why in found.items():
+        print(f"{name}: {why}")
+    counts = ", ".join(f"{count} {wanted}" for wanted, count in Counter(case.wanted for case in cases).most_common())
     print(f"{what}: {len(cases)} files ({counts}), {len(found)} of them with another verdict" + ("" if program else "; no program was asked"))
     return not found

@@ -142,7 +142,7 @@ def change(draw: random.Random, conn: sqlite3.Connection, tables: list[Table]) -
 
 
 def make_case(seed: str, number: int, path: pathlib.Path) -> str:
-    """Makes the changed file of this number; tells what kind of change it is."""
+    """Makes the changed file of this number; answers what kind of change it is."""
     draw = random.Random(f"{seed} {number}")
     shape = draw.choice(SHAPES)
     made = sound(draw.random() < 0.9, shape)
@@ -168,7 +168,7 @@ def make_case(seed: str, number: int, path: pathlib.Path) -> str:
 class Result(NamedTuple):
     number: int
     kind: str
-    told: str
+    verdict: str
     why: str
     program: str
 
@@ -178,10 +178,10 @@ def judge(seed: str, number: int, program: str | None, keep: str | None) -> Resu
         path = pathlib.Path(folder) / "changed.db"
         kind = make_case(seed, number, path)
         found = verdict_on_copy(path)
-        program_told = by_program(program, path) if program else found.told
-        if program_told != found.told and keep:
+        program_verdict = by_program(program, path) if program else found.result
+        if program_verdict != found.result and keep:
             shutil.copyfile(path, pathlib.Path(keep) / f"{number}.db")
-    return Result(number, kind, found.told, found.why, program_told)
+    return Result(number, kind, found.result, found.why, program_verdict)
 
 
 def main() -> None:
@@ -195,12 +195,12 @@ def main() -> None:
     differing = 0
     with concurrent.futures.ProcessPoolExecutor() as pool:
         for found in pool.map(judge, [its.seed] * its.cases, range(its.cases), [its.program] * its.cases, [its.keep] * its.cases, chunksize=50):
-            counts[found.kind, found.told] += 1
-            if found.program != found.told:
+            counts[found.kind, found.verdict] += 1
+            if found.program != found.verdict:
                 differing += 1
-                print(f"{found.number} ({found.kind}): auditor.py says {found.told} {found.why}, the program {found.program}")
+                print(f"{found.number} ({found.kind}): auditor.py says {found.verdict} {found.why}, the program {found.program}")
     for kind in KINDS:
-        print(f"{kind}: {', '.join(f'{counts[kind, told]} {told}' for told in ('taken', '81', '82'))}")
+        print(f"{kind}: {', '.join(f'{counts[kind, verdict]} {verdict}' for verdict in ('taken', '81', '82'))}")
     asked = "" if its.program else "; no program was asked"
     print(f"random changes, seed {its.seed}: {its.cases} files, {differing} with different verdicts{asked}")
     sys.exit(differing > 0)

@@ -135,28 +135,28 @@ OTHERS = {
 
 
 def sound_cases(folder: pathlib.Path, name: str, made: Rows, version: int) -> Iterator[Case]:
-    for told, shape in shapes(version).items():
-        path = folder / f"{name}-{version}-{told}.db".replace(" ", "-")
+    for label, shape in shapes(version).items():
+        path = folder / f"{name}-{version}-{label}.db".replace(" ", "-")
         make(path, made, shape)
-        yield Case(f"{name}, version {version}, {told}", path, TAKEN)
+        yield Case(f"{name}, version {version}, {label}", path, TAKEN)
         if shape.has_gaps:
             shutil.copyfile(path, vacuumed := path.with_suffix(".vacuum.db"))
             change(vacuumed, "VACUUM")
-            yield Case(f"{name}, version {version}, {told}, after VACUUM", vacuumed, TAKEN)
+            yield Case(f"{name}, version {version}, {label}, after VACUUM", vacuumed, TAKEN)
             dumped(path, again := path.with_suffix(".dump.db"))
-            yield Case(f"{name}, version {version}, {told}, after .dump", again, TAKEN)
+            yield Case(f"{name}, version {version}, {label}, after .dump", again, TAKEN)
 
 
 def other_cases(folder: pathlib.Path, name: str, made: Rows, version: int) -> Iterator[Case]:
-    for told, statement in OTHERS.items():
-        path = folder / f"{name}-{version}-with-{told}.db".replace(" ", "-")
+    for label, statement in OTHERS.items():
+        path = folder / f"{name}-{version}-with-{label}.db".replace(" ", "-")
         make(path, made, Shape(version))
         change(path, statement)
-        yield Case(f"{name}, version {version}, with {told}", path, OTHER_TABLES)
-    for told, pragma in (("in UTF-16", "encoding = 'UTF-16'"), ("with auto-vacuum", "auto_vacuum = FULL")):
-        path = folder / f"{name}-{version}-{told}.db".replace(" ", "-")
+        yield Case(f"{name}, version {version}, with {label}", path, OTHER_TABLES)
+    for label, pragma in (("in UTF-16", "encoding = 'UTF-16'"), ("with auto-vacuum", "auto_vacuum = FULL")):
+        path = folder / f"{name}-{version}-{label}.db".replace(" ", "-")
         make(path, made, Shape(version, pragma=pragma))
-        yield Case(f"{name}, version {version}, {told}", path, OTHER_TABLES)
+        yield Case(f"{name}, version {version}, {label}", path, OTHER_TABLES)
 
 
 def cases(folder: pathlib.Path) -> Iterator[Case]:

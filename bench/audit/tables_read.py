@@ -58,7 +58,7 @@ ROWS = {
     # state 2 is spoiled, 1 good
     "SELECT id, machine, batch, place, serial, state, ended, words FROM session ORDER BY id":
         [(1, "m1", 1, 0, 1000, 2, 0, 2), (2, "m1", 1, 0, 1001, 1, 0, 2)],
-    # at the command behind the words that go on: the piece in block 0, whose next is told as 1, and the end
+    # at the command behind the words that go on: the piece in block 0, whose next is written as 1, and the end
     "SELECT app, segment, at_offset, block FROM session ORDER BY id": [(0, 0, 0, 1), (1, 0, 0, 0)],
     "SELECT session, place, sw FROM word ORDER BY session, place":
         [(1, 0, 0x9000), (1, 1, 0x6A80), (2, 0, 0x9000), (2, 1, 0x9000)],
@@ -78,11 +78,11 @@ ROWS = {
 
 def write(database: pathlib.Path) -> None:
     messages = b"\0".join(post(client, number, body, tail) for client, number, tail, body, _, _ in EXCHANGES)
-    told = subprocess.run([MEASURE, str(database)], input=messages + b"\1", capture_output=True, check=True).stdout.decode()
+    printed = subprocess.run([MEASURE, str(database)], input=messages + b"\1", capture_output=True, check=True).stdout.decode()
     accepted = sum(status == 200 for *_, status, _ in EXCHANGES)
     wanted = f"served {len(EXCHANGES)} accepted {accepted}"
-    if not told.startswith(wanted):
-        sys.exit(f"measure_tables: {told.strip()!r}, and not {wanted!r}")
+    if not printed.startswith(wanted):
+        sys.exit(f"measure_tables: {printed.strip()!r}, and not {wanted!r}")
 
 
 def check(database: pathlib.Path) -> int:

@@ -60,10 +60,10 @@ def is_right(ask: Ask, came: bytes) -> bool:
 
 def check_whole(database: pathlib.Path) -> None:
     with sqlite3.connect(database) as link:
-        told = link.execute("PRAGMA integrity_check").fetchall(), link.execute("PRAGMA foreign_key_check").fetchall()
+        found = link.execute("PRAGMA integrity_check").fetchall(), link.execute("PRAGMA foreign_key_check").fetchall()
     link.close()
-    if told != ([("ok",)], []):
-        sys.exit(f"{database}: {told}")
+    if found != ([("ok",)], []):
+        sys.exit(f"{database}: {found}")
 
 
 def fronts(case: Case) -> int:
@@ -80,16 +80,16 @@ def run(program: str, name: str, case: Case, way: Way, is_cut: bool = False) -> 
         for ask in case.asks:
             for cut in range(len(ask.message) if is_cut else 0):
                 if came := exchange(server.port, ask.message[:cut], end=True):
-                    differences += told(name, ask.line, f"cut after {cut} bytes", b"", came)
+                    differences += print_difference(name, ask.line, f"cut after {cut} bytes", b"", came)
             came = way(server.port, ask)
             if not is_right(ask, came):
-                differences += told(name, ask.line, way.__name__, ask.wanted, came)
+                differences += print_difference(name, ask.line, way.__name__, ask.wanted, came)
         server.served()
         check_whole(database)
     return Counts(turns, differences)
 
 
-def told(name: str, line: int, way: str, wanted: Optional[bytes], came: bytes) -> int:
+def print_difference(name: str, line: int, way: str, wanted: Optional[bytes], came: bytes) -> int:
     print(f"{name}:{line}: {way}\n  wanted {wanted!r}\n  came   {came!r}", flush=True)
     return 1
 

@@ -82,11 +82,11 @@ class Server(threading.Thread):
             self.process = subprocess.Popen(words, stdout=subprocess.PIPE, stderr=subprocess.PIPE, text=True)
             if self.process.stdout.readline().startswith("listening"):
                 self.is_up.set()
-            _, told = self.process.communicate()
+            _, errors = self.process.communicate()
             self.is_up.clear()
             self.floor.count("starts of the server")
             if self.process.returncode not in (0, -9):
-                self.faults.append(f"the server ended with {self.process.returncode}, {told.strip()}")
+                self.faults.append(f"the server ended with {self.process.returncode}, {errors.strip()}")
                 self.ended = True
 
     def kill(self) -> None:
@@ -207,18 +207,18 @@ class Office:
 
     def ask(self, request: dict) -> tuple[int, dict]:
         self.number += 1
-        status, text = self.told(post("office", self.number, json.dumps(request)))
+        status, text = self.reply_to(post("office", self.number, json.dumps(request)))
         return status, json.loads(text)
 
     def put_in(self, tail: str, text: str) -> tuple[int, dict]:
         self.number += 1
-        status, text = self.told(post("office", self.number, text, tail))
+        status, text = self.reply_to(post("office", self.number, text, tail))
         return status, json.loads(text)
 
     def look(self, target: str) -> str:
-        return self.told(f"GET {target} HTTP/1.1\r\nHost: localhost\r\n\r\n".encode())[1]
+        return self.reply_to(f"GET {target} HTTP/1.1\r\nHost: localhost\r\n\r\n".encode())[1]
 
-    def told(self, message: bytes) -> tuple[int, str]:
+    def reply_to(self, message: bytes) -> tuple[int, str]:
         for tried in range(200):
             if (answer := self.one_try(message)) and answer[0] != 503:
                 return answer
@@ -289,11 +289,11 @@ class Machine(threading.Thread):
             power = threading.Timer(draw.uniform(0.1, 6), process.kill) if draw.random() < 0.3 else None
             if power:
                 power.start()
-            _, told = process.communicate("".join(self.line(serial) for serial in serials))
+            _, errors = process.communicate("".join(self.line(serial) for serial in serials))
             if power:
                 power.cancel()
         self.floor.count("boots")
-        self.count_end(process.returncode, told)
+        self.count_end(process.returncode, errors)
         return self.left_of(serials, printed.read_text(), draw)
 
     def line(self, serial: int) -> str:
@@ -304,13 +304,13 @@ class Machine(threading.Thread):
             words.append(draw.choice(STOPS))
         return " ".join([str(serial), *words]) + "\n"
 
-    def count_end(self, status: int, told: str) -> None:
+    def count_end(self, status: int, errors: str) -> None:
         if status == -9:
             self.floor.count("power cuts")
-        elif (status, told) == (3, "device\n"):
+        elif (status, errors) == (3, "device\n"):
             self.floor.count("feeds that got no reply ten times")
-        elif status != 0 or told:
-            self.faults.append(f"{self.machine}, boot {self.boot}: status {status}, {told.strip()}")
+        elif status != 0 or errors:
+            self.faults.append(f"{self.machine}, boot {self.boot}: status {status}, {errors.strip()}")
 
     def left_of(self, serials: list[int], printed: str, draw: random.Random) -> list[int]:
         """Keeps what was printed. A card that was in is put in again by half."""
@@ -348,9 +348,9 @@ def batch_of(floor: Floor) -> str:
 
 def planned(floor: Floor, batch: str) -> dict[str, list[str]]:
     """The commands of each record, as `persod plan` prints them."""
-    told = subprocess.run([floor.persod, "plan", "--max", str(MOST)], input=batch, capture_output=True, text=True, check=True).stdout
+    printed = subprocess.run([floor.persod, "plan", "--max", str(MOST)], input=batch, capture_output=True, text=True, check=True).stdout
     plans: dict[str, list[str]] = {}
-    for line in told.splitlines():
+    for line in printed.splitlines():
         if line.startswith("record "):
             commands = plans.setdefault(line.split(" ")[1], [])
         else:
@@ -370,8 +370,8 @@ class Outcome:
             for serial, ends in machine.ends.items():
                 self.ends[serial] += ends
         self.batch, self.blanks = accounts
-        told = subprocess.run([floor.persod, "report", "--db", floor.file, "--batch", "B1"], capture_output=True, text=True, check=True).stdout
-        self.records = [line.split(" ") for line in told.splitlines() if line.startswith("record ")]
+        printed = subprocess.run([floor.persod, "report", "--db", floor.file, "--batch", "B1"], capture_output=True, text=True, check=True).stdout
+        self.records = [line.split(" ") for line in printed.splitlines() if line.startswith("record ")]
         with sqlite3.connect(floor.file) as tables:
             rows = tables.execute("select serial, name, session.state from session join record using (batch, place)").fetchall()
         self.sessions = {serial: (name, state) for serial, name, state in rows}
@@ -434,11 +434,11 @@ def run(floor: Floor) -> int:
     server.stop()
     outcome = Outcome(floor, machines, accounts)
     faults = server.faults + [fault for machine in machines for fault in machine.faults] + outcome.faults(planned(floor, batch))
-    tell(floor, outcome, took, faults)
+    print_result(floor, outcome, took, faults)
     return 1 if faults else 0
 
 
-def tell(floor: Floor, outcome: Outcome, took: float, faults: list[str]) -> None:
+def print_result(floor: Floor, outcome: Outcome, took: float, faults: list[str]) -> None:
     rejected = sum("rejected" in ends for ends in outcome.ends.values())
     figures = {
         "records": len(outcome.records),

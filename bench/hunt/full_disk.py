@@ -4,7 +4,7 @@
     bench/run full_disk [--rounds N] [--seed N]
 
 A machine and the office work, one request at a time. In each round all room but a little is taken away, and that too after a hundred requests, until
-a request is answered 503. Then the same request is 503 again, accounts are as before it, what was answered is told again, and another client's request
+a request is answered 503. Then the same request is 503 again, accounts are as before it, what was answered gets its reply again, and another client's request
 is 503 or is done. In every third round the server is killed and started while the disk is full: it listens, or it ends with status 3, `storage`. Then
 there is room again, and the request is asked again. In the end all is asked of a server on a new file that always had room: each reply is the same byte
 by byte, and so are accounts, reports and the rows of all tables. First of all, a server on a full disk with no file listens, or ends so too."""
@@ -128,12 +128,12 @@ class FullShop(Shop):
             self.server = Server(self.program, self.database, self.port)
             self.starts += 1
         except Stopped as stop:
-            if (stop.status, stop.told) != (3, "storage\n"):
+            if (stop.status, stop.printed) != (3, "storage\n"):
                 sys.exit(f"a start on a full disk: {stop}")
 
 
 def no_file(program: str, disk: Disk) -> str:
-    """A start on a full disk with no file: what it told, or that it listens."""
+    """A start on a full disk with no file: what it printed, or that it listens."""
     disk.fill(0)
     stopped: Optional[Stopped] = None
     try:
@@ -142,7 +142,7 @@ def no_file(program: str, disk: Disk) -> str:
     except Stopped as stop:
         stopped = stop
     disk.free()
-    if stopped and (stopped.status, stopped.told) != (3, "storage\n"):
+    if stopped and (stopped.status, stopped.printed) != (3, "storage\n"):
         sys.exit(f"a start on a full disk with no file: {stopped}")
     server = Server(program, disk.folder / "none.db", free_port())
     server.kill()

@@ -4,7 +4,7 @@
     bench/run hostile [--folder FOLDER] [--connections N] [--slow N] [--patience N] [--seed N]
 
 Half of them are reset midway. Each of the others gets the reply that its bytes have to get, or none. N more say nothing or stop within their message,
-and as many send a byte now and then: these hold the server for 5 s and for 10 s, as docs/PROTOCOL.md says, and are told nothing. Each request of a
+and as many send a byte now and then: these hold the server for 5 s and for 10 s, as docs/PROTOCOL.md says, and get no reply. Each request of a
 machine has to be answered in the time that those before it may take, and a quarter of a second for every one that isn't slow; an import and a body of
 16 MiB have 3 s. All but slow peers have --patience times as much, which a build that isn't proved needs. What is in memory may grow by 1 MiB from the
 first tenth of the connections to the last, and by one body of 16 MiB, which the C library may keep, in a hundred connections with such bodies. In the
@@ -113,7 +113,7 @@ class Peers:
         link.close()
         self.shop.end(turn)
         if not peer.is_right(came):
-            self.shop.wrong.append(f"{peer.kind}: {peer.message[:300]!r} was told {came!r}, and not {peer.wanted!r}")
+            self.shop.wrong.append(f"{peer.kind}: {peer.message[:300]!r} got {came!r}, and not {peer.wanted!r}")
 
     def slow(self, count: int, way: Callable[..., bytes], hold: float) -> None:
         draw = random.Random(f"{self.seed}/{count}/{way.__name__}")
@@ -125,7 +125,7 @@ class Peers:
             self.shop.end(turn)
             self.count(way.__name__)
             if came or not hold - SLOWNESS < took < allowed + SLOWNESS:
-                self.shop.wrong.append(f"{way.__name__}: told {came!r} after {took:.2f} s, of at most {allowed:.2f}")
+                self.shop.wrong.append(f"{way.__name__}: got {came!r} after {took:.2f} s, of at most {allowed:.2f}")
             time.sleep(draw.uniform(0, 10))
 
     def count(self, kind: str) -> None:

@@ -45,7 +45,7 @@ def asked(sent: Sent) -> bytes:
 
 
 def check_kept(database: pathlib.Path, all_sent: list[Sent], others: str = "") -> int:
-    """What was told is in the file, and what is in the file was asked, but by a client who asked beside them. Answers how many replies were lost."""
+    """Each reply is in the file, and what is in the file was asked, but by a client who asked beside them. Answers how many replies were lost."""
     given = [(sent, sent.reply) for sent in all_sent if sent.is_first]
     kept, marks = looked(database, kept_rows)
     asks = {(sent.client, sent.number): asked(sent) for sent, _ in given}
@@ -57,7 +57,7 @@ def check_kept(database: pathlib.Path, all_sent: list[Sent], others: str = "") -
         row = kept.get((sent.client, sent.number))
         if reply and sent.number > marks.get(sent.client, 0) and not any(name in reply for name in NOT_KEPT):
             if row is None or (row[1], row[2]) != parts(reply):
-                sys.exit(f"{sent.client} {sent.number} was told {reply!r}, and kept is {row}")
+                sys.exit(f"{sent.client} {sent.number} got {reply!r}, and kept is {row}")
         if row and sent.decided is None:
             sent.decided = sent.turns[-1]
             lost += reply is None

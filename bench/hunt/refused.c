@@ -31,7 +31,7 @@ static unsigned long number_of(const char *name)
     return text ? strtoul(text, NULL, 10) : 0;
 }
 
-/* One child has ended: what failed is told. */
+/* One child has ended: what failed is printed. */
 static void await(void)
 {
     int status;

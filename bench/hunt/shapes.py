@@ -1,11 +1,11 @@
 #!/usr/bin/env python3
-"""Hunts for failures without cause: out of memory, a fault of the store or a failed write that is told where there was none.
+"""Hunts for failures without cause: out of memory, a fault of the store or a failed write that is reported where there was none.
 
 No clause can forbid that for one shape of input alone. So this makes batches, exchanges and messages of every shape and size up to each
 limit, by a seed, as files in the formats of docs/WORKED.md. They run through the program `worked`, which fails on any giving up and on any
 two ways that differ; some hundreds more run through `persod plan` and `persod drill`. A case is one batch, one ask or one message.
 
-What must come out is told by small models (shapes_batches.py, shapes_machine.py), which follow docs/PROFILE.md and docs/PROTOCOL.md and
+What must come out is computed by small models (shapes_batches.py, shapes_machine.py), which follow docs/PROFILE.md and docs/PROTOCOL.md and
 know nothing of the program; where bytes were changed at random it is `any`. At the end stand the cases of each kind and the largest of
 each size. The status is 1 where anything differed; the cases that did then stay in a folder that is named, each in a file of its own:
 shrink such a case by hand into a file of crates/worked/data.

@@ -324,7 +324,7 @@ def with_record_fault(draw: Draw, kind: int, product: Product, rows: list[Row]) 
 
 
 def with_fault(draw: Draw, kind: int, product: Product, rows: list[Row]) -> tuple[list[str], int]:
-    """The lines of these rows with a fault, and the row that is told."""
+    """The lines of these rows with a fault, and the row that the refusal names."""
     if kind in SELDOM:
         return too_many(draw, kind)
     if kind in (21, 22, 23):
@@ -355,7 +355,7 @@ def with_fault(draw: Draw, kind: int, product: Product, rows: list[Row]) -> tupl
 
 
 class Plan(NamedTuple):
-    """A batch file and what is told of it: its fault and row, or else its rows if it is known to be sound."""
+    """A batch file and what `persod plan` has to say of it: its fault and row, or else its rows if it is known to be sound."""
 
     product: Product
     raw: bytes
@@ -393,7 +393,7 @@ def options(product: Product) -> list[str]:
     return ["--max", str(product.max), "--low", str(product.low)] + ["--check"] * product.check
 
 
-def told(plan: Plan) -> str:
+def verdict_on(plan: Plan) -> str:
     if plan.fault:
         kind, row = plan.fault
         return f"refused {kind} {NAMES[kind]} row {row}"
@@ -404,7 +404,7 @@ def told(plan: Plan) -> str:
 
 def plan_case(plan: Plan, title: str) -> Case:
     measured(plan)
-    wanted = told(plan)
+    wanted = verdict_on(plan)
     COUNTS["batch, " + " ".join(wanted.split()[:2] if plan.rows is None else ["accepted"])] += 1
     lines = ["== " + title, " ".join(["bytes", *options(plan.product)]), *spelt(plan.raw), "  " + wanted]
     return Case("plan", "\n".join(lines) + "\n", 1)

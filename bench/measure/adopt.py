@@ -9,7 +9,7 @@ It runs programs/measure_adopt.txt. The files lie in FOLDER, and are removed. Th
 be and of which no card was made yet: in our own tables, where they stay as they are, and in those of versions 1 and 2 in a mixed order, where
 they are made anew.
 
-Both take turns, and what is told is the median round: seconds of the processor, which other work on the machine moves least, and their
+Both take turns, and what is printed is the median round: seconds of the processor, which other work on the machine moves least, and their
 ratios. Memory is the highest resident size so far, which is read while the program waits for its next step; so is the length of the log.
 In the end each file is in version 3 with the rows it had, which is tested.
 """
@@ -91,7 +91,7 @@ FILES: dict[str, Callable[[], Contents]] = {
 class Step(NamedTuple):
     """What a step of the program came to, its seconds, those of the processor, and the highest memory so far."""
 
-    told: str
+    word: str
     seconds: float
     processor: float
     memory: int
@@ -111,20 +111,20 @@ class Ours:
         before = self.processor()
         self.program.stdin.write(b"\n")
         self.program.stdin.flush()
-        told = self.program.stdout.readline().decode().split()
-        if len(told) != 3:
-            sys.exit(f"measure_adopt: {' '.join(told)}")
-        return Step(told[0], int(told[2]) / 1e6, self.processor() - before, high_water(self.program.pid))
+        words = self.program.stdout.readline().decode().split()
+        if len(words) != 3:
+            sys.exit(f"measure_adopt: {' '.join(words)}")
+        return Step(words[0], int(words[2]) / 1e6, self.processor() - before, high_water(self.program.pid))
 
     def last_step(self) -> str:
         """The last one, behind which the program ends, so nothing is read of it but its line."""
         assert self.program.stdin and self.program.stdout
         self.program.stdin.write(b"\n")
         self.program.stdin.close()
-        told = self.program.stdout.readline().decode()
+        line = self.program.stdout.readline().decode()
         if self.program.wait() != 0:
             sys.exit(f"measure_adopt: status {self.program.returncode}")
-        return told
+        return line
 
 
 class Round(NamedTuple):
@@ -142,13 +142,13 @@ class Round(NamedTuple):
 def ours(database: pathlib.Path) -> tuple[Step, Step, float, int]:
     program = Ours(database)
     opened, taken = program.step(), program.step()
-    if (opened.told, taken.told) != ("opened", "taken"):
-        sys.exit(f"{database}: {opened.told}, {taken.told}")
+    if (opened.word, taken.word) != ("opened", "taken"):
+        sys.exit(f"{database}: {opened.word}, {taken.word}")
     log = database.with_name(database.name + "-wal").stat().st_size
-    told = program.last_step().split()
-    if told[0] != "closed":
-        sys.exit(f"{database}: {told[0]}")
-    return opened, taken, int(told[2]) / 1e6, log
+    words = program.last_step().split()
+    if words[0] != "closed":
+        sys.exit(f"{database}: {words[0]}")
+    return opened, taken, int(words[2]) / 1e6, log
 
 
 # ---- sqlite3
@@ -200,12 +200,12 @@ def main() -> None:
     columns = ("rows", "MiB", "open s", "take s", "close s", "tests s", "open/t", "take/t", "take/open", "open MiB", "take MiB", "log MiB")
     print(f"{'':36}" + "".join(f"{name:>9}" if len(name) < 9 else f" {name}" for name in columns), flush=True)
     with tempfile.TemporaryDirectory(dir=sys.argv[2] if len(sys.argv) > 2 else None) as folder:
-        for told, contents in FILES.items():
+        for label, contents in FILES.items():
             made = rows(contents())
-            for shape_told, shape in SHAPES.items():
+            for shape_label, shape in SHAPES.items():
                 database = pathlib.Path(folder) / "file.db"
                 make(database, made, shape)
-                measure(f"{told}, {shape_told}", database, sum(map(len, made.values())))
+                measure(f"{label}, {shape_label}", database, sum(map(len, made.values())))
 
 
 if __name__ == "__main__":

@@ -89,8 +89,8 @@ def resident(path: pathlib.Path) -> int:
 def most_allocated(work: str, path: pathlib.Path) -> int | None:
     counted = {**os.environ, "LD_PRELOAD": "libmemusage.so", "MEMUSAGE_NO_TIMER": "1"}
     with path.open("rb") as source:
-        told = subprocess.run([MEASURE, work], stdin=source, capture_output=True, check=True, env=counted).stderr
-    found = re.search(rb"heap peak: (\d+)", told)
+        printed = subprocess.run([MEASURE, work], stdin=source, capture_output=True, check=True, env=counted).stderr
+    found = re.search(rb"heap peak: (\d+)", printed)
     return int(found[1]) if found else None
 
 

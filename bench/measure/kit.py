@@ -9,7 +9,7 @@ The programs are programs/measure_kit.txt and c/same.c. Each runs over a copy of
 the disk of FOLDER, in turns: a batch of make_batch.py is imported, 20 of its
 cards are opened, each gets eleven answers, and a last one with which it is good (arrivals.py).
 This is done with batches of 200 cards and of 20, over a file with no card yet and over one with
-100,352 good cards and a kept reply for each. What is told of each kind is the median of all
+100,352 good cards and a kept reply for each. What is printed of each kind is the median of all
 single times, and the processor's time of an arrival, in milliseconds, with C's as a part of ours.
 The times are those of the statements alone; in the processor's the reading of the arrival is, too.
 In the end both files hold the same rows, which is tested.
@@ -66,7 +66,7 @@ class Floor:
         raw = "\n".join(["record,aid,rank,enc,tol,dgi", *lines, ""]).encode()
         self.size = len(raw)
         ask = f"/batch/{name}/P1".encode() + b"\0" + raw
-        kept = Kept("office", self.batch, ask, told(batch=name))
+        kept = Kept("office", self.batch, ask, reply_body(batch=name))
         yield Group(IMPORT, [importing(kept, self.batch, name, "P1", raw)])
         cards = [(first + place, Card(self.batch, name, place)) for place in range(MADE)]
         yield Group(OPENING, [self.opened(*its) for its in cards])
@@ -76,12 +76,12 @@ class Floor:
     def opened(self, session: int, its: Card) -> bytes:
         self.blank += 1
         its_own = {"batch": its.name, "blank": self.blank, "record": f"R{its.place}"}
-        body = told(command=SELECT, index=0, result="command", session=session, **its_own)
+        body = reply_body(command=SELECT, index=0, result="command", session=session, **its_own)
         kept = Kept(f"m{session}", 1, asked(do="open", batch=its.name, blank=self.blank), body)
         return opening(kept, its, session, self.blank, "L1")
 
 
-def told(**members: Any) -> bytes:
+def reply_body(**members: Any) -> bytes:
     return json.dumps(members, separators=(",", ":"), sort_keys=True).encode()
 
 
@@ -90,7 +90,7 @@ def asked(**members: Any) -> bytes:
 
 
 def went_on(session: int, its: Card, index: int) -> bytes:
-    body = told(command=COMMAND, index=index + 1, result="command", session=session)
+    body = reply_body(command=COMMAND, index=index + 1, result="command", session=session)
     ask = asked(do="answer", session=session, index=index, sw="9000")
     kept = Kept(f"m{session}", 2 + index, ask, body)
     return answer(kept, its, session, "P1", index, (0, 0, 255 * index, index + 1))
@@ -98,7 +98,7 @@ def went_on(session: int, its: Card, index: int) -> bytes:
 
 def ended(session: int, its: Card) -> bytes:
     ask = asked(do="answer", session=session, index=ANSWERS, sw="9000")
-    kept = Kept(f"m{session}", 2 + ANSWERS, ask, told(result="good", session=session))
+    kept = Kept(f"m{session}", 2 + ANSWERS, ask, reply_body(result="good", session=session))
     return last_answer(kept, its, session, "P1", ANSWERS, (1, 0, 0, 0))
 
 

@@ -81,9 +81,9 @@ class Counted(Runner):
         words = ["callgrind_control", "--dump", str(self.program.pid)]
         subprocess.run(words, check=True, stdout=subprocess.DEVNULL, stderr=subprocess.DEVNULL)
         dumped = pathlib.Path(f"{self.profile}.{self.dumps}")
-        told = dumped.read_text(errors="replace").rpartition("\ntotals: ")[2]
+        totals = dumped.read_text(errors="replace").rpartition("\ntotals: ")[2]
         dumped.unlink()
-        return int(told.split()[0])
+        return int(totals.split()[0])
 
 
 def arrival_of(lines: list[str]) -> bytes:

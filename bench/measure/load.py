@@ -80,10 +80,10 @@ def time_of(messages: list[bytes], accepted: int, path: pathlib.Path, runs: int)
     for _ in range(runs):
         with path.open("rb") as source:
             start = time.perf_counter()
-            told = subprocess.run([MEASURE, "load"], stdin=source, capture_output=True, check=True, text=True).stdout.strip()
+            printed = subprocess.run([MEASURE, "load"], stdin=source, capture_output=True, check=True, text=True).stdout.strip()
             best = min(best, time.perf_counter() - start)
-        if told != f"served {len(messages)} accepted {accepted}":
-            sys.exit(f"measure load: {told}, and not {len(messages)} accepted {accepted}")
+        if printed != f"served {len(messages)} accepted {accepted}":
+            sys.exit(f"measure load: {printed}, and not {len(messages)} accepted {accepted}")
     return best
 
 

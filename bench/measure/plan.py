@@ -7,7 +7,7 @@ The words go on to `persod plan` (the batches are made for pieces of 255 bytes, 
 
 Time is the best of several runs, from the start of the process to its end, with the output thrown away.
 Peak is the highest resident size, read while the program waits to write the last of its output.
-Files of the most bytes that are refused come last; their peak is read while the program waits to tell the fault.
+Files of the most bytes that are refused come last; their peak is read while the program waits to print the fault.
 Growth is the ratio of two times over the ratio of the two sizes: 1 is linear, more is worse. For it alone
 the time of a batch of one row, that is of starting and ending, is taken off both times.
 """

@@ -14,11 +14,11 @@ others take what was asked of ours, in turns, in chunks of a thousand:
     kit      programs/measure_kit.txt, which does so by the SQLite that we use: what no server
              over that can be faster than
 
-A median of chunks is told, the middle and the slowest hundredth of all single times, the
+It prints the median of chunks, the middle and the slowest hundredth of all single times, the
 processor's time of a request, ours as a part of its rate, and the middle time of an opening, an
 answer that goes on, a last answer and an import. This is done on files that hold 1,000 and
 100,000 requests, which were asked before, of the same server on a disk in memory; the rate of
-that is told too. In the end `same` and `kit` hold as many rows as ours and the same counters,
+that is printed too. In the end `same` and `kit` hold as many rows as ours and the same counters,
 which is tested. First comes the start on a file of 100,352 good cards with a kept reply for each,
 made by plain SQL, beside `PRAGMA integrity_check` and `foreign_key_check` by C's SQLite. Peak
 memory is the highest resident size."""
@@ -85,7 +85,7 @@ class Same(Server):
 
 
 class Translator:
-    """Says what the tables need for what was asked of ours and told by it. Where a card stands behind
+    """Says what the tables need for what was asked of ours and what it replied. Where a card stands behind
     an answer is not known here: a place of like size is written."""
 
     def __init__(self, database: pathlib.Path) -> None:
@@ -102,27 +102,27 @@ class Translator:
             kept = Kept(client, int(number), f"/{'/'.join(tail)}".encode() + b"\0" + sent, body)
             return self.imports(message, kept, tail[1], sent)
         kept = Kept(client, int(number), b"\0" + sent, body)
-        its, told = json.loads(sent), json.loads(body)
+        its, reply = json.loads(sent), json.loads(body)
         if its["do"] == "open":
-            return self.opens(message, kept, told)
-        return self.answers(message, kept, its, told)
+            return self.opens(message, kept, reply)
+        return self.answers(message, kept, its, reply)
 
     def imports(self, message: bytes, kept: Kept, batch: str, raw: bytes) -> Asked:
         self.batches[batch] = number = len(self.batches) + 1
         return Asked(IMPORT, message, arrivals.importing(kept, number, batch, PRODUCT, raw))
 
-    def opens(self, message: bytes, kept: Kept, told: dict[str, Any]) -> Asked:
-        card = Card(self.batches[told["batch"]], told["batch"], int(told["record"][1:]))
-        self.cards[told["session"]] = card
-        session, blank = told["session"], told["blank"]
+    def opens(self, message: bytes, kept: Kept, reply: dict[str, Any]) -> Asked:
+        card = Card(self.batches[reply["batch"]], reply["batch"], int(reply["record"][1:]))
+        self.cards[reply["session"]] = card
+        session, blank = reply["session"], reply["blank"]
         same = arrivals.opening(kept, card, session, blank, f"L{blank // LOT}")
         return Asked(OPENING, message, same)
 
     def answers(
-        self, message: bytes, kept: Kept, its: dict[str, Any], told: dict[str, Any]
+        self, message: bytes, kept: Kept, its: dict[str, Any], reply: dict[str, Any]
     ) -> Asked:
         kind, made = ANSWER, arrivals.answer
-        if told["result"] != "command":
+        if reply["result"] != "command":
             kind, made = LAST, arrivals.last_answer
         session, index = its["session"], its["index"]
         cursor = (0, 0, 255 * index, index + 1)
@@ -137,7 +137,7 @@ class Shop:
         self.server, self.cards, self.draw, self.batches, self.number = server, cards, random.Random(1), 0, 1
         self.lock, self.opened, self.size = threading.Lock(), 0, 0
         self.makers = [self.maker(f"m{place}", place * LOT) for place in range(max(MACHINES))]
-        self.told: list[Any] = [None] * len(self.makers)
+        self.replies: list[Any] = [None] * len(self.makers)
 
     def ask(self, message: bytes, times: list[float]) -> bytes:
         whole = parts(timed(self.server.port, message, times))
@@ -154,8 +154,8 @@ class Shop:
             self.ask(request("office", self.number, do="lot", **its), [])
 
     def ready(self, times: list[float]) -> list[tuple[bytes, bytes]]:
-        """Imports batches until there are cards enough for a chunk, and answers what was asked and
-        told."""
+        """Imports batches until there are cards enough for a chunk, and answers each request and
+        its reply."""
         brought = []
         while self.batches * self.cards < self.opened + STEP // LEAST + len(self.makers):
             brought.append(self.bring(times))
@@ -181,12 +181,12 @@ class Shop:
         number = 0
         while True:
             number, blank = number + 1, blank + 1
-            told = yield request(name, number, do="open", batch=self.next_batch(), blank=blank)
-            while told["result"] == "command":
+            reply = yield request(name, number, do="open", batch=self.next_batch(), blank=blank)
+            while reply["result"] == "command":
                 number += 1
-                told = yield request(name, number, do="answer", session=told["session"], index=told["index"], sw="9000")
-            if told["result"] != "good":
-                sys.exit(f"{name}: {told}")
+                reply = yield request(name, number, do="answer", session=reply["session"], index=reply["index"], sw="9000")
+            if reply["result"] != "good":
+                sys.exit(f"{name}: {reply}")
 
 
 class Taken:
@@ -225,17 +225,17 @@ def chunk_of(server: Server, works: list[Any], count: int) -> Chunk:
 
 
 def ours(shop: Shop, machines: int, count: int) -> tuple[Chunk, list[list[tuple[bytes, bytes]]]]:
-    """So many requests by so many machines, and what each of them asked and was told."""
+    """So many requests by so many machines, and what each of them asked, with the reply."""
     taken = Taken(count)
     asked: list[list[tuple[bytes, bytes]]] = [[] for _ in range(machines)]
 
     def work(place: int, times: list[float]) -> None:
         while taken.one():
-            message = shop.makers[place].send(shop.told[place])
+            message = shop.makers[place].send(shop.replies[place])
             whole = parts(timed(shop.server.port, message, times))
             if whole is None or whole[0] != 200:
                 sys.exit(f"{message!r}: {whole}")
-            shop.told[place] = json.loads(whole[1])
+            shop.replies[place] = json.loads(whole[1])
             asked[place].append((message, whole[1]))
 
     return chunk_of(shop.server, [lambda its, place=place: work(place, its) for place in range(machines)], count), asked
@@ -263,7 +263,7 @@ class Side:
         for kind, time_ in zip(kinds, chunk.times, strict=True):
             self.kinds[kind].append(time_)
 
-    def told(self, ours: "Side") -> str:
+    def columns(self, ours: "Side") -> str:
         rate = statistics.median(chunk.rate for chunk in self.chunks)
         processor = statistics.median(chunk.processor for chunk in self.chunks)
         times = sorted(one for chunk in self.chunks for one in chunk.times)
@@ -297,15 +297,15 @@ def measure(
         for _ in range(chunks):
             imports: list[float] = []
             brought = [translator.asked(*one) for one in shop.ready(imports)]
-            chunk, told = ours(shop, machines, STEP)
-            asked = [[translator.asked(*one) for one in messages] for messages in told]
+            chunk, exchanged = ours(shop, machines, STEP)
+            asked = [[translator.asked(*one) for one in messages] for messages in exchanged]
             kinds = [one.kind for messages in asked for one in messages]
             sides["ours"].add(chunk, kinds, imports)
             for server, its in others.items():
                 chunk, took = replayed(server, its, brought, asked)
                 sides[server].add(chunk, kinds, took)
         for server, side in sides.items():
-            print(f"{name:>10}{machines:9}{server:>7}{side.told(sides['ours'])}", flush=True)
+            print(f"{name:>10}{machines:9}{server:>7}{side.columns(sides['ours'])}", flush=True)
 
 
 def test_alike(database: pathlib.Path, other: pathlib.Path) -> None:

@@ -6,7 +6,7 @@ and an import, each by its text. It takes some seconds, and needs gdb. Linux on 
 
 PROGRAM serves a new file under gdb, which stops it where the kit's `sqlite` is about to run a
 statement: its text is what one of the registers points at. So the program is the one that is
-used, and a statement that was prepared counts whenever it runs. What is told is of one arrival
+used, and a statement that was prepared counts whenever it runs. What is printed is of one arrival
 each. An answer goes on within its segment, or with the next. The batch has two cards of
 make_batch.py, and a record and a grouping are added for each row of its file.
 """
@@ -34,7 +34,7 @@ WATCHER = r"""
 import gdb, re
 VERBS = re.compile(rb"(SELECT|INSERT|UPDATE|DELETE|BEGIN|COMMIT|ROLLBACK|CREATE|DROP|PRAGMA)\b")
 REGISTERS = ("rdi", "rsi", "rdx", "rcx", "r8", "r9")
-told = open(LOG, "w", buffering=1)
+log = open(LOG, "w", buffering=1)
 
 def read(address, size):
     try:
@@ -60,14 +60,14 @@ class Stop(gdb.Breakpoint):
         self.line = line
 
     def stop(self):
-        told.write((self.line or text()) + "\n")
+        log.write((self.line or text()) + "\n")
         return False
 
 for place in RUNS:
     Stop(place, None)
 for place in COMMITS:
     Stop(place, COMMIT)
-told.write("ready\n")
+log.write("ready\n")
 gdb.execute("continue")
 """
 
@@ -134,18 +134,18 @@ def counted(server: Watched) -> dict[str, Counter[str]]:
     counts = {}
     server.ask(imported("office", 1, "B1", "P1", batch_file()))
     counts[IMPORT] = server.ran()
-    told = server.asked(do="open", batch="B1", blank=0)
+    reply = server.asked(do="open", batch="B1", blank=0)
     counts[OPENING] = server.ran()
-    while told["result"] == "command":
-        told = server.asked(do="answer", session=told["session"], index=told["index"], sw="9000")
+    while reply["result"] == "command":
+        reply = server.asked(do="answer", session=reply["session"], index=reply["index"], sw="9000")
         its = server.ran()
-        counts[kind_of(told, its, counts)] = its
+        counts[kind_of(reply, its, counts)] = its
     return counts
 
 
-def kind_of(told: dict[str, Any], its: Counter[str], counts: dict[str, Counter[str]]) -> str:
+def kind_of(reply: dict[str, Any], its: Counter[str], counts: dict[str, Counter[str]]) -> str:
     """The first answer goes on within its segment, and so does each that runs the same."""
-    if told["result"] == "good":
+    if reply["result"] == "good":
         return LAST
     return ANSWER if its == counts.get(ANSWER, its) else NEXT
 

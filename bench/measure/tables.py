@@ -10,12 +10,12 @@ sessions.
 The files lie in FOLDER, which has to be on a disk, since a commit waits for a sync of it. They are
 removed.
 
-`measure_tables` serves what it reads over the tables of a new file, a part at a time, and tells
+`measure_tables` serves what it reads over the tables of a new file, a part at a time, and prints
 the time of each part. So its times hold the reading of a message and the writing of its reply,
 but no pipe. Beside it stand two programs that run only what the tables need for each arrival, in
 one transaction (arrivals.py): `measure_kit` by the SQLite that we use, which no server over it
 can beat, and `same` by C's (WAL, synchronous FULL). All three take turns, in chunks of equal
-messages, and what is told is the median chunk; processor time is of all chunks. In the end the
+messages, and what is printed is the median chunk; processor time is of all chunks. In the end the
 rows of all files are the same, which is tested, and each file that ours wrote is tested whole by
 C's SQLite.
 """
@@ -112,11 +112,11 @@ class Ours:
         assert self.program.stdin and self.program.stdout
         self.program.stdin.write(b"\0".join(messages) + b"\1")
         self.program.stdin.flush()
-        told = self.program.stdout.readline().decode().split()
+        words = self.program.stdout.readline().decode().split()
         wanted = ["served", str(len(messages)), "accepted", str(len(messages)), "microseconds"]
-        if told[:5] != wanted:
-            sys.exit(f"measure_tables: {' '.join(told)}, and not {len(messages)} accepted")
-        return int(told[5]) / 1e6
+        if words[:5] != wanted:
+            sys.exit(f"measure_tables: {' '.join(words)}, and not {len(messages)} accepted")
+        return int(words[5]) / 1e6
 
     def copy(self, target: pathlib.Path) -> None:
         """Copies the file and its log, while no message is served."""
@@ -166,20 +166,20 @@ class Twins:
             test_equal(self.folder / "after.db", self.folder / f"{name}.db")
 
 
-def told(**members) -> bytes:
+def reply_body(**members) -> bytes:
     return json.dumps(members, separators=(",", ":"), sort_keys=True).encode()
 
 
 def opened(client: str, card: Card, session: int, blank: int) -> bytes:
     its = {"batch": card.name, "blank": blank, "command": SELECTED, "index": 0}
-    body = told(record=f"R{card.place}", result="command", session=session, **its)
+    body = reply_body(record=f"R{card.place}", result="command", session=session, **its)
     kept = Kept(client, 1, b"\0" + open_body(card.name, blank).encode(), body)
     return arrivals.opening(kept, card, session, blank, "L1")
 
 
 def answered(client: str, card: Card, session: int, index: int, command: str) -> bytes:
     """The word for a command, behind which this one is handed out: a piece of the first segment."""
-    body = told(command=command, index=index + 1, result="command", session=session)
+    body = reply_body(command=command, index=index + 1, result="command", session=session)
     kept = Kept(client, 2 + index, b"\0" + answer_body(session, index).encode(), body)
     cursor = (0, 0, 255 * index, index + 1)
     return arrivals.answer(kept, card, session, "P1", index, cursor)
@@ -188,14 +188,14 @@ def answered(client: str, card: Card, session: int, index: int, command: str) ->
 def ended(client: str, card: Card, session: int) -> bytes:
     """The word for the second command of a card that has two."""
     ask = b"\0" + answer_body(session, 1).encode()
-    kept = Kept(client, 3, ask, told(result="good", session=session))
+    kept = Kept(client, 3, ask, reply_body(result="good", session=session))
     return arrivals.last_answer(kept, card, session, "P1", 1, (1, 0, 0, 0))
 
 
 def taken(number: int, id_: int, batch: str, raw: bytes) -> bytes:
     rows = arrivals.rows_of(raw)
     records = len({row[1] for row in rows})
-    body = told(batch=batch, records=records, result="created", rows=len(rows))
+    body = reply_body(batch=batch, records=records, result="created", rows=len(rows))
     kept = Kept("office", number, f"/batch/{batch}/P1".encode() + b"\0" + raw, body)
     return arrivals.importing(kept, id_, batch, "P1", raw)
 
@@ -441,7 +441,7 @@ def measure_file(folder: pathlib.Path, file: File) -> None:
 
 
 def beside_file(folder: pathlib.Path, raw: bytes) -> tuple[Ours, Twins]:
-    """Imports a file as batch M, which is told."""
+    """Imports a file as batch M, whose time is printed."""
     folder.mkdir()
     ours = Ours(folder / "ours.db")
     ours.serve(set_up())

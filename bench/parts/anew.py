@@ -19,19 +19,19 @@ def asked_anew(program: str, database: pathlib.Path, shop: Shop) -> list[bytes]:
     for sent in sorted(shop.sent, key=Sent.place):
         came = exchange(server.port, sent.message)
         if came != sent.reply:
-            sys.exit(f"connection {sent.place()}, {sent.message!r}\n  told   {sent.reply!r}\n  wanted {came!r}")
-    told = accounts(server.port, shop.batches)
+            sys.exit(f"connection {sent.place()}, {sent.message!r}\n  got    {sent.reply!r}\n  wanted {came!r}")
+    found = accounts(server.port, shop.batches)
     server.kill()
-    return told
+    return found
 
 
 def check_same(program: str, server: Server, database: pathlib.Path, shop: Shop, folder: pathlib.Path, others: str = "") -> None:
     """Kills the server, and compares its file with one in a folder that comes of the same requests; but for what is kept of a client who asked
     beside them."""
-    told = accounts(server.port, shop.batches)
+    found = accounts(server.port, shop.batches)
     server.kill()
     whole = folder / "anew.db"
-    if told != asked_anew(program, whole, shop):
+    if found != asked_anew(program, whole, shop):
         sys.exit("accounts differ")
     ours, theirs = looked(database, all_rows), looked(whole, all_rows)
     ours["reply"] = [row for row in ours["reply"] if row[0] != others]

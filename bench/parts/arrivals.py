@@ -81,7 +81,7 @@ def line(name: str, *values: Union[int, str, bytes]) -> str:
 
 
 class Kept(NamedTuple):
-    """What is kept of an arrival: its client and number, its ask, and the body that is told."""
+    """What is kept of an arrival: its client and number, its ask, and the body of its reply."""
 
     client: str
     number: int
@@ -209,8 +209,8 @@ class Runner:
 
     def processor(self) -> float:
         """The processor time so far, in seconds."""
-        told = pathlib.Path(f"/proc/{self.program.pid}/schedstat").read_text()
-        return int(told.split()[0]) / 1e9
+        figures = pathlib.Path(f"/proc/{self.program.pid}/schedstat").read_text()
+        return int(figures.split()[0]) / 1e9
 
     def end(self) -> None:
         self.program.communicate()

@@ -119,7 +119,7 @@ def some_peer(draw: random.Random) -> Peer:
 
 
 def reset(peer: socket.socket) -> None:
-    """Closes so that the other end is told of a reset."""
+    """Closes so that the other end finds the connection reset."""
     peer.setsockopt(socket.SOL_SOCKET, socket.SO_LINGER, struct.pack("ii", 1, 0))
     peer.close()
 

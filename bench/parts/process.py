@@ -32,7 +32,7 @@ def best_time(words: list[str], path: pathlib.Path, runs: int) -> float:
 
 
 def peak(words: list[str], path: pathlib.Path, filled: int, taken: int, stream: str = "stdout") -> int:
-    """Starts with `filled` bytes in the pipe for the output, or for what is told on standard error, takes `taken` out of it, waits for the
+    """Starts with `filled` bytes in the pipe for the output, or for standard error, takes `taken` out of it, waits for the
     program to stand still in a write, and looks."""
     with path.open("rb") as source:
         ours, theirs = os.pipe()

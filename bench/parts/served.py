@@ -16,15 +16,15 @@ PATIENCE = 600
 
 
 class Stopped(Exception):
-    """The server ended before it listened: its status, and what it told."""
+    """The server ended before it listened: its status, and what it printed."""
 
-    def __init__(self, status: int, told: str) -> None:
-        super().__init__(f"status {status}, {told!r}")
-        self.status, self.told = status, told
+    def __init__(self, status: int, printed: str) -> None:
+        super().__init__(f"status {status}, {printed!r}")
+        self.status, self.printed = status, printed
 
 
 class Server:
-    """A server over a file. It listens as soon as it is made, unless it is told not to wait for that. With a path for its event lines it appends them
+    """A server over a file. It listens as soon as it is made, unless `wait` is false. With a path for its event lines it appends them
     there, the usual ones or those of another level."""
 
     def __init__(
@@ -51,20 +51,20 @@ class Server:
         line = self.process.stdout.readline()
         took = time.monotonic() - self.begun
         if line != f"listening {HOST}:{self.port}\n".encode():
-            status, told = self.wait()
-            raise Stopped(status, line.decode() + told)
+            status, printed = self.wait()
+            raise Stopped(status, line.decode() + printed)
         return took
 
     def wait(self) -> tuple[int, str]:
-        """Its status, and what it told that wasn't read yet."""
+        """Its status, and what it printed that wasn't read yet."""
         out, err = self.process.communicate(timeout=PATIENCE)
         return self.process.returncode, (out + (err or b"")).decode()
 
     def served(self) -> None:
         """It ends by itself, after all its turns."""
-        status, told = self.wait()
-        if (status, told) != (0, f"served {self.turns}\n"):
-            sys.exit(f"the server's end: status {status}, {told!r}, and not 0, 'served {self.turns}'")
+        status, printed = self.wait()
+        if (status, printed) != (0, f"served {self.turns}\n"):
+            sys.exit(f"the server's end: status {status}, {printed!r}, and not 0, 'served {self.turns}'")
 
     def kill(self) -> None:
         self.process.send_signal(signal.SIGKILL)

@@ -1,5 +1,5 @@
 """A shop under a seed: machines that make cards, an office that stocks, remakes and closes, and someone who reads accounts, each in a thread of its
-own. What everyone asked and was told is kept, with the place of each connection among all, so that it can be asked once more in the order in which
+own. Each request and its reply are kept, with the place of each connection among all, so that it can be asked once more in the order in which
 it was decided: a server takes connections in the order in which they were made, and serves one at a time."""
 import json
 import random
@@ -85,7 +85,7 @@ class Shop:
             try:
                 while not self.is_over.is_set():
                     once()
-            except Exception as fault:  # noqa: BLE001 what is wrong with anyone is told by the one who waits
+            except Exception as fault:  # noqa: BLE001 whoever waits finds it in `wrong`
                 self.wrong.append(repr(fault))
                 self.is_over.set()
 
@@ -101,7 +101,7 @@ class Client:
     def __init__(self, shop: Shop, name: str, seed: str) -> None:
         self.shop, self.name, self.draw = shop, name, random.Random(f"{seed}/{name}")
         self.number, self.mark = 0, 0
-        self.told: list[tuple[int, bytes, int, Any]] = []
+        self.replies: list[tuple[int, bytes, int, Any]] = []
 
     def ask(self, *codes: int, **members: Any) -> tuple[int, Any]:
         """The reply to a request under the next number. It has to be accepted, or refused by one of these codes."""
@@ -109,17 +109,17 @@ class Client:
 
     def send(self, message: bytes, codes: tuple[int, ...] = ()) -> tuple[int, Any]:
         self.number += 1
-        status, told = self.shop.ask(self.name, self.number, message)
-        if status != 200 and (status != 409 or told["code"] not in codes):
-            raise Wrong(f"{message!r}: {status} {told}")
-        self.told.append((self.number, message, status, told))
-        return status, told
+        status, reply = self.shop.ask(self.name, self.number, message)
+        if status != 200 and (status != 409 or reply["code"] not in codes):
+            raise Wrong(f"{message!r}: {status} {reply}")
+        self.replies.append((self.number, message, status, reply))
+        return status, reply
 
     def again(self) -> None:
         """Asks something again that was answered before, or something else under its number."""
-        if not self.told:
+        if not self.replies:
             return
-        number, message, *first = self.draw.choice(self.told[-50:])
+        number, message, *first = self.draw.choice(self.replies[-50:])
         if self.draw.random() < 0.2:
             message, first = request(self.name, number, do="reset", again=1), [400, {"code": 400, "refused": "malformed"}]
             if self.draw.random() < 0.5:
@@ -131,9 +131,9 @@ class Client:
 
     def release(self, upto: int) -> None:
         self.mark = max(self.mark, upto)
-        told = self.ask(do="release", upto=upto)[1]
-        if told != {"mark": self.mark, "result": "released"}:
-            raise Wrong(f"release of {upto}: {told}")
+        reply = self.ask(do="release", upto=upto)[1]
+        if reply != {"mark": self.mark, "result": "released"}:
+            raise Wrong(f"release of {upto}: {reply}")
 
 
 class Machine(Client):
@@ -158,30 +158,30 @@ class Machine(Client):
             time.sleep(PAUSE)
             return
         batch = self.draw.choice(self.shop.batches)
-        status, told = self.ask(57, 62, do="open", batch=batch, blank=self.blank)
+        status, reply = self.ask(57, 62, do="open", batch=batch, blank=self.blank)
         if status == 409:
             time.sleep(PAUSE)
             return
         self.blank += 1
         index = 0
-        while told["result"] == "command":
-            if told["index"] != index:
-                raise Wrong(f"{self.name}: {told}, and not index {index}")
-            told = self.step(told)
+        while reply["result"] == "command":
+            if reply["index"] != index:
+                raise Wrong(f"{self.name}: {reply}, and not index {index}")
+            reply = self.step(reply)
             index += 1
-        self.good += told["result"] == "good"
+        self.good += reply["result"] == "good"
 
-    def step(self, told: Any) -> Any:
+    def step(self, reply: Any) -> Any:
         pick = self.draw.random() / self.faults if self.faults else 9
         if pick < 1:
-            return self.ask(do="abort", session=told["session"])[1]
+            return self.ask(do="abort", session=reply["session"])[1]
         if pick < 2:
             self.start()
             return {"result": "spoiled"}
         if pick < 6:
             self.again()
         word = "6A80" if pick < 3 else self.draw.choice(("9000", "9000", "6110", "61ff"))
-        return self.ask(do="answer", session=told["session"], index=told["index"], sw=word)[1]
+        return self.ask(do="answer", session=reply["session"], index=reply["index"], sw=word)[1]
 
 
 class Office(Client):

@@ -2,7 +2,7 @@
    statements that an arrival asks for, prepared once. It decides nothing. programs/measure_kit.txt
    does the same by the SQLite that we use, and says how arrivals are written.
 
-     same FILE TEXTS         runs arrivals of standard input, and tells each one's nanoseconds
+     same FILE TEXTS         runs arrivals of standard input, and prints each one's nanoseconds
      same FILE TEXTS PORT    serves arrivals, each a message's body, until it is killed */
 #include "plain.h"
 #include <time.h>
