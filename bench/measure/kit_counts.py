@@ -30,7 +30,7 @@ Values = tuple[Union[int, str, bytes], ...]
 READS: dict[str, Values] = {
     "mark": ("m1",),
     "kept": ("m1", 77),
-    "batch_told": ("N1",),
+    "batch_by_name": ("N1",),
     "batch_product": ("N1",),
     "batch_name": (BATCH,),
     "product": (PRODUCT,),

@@ -30,7 +30,7 @@ OWN = {
     "one_is_good": "UPDATE batch SET running = running - 1, good = good + 1 WHERE id = ?1",
 }
 READS = (
-    "mark", "kept", "batch_told", "running", "charged", "waiting", "last_session", "session",
+    "mark", "kept", "batch_by_name", "running", "charged", "waiting", "last_session", "session",
     "batch_name", "product", "last_batch",
 )
 WRITES = (
@@ -109,7 +109,7 @@ def arrival(kept: Kept, reads: list[str], writes: list[str]) -> bytes:
 
 def opening(kept: Kept, card: Card, session: int, blank: int, lot: str) -> bytes:
     reads = [
-        line("batch_told", card.name),
+        line("batch_by_name", card.name),
         line("running", kept.client),
         line("lot_at", blank),
         line("charged", blank),
@@ -177,7 +177,7 @@ def importing(kept: Kept, batch: int, name: str, product: str, raw: bytes) -> by
     row read whole."""
     rows = rows_of(raw)
     records = max(row[1] for row in rows) + 1
-    reads = [line("batch_told", name), line("product", product), line("last_batch")]
+    reads = [line("batch_by_name", name), line("product", product), line("last_batch")]
     writes = [
         line("add_batch", batch, name, product, b"", records),
         *(line("add_record", batch, place, f"R{place}") for place in range(records)),
