@@ -158,7 +158,7 @@ def memory(peers: Peers, server: Server, connections: int, slow: int) -> None:
         peers.shop.wrong.append("memory grew")
 
 
-def told_times(answered: list[Answered]) -> str:
+def times_line(answered: list[Answered]) -> str:
     plain = [one.took for one in answered if not one.behind_slow]
     slow = [one for one in answered if one.behind_slow]
     nearest = max((one.took / one.allowed for one in answered), default=0)
@@ -182,7 +182,7 @@ def run(program: str, folder: pathlib.Path, connections: int, slow: int, patienc
     for thread in threads:
         thread.join()
     print(", ".join(f"{count} {kind}" for kind, count in sorted(peers.counts.items())))
-    print(told_times(shop.answered))
+    print(times_line(shop.answered))
     if shop.wrong:
         sys.exit("\n".join(one[:1000] for one in shop.wrong[:20]) + f"\n{len(shop.wrong)} wrong")
     if exchange(shop.port, get("/blanks/evil")).find(b"product-unknown") < 0:

@@ -162,10 +162,10 @@ def main() -> None:
     print(" " * 16 + "".join(f"{name:>7}" if "/" in name else f"{name:>10}" for name in names))
     for held, contents in FILES.items():
         made = rows(contents())
-        for told_, cards in BATCHES.items():
+        for label, cards in BATCHES.items():
             with tempfile.TemporaryDirectory(dir=given.folder) as folder:
                 size = measure(given, pathlib.Path(folder), made, cards)
-            print(f"{held} before, a batch of {told_} in {size} bytes\n", flush=True)
+            print(f"{held} before, a batch of {label} in {size} bytes\n", flush=True)
 
 
 if __name__ == "__main__":
