@@ -11,3 +11,5 @@ pub mod Changing
 pub mod Typed
 pub mod Ordering
 pub mod Querying
+pub mod Refusing
+pub mod Causing

@@ -2,5 +2,6 @@ pub mod Columns
 pub mod Queries
 pub mod Effects
 pub mod Ends
+pub mod Causes
 pub mod Making
 pub mod Rowids

@@ -2,6 +2,7 @@
 ghost use Rattle.std.specs.Prelude.{◌≡◌, ◌↔◌, IsTrue};
 ghost use Rattle.sqlite.specs.Held.{state};
 ghost use Rattle.sqlite.specs.State.{HasCleanDisk, Survives};
+ghost use Rattle.sql_base.specs.Causes.{ReportsCause};
 ghost use Rattle.sql_base.specs.Columns.{no_schema};
 ghost use Rattle.sql_base.specs.Ends.{Wrote};
 ghost use Rattle.sql_base.specs.Making.{MakesIndex, MakesTable};
@@ -28,6 +29,8 @@ pub fn make<S: Alter>(tx: &mut Transaction<'_, S>, sql: &str) -> Result<usize, E
         (state S.Store tx.new.conn.now) result }
     ensures survives { Survives (state S.Store tx.old.conn.now) (state S.Store tx.new.conn.now)
         (λ _. ⊥) }
+    ensures cause { HasCleanDisk (state S.Store tx.new.conn.now)
+        → ReportsCause (state S.Store tx.old.conn.now) (state S.Store tx.new.conn.now) result }
 {
     tx.execute(sql, &[])
 }

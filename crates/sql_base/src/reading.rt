@@ -1,10 +1,11 @@
 //! Rows are read, in a transaction that is dropped.
-ghost use Rattle.std.specs.Prelude.{◌≡◌, ◌<◌, ◌^◌, false, true, pos, IfOk};
+ghost use Rattle.std.specs.Prelude.{◌≡◌, ◌<◌, ◌^◌, false, true, pos, IfErr, IfOk};
 ghost use Rattle.sqlite.specs.Held.{state};
 ghost use Rattle.sqlite.specs.State.{HasCleanDisk, Shown, Survives};
 ghost use Rattle.sqlite.specs.Value.{owned};
 ghost use Rattle.sqlite.specs.Values.{bound};
 ghost use Rattle.sqlite.specs.declared.types.Value.TheVariants.{Int};
+ghost use Rattle.sql_base.specs.Causes.{HadCause};
 ghost use Rattle.sql_base.specs.Ends.{IsKept};
 
 use crate::laws;
@@ -35,6 +36,8 @@ pub fn rows_of<S: Alter>(
         → IsKept (state S.Store conn.old) (state S.Store conn.new) }
     ensures idle { conn.new.in_transaction ≡ false }
     ensures survives { Survives (state S.Store conn.old) (state S.Store conn.new) (λ _. ⊥) }
+    ensures cause { HasCleanDisk (state S.Store conn.new) → IfErr result
+        (HadCause S.Store (state S.Store conn.old) (state S.Store conn.new)) }
 {
     laws::is_committed(conn);
     let mut tx = conn.transaction();

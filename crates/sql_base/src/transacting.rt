@@ -1,7 +1,8 @@
 //! A unit of work is done in one transaction.
-ghost use Rattle.std.specs.Prelude.{◌≡◌, false, OnErr, OnOk};
+ghost use Rattle.std.specs.Prelude.{◌≡◌, false, IfErr, OnErr, OnOk};
 ghost use Rattle.sqlite.specs.Held.{state};
 ghost use Rattle.sqlite.specs.State.{HasCleanDisk, Survives};
+ghost use Rattle.sql_base.specs.Causes.{HadCause};
 ghost use Rattle.sql_base.specs.Ends.{Ends, IsKept, IsLeft};
 
 use crate::laws;
@@ -13,10 +14,14 @@ pub trait UnitOfWork {
     ghost use Rattle.sqlite.specs.Effect.{Database};
     ghost use Rattle.sqlite.specs.Held.{state};
     ghost use Rattle.sqlite.specs.State.{HasCleanDisk, Survives};
+    ghost use Rattle.sql_base.specs.Causes.{ReportsCause};
     ghost use Rattle.sql_base.specs.Ends.{Wrote};
 
     /// What it makes of the database.
     ghost makes: { Self → Database → Database → Type 0 };
+
+    /// Holds where it reports an error of the disk only for its cause.
+    ghost explains: { Type 0 } = { ⊥ };
 
     /// Does it, in an open transaction. A crash leaves nothing of it.
     fn run<S: Alter>(&self, tx: &mut Transaction<'_, S>) -> Result<(), Error>
@@ -25,7 +30,10 @@ pub trait UnitOfWork {
             → Wrote (makes self.now) (state S.Store tx.old.conn.now)
             (state S.Store tx.new.conn.now) result }
         ensures survives { Survives (state S.Store tx.old.conn.now)
-            (state S.Store tx.new.conn.now) (λ _. ⊥) };
+            (state S.Store tx.new.conn.now) (λ _. ⊥) }
+        ensures cause { explains → HasCleanDisk (state S.Store tx.new.conn.now)
+            → ReportsCause (state S.Store tx.old.conn.now)
+            (state S.Store tx.new.conn.now) result };
 }
 
 /// Does the work in a transaction of its own, or nothing. A crash leaves what it could leave
@@ -39,6 +47,8 @@ pub fn transact<W: UnitOfWork, S: Alter>(conn: &mut Connection<S>, work: &W) -> 
     ensures idle { conn.new.in_transaction ≡ false }
     ensures crash { Survives (state S.Store conn.old) (state S.Store conn.new)
         (IsLeft (W.makes work.now) (state S.Store conn.old)) }
+    ensures cause { W.explains → HasCleanDisk (state S.Store conn.new) → IfErr result
+        (HadCause S.Store (state S.Store conn.old) (state S.Store conn.new)) }
 {
     laws::is_committed(conn);
     let mut tx = conn.transaction();

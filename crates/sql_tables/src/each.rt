@@ -2,6 +2,7 @@
 ghost use Rattle.std.specs.Prelude.{◌≡◌, ◌++◌};
 ghost use Rattle.sqlite.specs.Held.{state};
 ghost use Rattle.sqlite.specs.State.{HasCleanDisk, Survives};
+ghost use Rattle.sql_base.specs.Causes.{ReportsCause};
 ghost use Rattle.sql_tables.specs.Each.{WroteEach};
 
 use sqlite::{Alter, Error, Transaction};
@@ -12,10 +13,14 @@ pub trait Runs<X> {
     ghost use Rattle.sqlite.specs.Effect.{Database};
     ghost use Rattle.sqlite.specs.Held.{state};
     ghost use Rattle.sqlite.specs.State.{HasCleanDisk, Survives};
+    ghost use Rattle.sql_base.specs.Causes.{ReportsCause};
     ghost use Rattle.sql_base.specs.Ends.{Wrote};
 
     /// What the statement of an item makes of the database.
     ghost makes: { X → Database → Database → Type 0 };
+
+    /// Holds where it reports an error of the disk only for its cause.
+    ghost explains: { Type 0 } = { ⊥ };
 
     /// Runs the statement of an item. A crash leaves nothing of it.
     fn run<S: Alter>(tx: &mut Transaction<'_, S>, item: &X) -> Result<usize, Error>
@@ -24,7 +29,10 @@ pub trait Runs<X> {
             → Wrote (makes item.now) (state S.Store tx.old.conn.now)
             (state S.Store tx.new.conn.now) result }
         ensures survives { Survives (state S.Store tx.old.conn.now)
-            (state S.Store tx.new.conn.now) (λ _. ⊥) };
+            (state S.Store tx.new.conn.now) (λ _. ⊥) }
+        ensures cause { explains → HasCleanDisk (state S.Store tx.new.conn.now)
+            → ReportsCause (state S.Store tx.old.conn.now)
+            (state S.Store tx.new.conn.now) result };
 }
 
 /// Runs the statement of each item, one after the other, up to the first error. A crash leaves
@@ -39,6 +47,8 @@ pub fn run_each<R: Runs<X>, X, S: Alter>(
         (state S.Store tx.new.conn.now) result }
     ensures survives { Survives (state S.Store tx.old.conn.now) (state S.Store tx.new.conn.now)
         (λ _. ⊥) }
+    ensures cause { R.explains → HasCleanDisk (state S.Store tx.new.conn.now)
+        → ReportsCause (state S.Store tx.old.conn.now) (state S.Store tx.new.conn.now) result }
 {
     for item in items {
         R::run(tx, item)?;
@@ -59,6 +69,8 @@ pub fn run_both<R: Runs<X>, X, S: Alter>(
         (state S.Store tx.new.conn.now) result }
     ensures survives { Survives (state S.Store tx.old.conn.now) (state S.Store tx.new.conn.now)
         (λ _. ⊥) }
+    ensures cause { R.explains → HasCleanDisk (state S.Store tx.new.conn.now)
+        → ReportsCause (state S.Store tx.old.conn.now) (state S.Store tx.new.conn.now) result }
 {
     run_each::<R, X, S>(tx, first)?;
     run_each::<R, X, S>(tx, rest)

@@ -1,8 +1,9 @@
 //! The tables are made in an empty database.
-ghost use Rattle.std.specs.Prelude.{◌≡◌, ◌↔◌, false, IsTrue, OnErr, OnOk};
+ghost use Rattle.std.specs.Prelude.{◌≡◌, ◌↔◌, ⊤, false, IfErr, IsTrue, OnErr, OnOk};
 ghost use Rattle.sqlite.specs.Held.{state};
 ghost use Rattle.sqlite.specs.State.{HasCleanDisk, Survives};
 ghost use Rattle.sqlite.specs.Steps.{over_memory};
+ghost use Rattle.sql_base.specs.Causes.{HadCause, ReportsCause};
 ghost use Rattle.sql_base.specs.Ends.{Ends, IsKept, IsLeft, Wrote};
 ghost use Rattle.sql_tables.specs.Opening.{AddsVersion, Makes, MakesAll, MakesVersion};
 ghost use Rattle.sql_tables.specs.Tables.{our_schema};
@@ -21,6 +22,8 @@ struct Making;
 impl<'a> Runs<&'a str> for Making {
     ghost makes = { λ text. Makes text.now };
 
+    ghost explains = { ⊤ };
+
     fn run<S: Alter>(tx: &mut Transaction<'_, S>, text: &&'a str) -> Result<usize, Error> {
         make(tx, text)
     }
@@ -34,6 +37,8 @@ fn make_version<S: Alter>(tx: &mut Transaction<'_, S>, version: Version) -> Resu
         (state S.Store tx.new.conn.now) result }
     ensures survives { Survives (state S.Store tx.old.conn.now) (state S.Store tx.new.conn.now)
         (λ _. ⊥) }
+    ensures cause { HasCleanDisk (state S.Store tx.new.conn.now)
+        → ReportsCause (state S.Store tx.old.conn.now) (state S.Store tx.new.conn.now) result }
 {
     let (first, rest) = texts_of(version);
     run_both::<Making, &str, S>(tx, first, rest)
@@ -47,6 +52,8 @@ fn add_version<S: Alter>(tx: &mut Transaction<'_, S>) -> Result<usize, Error>
         (state S.Store tx.new.conn.now) result }
     ensures survives { Survives (state S.Store tx.old.conn.now) (state S.Store tx.new.conn.now)
         (λ _. ⊥) }
+    ensures cause { HasCleanDisk (state S.Store tx.new.conn.now)
+        → ReportsCause (state S.Store tx.old.conn.now) (state S.Store tx.new.conn.now) result }
 {
     tx.execute("INSERT INTO version (id, number) VALUES (1, 3)", &[])
 }
@@ -60,6 +67,8 @@ pub fn make_all<S: Alter>(tx: &mut Transaction<'_, S>) -> Result<(), Error>
         (state S.Store tx.new.conn.now) result }
     ensures survives { Survives (state S.Store tx.old.conn.now) (state S.Store tx.new.conn.now)
         (λ _. ⊥) }
+    ensures cause { HasCleanDisk (state S.Store tx.new.conn.now)
+        → ReportsCause (state S.Store tx.old.conn.now) (state S.Store tx.new.conn.now) result }
 {
     make_version(tx, Version::Three)?;
     add_version(tx)?;
@@ -71,6 +80,8 @@ struct All;
 
 impl UnitOfWork for All {
     ghost makes = { λ _. MakesAll };
+
+    ghost explains = { ⊤ };
 
     fn run<S: Alter>(&self, tx: &mut Transaction<'_, S>) -> Result<(), Error> {
         make_all(tx)
@@ -88,6 +99,8 @@ pub fn make_tables<S: Alter>(conn: &mut Connection<S>) -> Result<(), Error>
     ensures idle { conn.new.in_transaction ≡ false }
     ensures crash { Survives (state S.Store conn.old) (state S.Store conn.new)
         (IsLeft MakesAll (state S.Store conn.old)) }
+    ensures cause { HasCleanDisk (state S.Store conn.new) → IfErr result
+        (HadCause S.Store (state S.Store conn.old) (state S.Store conn.new)) }
 {
     transact(conn, &All)
 }

@@ -1,5 +1,6 @@
 use Rattle.std.proofs.Common.{Ok, arith}
 use Rattle.sqlite.specs.Held.{state}
+use Rattle.sql_base.proofs.Causing.{passed_on, passed_since}
 use Rattle.sql_base.proofs.Ending.{failed_wrote, wrote_then}
 use Rattle.sql_tables.specs.Opening.{AddsVersion, MakesAll, MakesVersion}
 use Rattle.sql_tables.specs.declared.versions.Version.TheVariants.{Three}
@@ -23,3 +24,15 @@ returns-in_err-add_version-clause-made g c clean =
 
 pub returns-in_err-make_version-clause-made : goal.returns-in_err-make_version-clause-made
 returns-in_err-make_version-clause-made g c clean = failed_wrote MakesAll _ _ c.from_residual.result c.from_residual.ensures.0 (c.in_err-make_version.ensures.made clean).kept
+
+pub returns-in_err-add_version-clause-cause : goal.returns-in_err-add_version-clause-cause
+returns-in_err-add_version-clause-cause g c clean =
+    let a = state g.S.Store c.args.tx.now.conn.now in
+    let b = state g.S.Store c.make_version.new.tx.conn.now in
+    let d = state g.S.Store c.add_version.new.tx.conn.now in
+    let r = c.from_residual-in_err-add_version in
+    passed_since a b d r.result c.make_version.ensures.survives.counts c.in_err-add_version.field-0.0 r.ensures.1 (c.in_err-add_version.ensures.cause clean)
+
+pub returns-in_err-make_version-clause-cause : goal.returns-in_err-make_version-clause-cause
+returns-in_err-make_version-clause-cause g c clean =
+    passed_on (state g.S.Store c.args.tx.now.conn.now) (state g.S.Store c.make_version.new.tx.conn.now) c.in_err-make_version.field-0.0 c.from_residual.result c.from_residual.ensures.1 (c.in_err-make_version.ensures.cause clean)
