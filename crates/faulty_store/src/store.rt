@@ -19,6 +19,7 @@ pub struct FaultyStore {
 impl FaultyStore {
     ghost use Rattle.std.specs.Prelude.{◌≡◌, false, OnOk, Some};
     ghost use Rattle.job_facts.specs.Contents.{AreSound, Contents, no_contents};
+    ghost use Rattle.job_facts.specs.Reopening.{OpensWith};
     ghost use Rattle.job_facts.specs.Store.{CountsFaults, IsHonest, Stays};
     ghost use Rattle.list_store.specs.Lists.{contents};
     ghost use Rattle.faulty_store.specs.Faulty.{IsAnswered, state, struck};
@@ -50,8 +51,8 @@ impl FaultyStore {
     /// The store that is opened on what a crash at this moment leaves, and what is planned next for
     /// its device, which keeps its counts.
     pub fn reopen(self, plan: Option<Plan>) -> FaultyStore
-        ensures holds { (c : Contents) → AreSound c → (state self).may_leave (Some c)
-            → (state result).holds c }
+        ensures opened { (c : Contents) → AreSound c → (state self).may_leave (Some c)
+            → OpensWith (state result) c }
         ensures device { result.device ≡ record self.device { plan = plan; is_shut = false } }
     {
         let device = Device {

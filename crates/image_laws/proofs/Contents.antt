@@ -1,7 +1,6 @@
 -- The rows of sound contents give these back; so contents with the same rows are the same.
-use Rattle.std.proofs.Common.{sym, ◌∙◌}
-use Rattle.std.proofs.lemmas.List.Sorted.{IsPermutation-sym, IsPermutation-trans}
 use Rattle.job_facts.specs.Contents.{AreSame, AreSound, Contents}
+use Rattle.job_facts.proofs.NextContents.{between}
 use Rattle.table_rows.specs.Tables.{HaveSameRows, Tables}
 use Rattle.table_rows.proofs.Same.{itself}
 use Rattle.image_laws.specs.Image.{image}
@@ -26,23 +25,6 @@ rows_decide_contents c t sound same = record {
 }
 
 -- ---- two contents
-
--- what is the same as both is the same
-between : (b c d : Contents) → AreSame b c → AreSame b d → AreSame c d
-between b c d one two = record {
-  facts = record {
-    products = IsPermutation-trans _ _ _ (IsPermutation-sym _ _ one.facts.products) two.facts.products;
-    lots = IsPermutation-trans _ _ _ (IsPermutation-sym _ _ one.facts.lots) two.facts.lots;
-    batches = sym one.facts.batches ∙ two.facts.batches;
-    sessions = sym one.facts.sessions ∙ two.facts.sessions;
-    discarded = IsPermutation-trans _ _ _ (IsPermutation-sym _ _ one.facts.discarded) two.facts.discarded;
-    remakes = IsPermutation-trans _ _ _ (IsPermutation-sym _ _ one.facts.remakes) two.facts.remakes;
-    withdrawn = IsPermutation-trans _ _ _ (IsPermutation-sym _ _ one.facts.withdrawn) two.facts.withdrawn;
-    closed = IsPermutation-trans _ _ _ (IsPermutation-sym _ _ one.facts.closed) two.facts.closed;
-  };
-  kept = IsPermutation-trans _ _ _ (IsPermutation-sym _ _ one.kept) two.kept;
-  marks = IsPermutation-trans _ _ _ (IsPermutation-sym _ _ one.marks) two.marks;
-}
 
 pub same_rows_same_contents : (c d : Contents) → AreSound c → AreSound d → HaveSameRows (image c) (image d) → AreSame c d
 same_rows_same_contents c d sound also same =

@@ -1,12 +1,12 @@
 -- The contents that a store begins with, and that a commit or a release makes of sound ones, are
 -- sound.
-use Rattle.std.proofs.Common.{◌≡◌, ℕ, Bool, true, false, List, [], ◌∷◌, ◌++◌, All, not, refl, arith}
+use Rattle.std.proofs.Common.{◌≡◌, ℕ, Bool, true, false, List, [], ◌∷◌, ◌++◌, All, not, refl, sym, ◌∙◌, arith}
 use Rattle.std.specs.Prelude.{AllPairs, IsTrue, bytes_eq, filter}
 use Rattle.std.proofs.lemmas.Bool.{lt-ltb, not-true}
 use Rattle.std.proofs.lemmas.List.Elements.{All-filter, All-nil, All-push, All-weaker, filter_passes}
 use Rattle.std.proofs.lemmas.List.Kept.{AllPairs-filter}
 use Rattle.std.proofs.lemmas.List.Quantifiers.{all_pairs_push}
-use Rattle.std.proofs.lemmas.List.Sorted.{IsPermutation-refl}
+use Rattle.std.proofs.lemmas.List.Sorted.{IsPermutation-refl, IsPermutation-sym, IsPermutation-trans}
 use Rattle.job_facts.specs.declared.change.Change.{Change}
 use Rattle.job_facts.specs.Contents.{AreSame, AreSound, Contents, Entry, IsEntry, IsMark, IsNewEntry, IsOwed, IsOwedRelease, Mark, committed, has_mark, is_above, is_of_number, mark_of, no_contents, released, with_mark}
 use Rattle.job_facts.proofs.Lists.{find-None}
@@ -43,6 +43,26 @@ AreSame-refl c = record {
   kept = IsPermutation-refl c.kept;
   marks = IsPermutation-refl c.marks;
 }
+
+-- what is the same as both is the same
+pub between : (b c d : Contents) → AreSame b c → AreSame b d → AreSame c d
+between b c d one two = record {
+  facts = record {
+    products = IsPermutation-trans _ _ _ (IsPermutation-sym _ _ one.facts.products) two.facts.products;
+    lots = IsPermutation-trans _ _ _ (IsPermutation-sym _ _ one.facts.lots) two.facts.lots;
+    batches = sym one.facts.batches ∙ two.facts.batches;
+    sessions = sym one.facts.sessions ∙ two.facts.sessions;
+    discarded = IsPermutation-trans _ _ _ (IsPermutation-sym _ _ one.facts.discarded) two.facts.discarded;
+    remakes = IsPermutation-trans _ _ _ (IsPermutation-sym _ _ one.facts.remakes) two.facts.remakes;
+    withdrawn = IsPermutation-trans _ _ _ (IsPermutation-sym _ _ one.facts.withdrawn) two.facts.withdrawn;
+    closed = IsPermutation-trans _ _ _ (IsPermutation-sym _ _ one.facts.closed) two.facts.closed;
+  };
+  kept = IsPermutation-trans _ _ _ (IsPermutation-sym _ _ one.kept) two.kept;
+  marks = IsPermutation-trans _ _ _ (IsPermutation-sym _ _ one.marks) two.marks;
+}
+
+pub AreSame-trans : (b c d : Contents) → AreSame b c → AreSame c d → AreSame b d
+AreSame-trans b c d one two = between c b d (between b c b one (AreSame-refl b)) two
 
 module _ (c : Contents) (entry : Entry) (sound : AreSound c) where
   -- the kept replies with one under a new number

@@ -8,19 +8,21 @@ use Rattle.job_facts.specs.Store.{Commits, IsFound}
 use Rattle.job_facts.proofs.NextContents.{AreSame-refl, sound_committed, sound_released}
 use Rattle.list_store.specs.Lists.{state_of}
 
+-- what is there is found
+pub found : (old c : Contents) → old ≡ c → (d : Option Contents) → d ≡ Some old → IsFound d c
+found old c is d at = subst (λ x. IsFound x c) (sym (at ∙ ap Some is)) (AreSame-refl c)
+
 -- contents that have become those after
 lists_change : (old new : Contents) (Owed : Contents → Type 0) (after : Contents → Contents) → new ≡ after old
     → ((c : Contents) → AreSound c → Owed c → AreSound (after c)) → Commits (state_of old) (state_of new) (Ok tt) Owed after
 lists_change old new Owed after made keeps =
     let is_after : (c : Contents) → old ≡ c → new ≡ after c = λ c is. made ∙ ap after is in
-    let same : (c : Contents) (d : Option Contents) → old ≡ c → d ≡ Some new → IsFound d (after c) =
-    λ c d is at. subst (λ x. IsFound x (after c)) (sym (at ∙ ap Some (is_after c is))) (AreSame-refl (after c)) in
     record {
       doubts = omega arith;
       ok = λ honest c held owed. (is_after c held.0, keeps c held.1 owed);
       err = tt;
-      crash = λ honest c d held owed at. inr (same c d held.0 at);
-      settled = λ honest c d held owed at. same c d held.0 at;
+      crash = λ honest c d held owed at. inr (found new (after c) (is_after c held.0) d at);
+      settled = λ honest c d held owed at. found new (after c) (is_after c held.0) d at;
     }
 
 abbrev made : Facts → List Entry → List Mark → Contents

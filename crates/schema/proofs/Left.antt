@@ -1,6 +1,5 @@
 -- What an opening finds at trees that a crash left.
-use Rattle.std.proofs.Common.{◌≡◌, ◌≢◌, ◌∙◌, ◌⊎◌, [], Option, None, Some, Result, Ok, Err, IfErr, IfOk, IsTrue, inl, inr, refl, sym, ap, subst}
-use Rattle.std.proofs.lemmas.List.Sorted.{IsPermutation-refl}
+use Rattle.std.proofs.Common.{◌≡◌, ◌≢◌, ◌∙◌, ◌⊎◌, Option, None, Some, Result, Ok, Err, IfErr, IfOk, IsTrue, inl, inr, refl, sym, ap, subst}
 use Rattle.sqlite.specs.Effect.{Database}
 use Rattle.sqlite.specs.Held.{Held, state}
 use Rattle.sqlite.specs.Schema.{Schema}
@@ -8,9 +7,10 @@ use Rattle.sqlite.specs.State.{HasCleanDisk, IsLive, State, Survives}
 use Rattle.sqlite.specs.Store.{Ghosts}
 use Rattle.sqlite.specs.Tree.{Trees}
 use Rattle.job_facts.specs.Contents.{AreSame, AreSound, Contents, no_contents}
+use Rattle.job_facts.specs.Reopening.{FindsEither, LeavesOnly, OpensWith, OpensWithEither}
 use Rattle.job_facts.specs.Store as job
 use Rattle.job_facts.specs.Store.{IsFound}
-use Rattle.job_facts.proofs.NextContents.{nothing_sound}
+use Rattle.job_facts.proofs.NextContents.{AreSame-refl, AreSame-trans, nothing_sound}
 use Rattle.table_rows.specs.Tables.{Tables}
 use Rattle.image_laws.specs.Image.{image}
 use Rattle.sql_base.specs.Columns.{no_schema}
@@ -24,9 +24,9 @@ use Rattle.adoption.specs.Comes.{Comes}
 use Rattle.adoption.specs.declared.faults.OpenFault.{OpenFault}
 use Rattle.adoption.specs.declared.faults.OpenFault.TheVariants as fault
 use Rattle.schema.specs.Begun.{WasHeld}
-use Rattle.schema.specs.Left.{FindsEither, HoldsEither, IsRefusal, Leaves, TakesAt}
+use Rattle.schema.specs.Left.{HasEither, IsRefusal, TakesAt}
 use Rattle.schema.specs.Link.{Has, Stands, link}
-use Rattle.schema.proofs.Adopting.{OneLaw, OrderLaw, holds_them, left_late}
+use Rattle.schema.proofs.Adopting.{OneLaw, OrderLaw, holds_them, leaves_them, left_late}
 use Rattle.schema.proofs.Link.{RowsLaw, Shows, has_there, shown_at}
 
 -- ---- a database has one contents alone
@@ -39,22 +39,6 @@ not_empty v t db held none =
     let found : Finds no_schema table = subst (λ (s : Schema). Finds s table) none it.finds in
     let named = found.named in
     cc
-
-nothing_same : AreSame no_contents no_contents
-nothing_same = record {
-  facts = record {
-    products = IsPermutation-refl [];
-    lots = IsPermutation-refl [];
-    batches = refl;
-    sessions = refl;
-    discarded = IsPermutation-refl [];
-    remakes = IsPermutation-refl [];
-    withdrawn = IsPermutation-refl [];
-    closed = IsPermutation-refl [];
-  };
-  kept = IsPermutation-refl [];
-  marks = IsPermutation-refl [];
-}
 
 module _ (law : RowsLaw) (one : OneLaw) (v : Version) (c : Contents) (sound : AreSound c) (db : Database) (held : HoldsRows v (image c) db) where
   has_one : (d : Contents) → AreSound d → Has db d → AreSame d c
@@ -73,7 +57,7 @@ module _ (law : RowsLaw) (one : OneLaw) (v : Version) (c : Contents) (sound : Ar
 module _ (db : Database) (empty : db.schema ≡ no_schema) where
   has_nothing : (d : Contents) → Has db d → AreSame d no_contents
   has_nothing d (inl there) = absurd (not_empty there.0 (image d) db there.1 empty)
-  has_nothing d (inr none) = subst (λ x. AreSame x no_contents) (sym none.1) nothing_same
+  has_nothing d (inr none) = subst (λ x. AreSame x no_contents) (sym none.1) (AreSame-refl no_contents)
 
   shows_nothing : (d : Option Contents) → Shows d db → IsFound d no_contents
   shows_nothing None none = absurd (none no_contents nothing_sound (inr (empty, refl)))
@@ -81,17 +65,20 @@ module _ (db : Database) (empty : db.schema ≡ no_schema) where
 
 -- ---- what is taken, and what is refused
 
-pub adopted_at : OneLaw → (old new : State) → IsLive old → Comes Adopts old new → TakesAt old.now.trees (link new 0 0)
-adopted_at one old new live comes =
+pub adopted_at : RowsLaw → OneLaw → (old new : State) → IsLive old → Comes Adopts old new → TakesAt old.now.trees (link new 0 0)
+adopted_at rows one old new live comes =
     let made = comes.made in (
       made.contents,
       (made.sound, record { db = old.now; is_database = (live comes.was_open).0; stands = refl; has = inl (made.version, made.held) }),
-      holds_them one old new comes made.version made.contents made.sound made.held,
+      record {
+        holds = holds_them one old new comes made.version made.contents made.sound made.held;
+        crash = λ d. leaves_them rows one old new comes made.version made.contents d made.sound made.held;
+      },
     )
 
-pub created_at : (old new : State) → IsLive old → IsTrue old.is_open → old.now.schema ≡ no_schema → (link new 0 0).holds no_contents → TakesAt old.now.trees (link new 0 0)
-created_at old new live is_open empty holds =
-    (no_contents, (nothing_sound, record { db = old.now; is_database = (live is_open).0; stands = refl; has = inr (empty, refl) }), holds)
+pub created_at : (old new : State) → IsLive old → IsTrue old.is_open → old.now.schema ≡ no_schema → OpensWith (link new 0 0) no_contents → TakesAt old.now.trees (link new 0 0)
+created_at old new live is_open empty opens =
+    (no_contents, (nothing_sound, record { db = old.now; is_database = (live is_open).0; stands = refl; has = inr (empty, refl) }), opens)
 
 -- a database of our tables that is refused has no sound contents
 pub none_at : (old : State) (e : OpenFault) → IsLive old → IsTrue old.is_open → (e ≡ fault.NotOurs → (v : Version) → ¬ IsOfVersion v old.now)
@@ -104,14 +91,28 @@ none_at old (fault.Store why) live is_open not_ours damaged is some = absurd is
 
 -- ---- what a call that fails leaves
 
+found_as : (d : Option Contents) (b c : Contents) → IsFound d b → AreSame b c → IsFound d c
+found_as None b c found same = found
+found_as (Some x) b c found same = AreSame-trans x b c found same
+
 module _ {S : Type 0} (g : Ghosts S) (law : (s : S) (db : Trees) → IsTrue (g.view s).is_open → g.recovers s db → db ≡ (g.view s).committed) (old : Held S)
     (is_open : IsTrue (state g old).is_open) (settled : IsTrue (state g old).is_open → (state g old).now ≡ (state g old).committed) (live : IsLive (state g old)) where
   -- outside a transaction a crash leaves what is shown
+  left_shown : (trees : Trees) → (state g old).may_leave trees → trees ≡ (state g old).now.trees
+  left_shown trees may = law old.store trees is_open may ∙ ap (λ (d : Database). d.trees) (sym (settled is_open))
+
   shown : (d : Option Contents) → (link (state g old) 0 0).may_leave d → Shows d (state g old).now
-  shown d left = shown_at d (state g old).now left.0 (live is_open).0 (law old.store left.0 is_open left.1 ∙ ap (λ (d : Database). d.trees) (sym (settled is_open))) left.2
+  shown d left = shown_at d (state g old).now left.0 (live is_open).0 (left_shown left.0 left.1) left.2
+
+  stands_at : (c : Contents) → AreSound c → Has (state g old).now c → Stands (Some c) (state g old).now.trees
+  stands_at c sound has = (sound, record { db = (state g old).now; is_database = (live is_open).0; stands = refl; has = has })
+
+  stands_held : (d : Option Contents) (trees : Trees) → Stands d trees → WasHeld d (state g old).now → Stands d (state g old).now.trees
+  stands_held None trees at was = absurd was
+  stands_held (Some c) trees at was = stands_at c at.0 (inl was)
 
   pub failed_adopt : RowsLaw → OneLaw → OrderLaw → (new : State) → Survives (state g old) new (IsLeft Adopts (state g old)) → HasCleanDisk new
-      → (v : Version) (c : Contents) → AreSound c → HoldsRows v (image c) (state g old).now → Leaves (link new 0 0) c
+      → (v : Version) (c : Contents) → AreSound c → HoldsRows v (image c) (state g old).now → LeavesOnly (link new 0 0) c
   failed_adopt rows one order new survives clean v c sound held d left =
       elim (left_late order (state g old) new survives clean d left) [
         | inl before ↦ shows_one rows one v c sound (state g old).now held d (shown d before)
@@ -122,10 +123,24 @@ module _ {S : Type 0} (g : Ghosts S) (law : (s : S) (db : Trees) → IsTrue (g.v
   failed_create empty d (inl before) = shows_nothing (state g old).now empty d (shown d before)
   failed_create empty d (inr found) = found
 
+  -- where an open finds one of two contents, it does so behind a call that failed
+  module _ (new : State) (before after : Contents) (either : HasEither (state g old).now.trees before after) where
+    pub either_adopt : ((d : Option Contents) → (link new 0 0).may_leave d → (link (state g old) 0 0).may_leave d ⊎ WasHeld d (state g old).now) → FindsEither (link new 0 0).may_leave before after
+    either_adopt late d left = elim (late d left) [
+      | inl may ↦ either d (subst (Stands d) (left_shown may.0 may.1) may.2)
+      | inr was ↦ either d (stands_held d left.0 left.2 was)
+    ]
+
+    pub either_create : (state g old).now.schema ≡ no_schema → LeavesOnly (link new 0 0) no_contents → FindsEither (link new 0 0).may_leave before after
+    either_create empty leaves d left = elim (either (Some no_contents) (stands_at no_contents nothing_sound (inr (empty, refl)))) [
+      | inl same ↦ inl (found_as d no_contents before (leaves d left) same)
+      | inr same ↦ inr (found_as d no_contents after (leaves d left) same)
+    ]
+
 -- ---- over what a crash left
 
-module _ (trees : Trees) (before after : Contents) (either : FindsEither trees before after) where
-  pub either_taken : (store : job.State) → TakesAt trees store → HoldsEither store before after
+module _ (trees : Trees) (before after : Contents) (either : HasEither trees before after) where
+  pub either_taken : (store : job.State) → TakesAt trees store → OpensWithEither store before after
   either_taken store takes = (takes.0, takes.2, either (Some takes.0) takes.1)
 
   pub never_none : ¬ Stands None trees
@@ -138,14 +153,13 @@ no_refusal (fault.Store why) ours whole is = is
 
 -- what `create` and `adopt` answer of it
 module _ {X Y : Type 0} (opened : State) where
-  pub taken_over : (Clean Open : X → Type 0) (stands : X → job.State) (r : Result X (Y × OpenFault)) → IfOk r (λ x. Clean x → Open x) → IfOk r (λ x. Clean x → TakesAt opened.now.trees (stands x))
-      → IfOk r (λ x. Clean x → Open x × ((before after : Contents) → FindsEither opened.now.trees before after → HoldsEither (stands x) before after))
-  taken_over Clean Open stands (Ok x) is_open takes =
-      λ clean. (is_open clean, λ before after either. either_taken opened.now.trees before after either (stands x) (takes clean))
-  taken_over Clean Open stands (Err e) is_open takes = tt
+  pub taken_over : (Clean : X → Type 0) (stands : X → job.State) (r : Result X (Y × OpenFault)) → IfOk r (λ x. Clean x → TakesAt opened.now.trees (stands x))
+      → IfOk r (λ x. Clean x → (before after : Contents) → HasEither opened.now.trees before after → OpensWithEither (stands x) before after)
+  taken_over Clean stands (Ok x) takes = λ clean before after either. either_taken opened.now.trees before after either (stands x) (takes clean)
+  taken_over Clean stands (Err e) takes = tt
 
   abbrev NeverRefused : (Y × OpenFault → Type 0) → Result X (Y × OpenFault) → Type 0
-  NeverRefused Clean q = IfErr q (λ e. Clean e → IsTrue opened.is_open → (before after : Contents) → FindsEither opened.now.trees before after → ¬ IsRefusal e.1)
+  NeverRefused Clean q = IfErr q (λ e. Clean e → IsTrue opened.is_open → (before after : Contents) → HasEither opened.now.trees before after → ¬ IsRefusal e.1)
 
   pub created_over : (Clean : Y × OpenFault → Type 0) (r : Result X (Y × OpenFault)) → opened.now.schema ≡ no_schema → IfErr r (λ e. e.1 ≡ fault.NotOurs → opened.now.schema ≢ no_schema)
       → IfErr r (λ e. e.1 ≢ fault.Damaged) → NeverRefused Clean r
@@ -156,3 +170,19 @@ module _ {X Y : Type 0} (opened : State) where
       → IfErr r (λ e. Clean e → IsTrue opened.is_open → IsRefusal e.1 → opened.now.schema ≢ no_schema → Stands None opened.now.trees) → NeverRefused Clean r
   adopted_over Clean (Ok x) some refuses = tt
   adopted_over Clean (Err e) some refuses = λ clean is_open before after either refusal. never_none opened.now.trees before after either (refuses clean is_open refusal some)
+
+module _ {S X : Type 0} (g : Ghosts S) (law : (s : S) (db : Trees) → IsTrue (g.view s).is_open → g.recovers s db → db ≡ (g.view s).committed) (old : Held S)
+    (settled : IsTrue (state g old).is_open → (state g old).now ≡ (state g old).committed) (live : IsLive (state g old)) where
+  abbrev FindsStill : Result X (Held S × OpenFault) → Type 0
+  FindsStill r = IfErr r (λ e. HasCleanDisk (state g e.0) → IsTrue (state g old).is_open → (before after : Contents) → HasEither (state g old).now.trees before after
+      → FindsEither (link (state g e.0) 0 0).may_leave before after)
+
+  pub created_still : (r : Result X (Held S × OpenFault)) → (state g old).now.schema ≡ no_schema
+      → IfErr r (λ e. HasCleanDisk (state g e.0) → IsTrue (state g old).is_open → (state g old).now.schema ≡ no_schema → LeavesOnly (link (state g e.0) 0 0) no_contents) → FindsStill r
+  created_still (Ok x) empty leaves = tt
+  created_still (Err e) empty leaves = λ clean is_open before after either. either_create g law old is_open settled live (state g e.0) before after either empty (leaves clean is_open empty)
+
+  pub adopted_still : (r : Result X (Held S × OpenFault))
+      → IfErr r (λ e. HasCleanDisk (state g e.0) → (d : Option Contents) → (link (state g e.0) 0 0).may_leave d → (link (state g old) 0 0).may_leave d ⊎ WasHeld d (state g old).now) → FindsStill r
+  adopted_still (Ok x) late = tt
+  adopted_still (Err e) late = λ clean is_open before after either. either_adopt g law old is_open settled live (state g e.0) before after either (late clean)

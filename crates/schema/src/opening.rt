@@ -3,6 +3,7 @@ ghost use Rattle.std.specs.Prelude.{◌≡◌, ◌≢◌, ◌⊎◌, false, IfEr
 ghost use Rattle.sqlite.specs.Held.{state};
 ghost use Rattle.sqlite.specs.State.{HasCleanDisk, Survives};
 ghost use Rattle.job_facts.specs.Contents.{AreSound, Contents, no_contents};
+ghost use Rattle.job_facts.specs.Reopening.{LeavesOnly};
 ghost use Rattle.job_facts.specs.Store.{IsFound};
 ghost use Rattle.image_laws.specs.Image.{image};
 ghost use Rattle.sql_base.specs.Columns.{no_schema};
@@ -12,7 +13,7 @@ ghost use Rattle.table_reads.specs.Holding.{HoldsRows, HoldsSoundRows, IsOfVersi
 ghost use Rattle.adoption.specs.Adopts.{Adopts};
 ghost use Rattle.adoption.specs.Unwritten.{LeavesOurs};
 ghost use Rattle.schema.specs.Begun.{LeavesNoOther, WasHeld};
-ghost use Rattle.schema.specs.Left.{IsRefusal, Leaves, TakesAt};
+ghost use Rattle.schema.specs.Left.{IsRefusal, TakesAt};
 ghost use Rattle.schema.specs.Link.{Stands, link};
 ghost use Rattle.schema.specs.Stores.{connection, stands_for};
 
@@ -64,7 +65,7 @@ impl<S: Alter> SqlStore<S> {
             → TakesAt (state S.Store conn).now.trees (stands_for S.Store store)) }
         ensures leaves { IfErr result (λ e. HasCleanDisk (state S.Store e.0)
             → IsTrue (state S.Store conn).is_open → (state S.Store conn).now.schema ≡ no_schema
-            → Leaves (link (state S.Store e.0) 0 0) no_contents) }
+            → LeavesOnly (link (state S.Store e.0) 0 0) no_contents) }
     {
         image_laws::same_rows_same_contents();
         laws::is_committed(&conn);
@@ -140,7 +141,7 @@ impl<S: Alter> SqlStore<S> {
             → IsTrue (state S.Store conn).is_open
             → (v : Version) (c : Contents) → AreSound c
             → HoldsRows v (image c) (state S.Store conn).now
-            → Leaves (link (state S.Store e.0) 0 0) c) }
+            → LeavesOnly (link (state S.Store e.0) 0 0) c) }
     {
         image_laws::same_rows_same_contents();
         table_reads::laws::held_rows_are_one();

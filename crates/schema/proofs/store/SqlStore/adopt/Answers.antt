@@ -26,7 +26,7 @@ returns-in-Ok-clause-open g c clean = (c.in-Ok.ensures.ok clean).is_open
 
 pub returns-in-Ok-clause-takes : goal.returns-in-Ok-clause-takes
 returns-in-Ok-clause-takes g c clean =
-    adopted_at c.held_rows_are_one.ensures (state g.S.Store c.args.conn) (state g.S.Store c.adopt.new.conn) c.is_live.ensures (c.in-Ok.ensures.ok clean)
+    adopted_at c.same_rows_same_contents.ensures c.held_rows_are_one.ensures (state g.S.Store c.args.conn) (state g.S.Store c.adopt.new.conn) c.is_live.ensures (c.in-Ok.ensures.ok clean)
 
 pub returns-in-Err-clause-refuses : goal.returns-in-Err-clause-refuses
 returns-in-Err-clause-refuses g c clean is_open refusal some =

@@ -38,7 +38,8 @@ returns-in-Ok-clause-takes g c clean =
     let old = state g.S.Store c.args.conn in
     let new = state g.S.Store c.make_tables.new.conn in
     let none = sym c.schema.ensures.value ∙ c.is_empty.ensures.0 c.if-not-is_empty.false in
-    created_at old new c.is_live.ensures (c.in-Ok.ensures.ok clean).was_open none (holds_nothing old new (none, c.in-Ok.ensures.ok clean))
+    created_at old new c.is_live.ensures (c.in-Ok.ensures.ok clean).was_open none
+    (record { holds = holds_nothing old new (none, c.in-Ok.ensures.ok clean); crash = returns-in-Ok-clause-crash g c clean })
 
 pub returns-in-Err-clause-leaves : goal.returns-in-Err-clause-leaves
 returns-in-Err-clause-leaves g c clean is_open empty d left =
