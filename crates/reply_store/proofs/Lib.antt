@@ -1,3 +1,4 @@
 pub mod Decisions
 pub mod Handling
 pub mod Running
+mod Stopping

@@ -67,7 +67,7 @@ leaves_none s sound = record {
 }
 
 -- a first, or one that leaves the contents
-is_first : (c : Contents) (a : Arrived) → AreSound c → IsFirst c a ⊎ (contents_after c (a ∷ []) ≡ c)
+pub is_first : (c : Contents) (a : Arrived) → AreSound c → IsFirst c a ⊎ (contents_after c (a ∷ []) ≡ c)
 is_first c a sound = elim (cases_Bool (is_released c.marks a)) [
   | inl gone ↦ inr (contents_released c a sound.above gone)
   | inr live ↦ at (entry_of c.kept a.client a.number) refl live

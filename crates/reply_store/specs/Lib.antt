@@ -1,3 +1,4 @@
 pub mod Effects
 pub mod Handled
 pub mod Runs
+pub mod Stops

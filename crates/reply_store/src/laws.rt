@@ -1,5 +1,6 @@
-//! A law of arrivals in turn. The function does nothing; who calls it has its law.
+//! Laws of arrivals in turn, and of stops. The functions do nothing; who calls one has its law.
 ghost use Rattle.reply_store.specs.Runs.{AreLeftInTurn};
+ghost use Rattle.reply_store.specs.Stops.{AreFoundWhole, AreLeftWithStops};
 
 use job_facts::JobStore;
 
@@ -7,3 +8,19 @@ use job_facts::JobStore;
 pub fn left_in_turn<S: JobStore>()
     ensures { AreLeftInTurn S.state }
 {}
+
+/// Where the server stops at any moment of an arrival, an open finds the contents before the
+/// arrival or those after it, and is not refused. What is opened there has one of the two, and the
+/// next crash leaves that alone.
+pub fn found_whole<S: JobStore>()
+    ensures { AreFoundWhole S.state }
+{}
+
+/// Where the server stops at some of a list of arrivals, and a store is opened over what is left
+/// each time, the contents are those after the arrivals that were answered and some of the others,
+/// in their order, up to the order of what is a set.
+pub fn left_with_stops<S: JobStore>()
+    ensures { AreLeftWithStops S.state }
+{
+    arrivals::same_contents_answer_alike();
+}
