@@ -1,4 +1,5 @@
 pub mod Judging
+pub mod Causes
 mod Settled
 mod Taken
 mod Unwritten

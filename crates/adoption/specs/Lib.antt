@@ -2,4 +2,5 @@ pub mod Findings
 pub mod Comes
 pub mod Adopts
 pub mod Faults
+pub mod Causes
 pub mod Unwritten

@@ -5,12 +5,14 @@ ghost use Rattle.sqlite.specs.State.{HasCleanDisk, Survives};
 ghost use Rattle.job_facts.specs.Contents.{AreSound, Contents, no_contents};
 ghost use Rattle.job_facts.specs.Reopening.{LeavesOnly};
 ghost use Rattle.job_facts.specs.Store.{IsFound};
+ghost use Rattle.job_facts.specs.declared.store.StoreFault.{StoreFault};
 ghost use Rattle.image_laws.specs.Image.{image};
 ghost use Rattle.sql_base.specs.Columns.{no_schema};
 ghost use Rattle.sql_base.specs.Ends.{IsKept, IsLeft};
 ghost use Rattle.sql_tables.specs.declared.versions.Version.{Version};
 ghost use Rattle.table_reads.specs.Holding.{HoldsRows, HoldsSoundRows, IsOfVersion};
 ghost use Rattle.adoption.specs.Adopts.{Adopts};
+ghost use Rattle.adoption.specs.Causes.{IsCaused};
 ghost use Rattle.adoption.specs.Unwritten.{LeavesOurs};
 ghost use Rattle.schema.specs.Begun.{LeavesNoOther, WasHeld};
 ghost use Rattle.schema.specs.Left.{IsRefusal, TakesAt};
@@ -66,6 +68,9 @@ impl<S: Alter> SqlStore<S> {
         ensures leaves { IfErr result (λ e. HasCleanDisk (state S.Store e.0)
             → IsTrue (state S.Store conn).is_open → (state S.Store conn).now.schema ≡ no_schema
             → LeavesOnly (link (state S.Store e.0) 0 0) no_contents) }
+        ensures cause { IfErr result (λ e. HasCleanDisk (state S.Store e.0) → (own : StoreFault)
+            → e.1 ≡ OpenFault.Store own
+            → IsCaused S.Store (state S.Store conn) (state S.Store e.0) own) }
     {
         image_laws::same_rows_same_contents();
         laws::is_committed(&conn);

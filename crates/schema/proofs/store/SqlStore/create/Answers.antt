@@ -1,5 +1,6 @@
 use Rattle.std.proofs.Common.{sym, ◌∙◌}
 use Rattle.sqlite.specs.Held.{state}
+use Rattle.adoption.proofs.Causes.{caused}
 use Rattle.schema.proofs.Founding.{before_or_nothing, holds_nothing, left_made, only_nothing}
 use Rattle.schema.proofs.Knowing.{knows_created}
 use Rattle.schema.proofs.Left.{created_at, failed_create}
@@ -44,3 +45,7 @@ returns-in-Ok-clause-takes g c clean =
 pub returns-in-Err-clause-leaves : goal.returns-in-Err-clause-leaves
 returns-in-Err-clause-leaves g c clean is_open empty d left =
     failed_create g.S.Store g.met.S.Store.settled c.args.conn is_open c.is_committed.ensures c.is_live.ensures empty d (returns-in-Err-clause-late g c clean d left)
+
+pub returns-in-Err-clause-cause : goal.returns-in-Err-clause-cause
+returns-in-Err-clause-cause g c clean own reported =
+    caused g.S.Store (state g.S.Store c.args.conn) (state g.S.Store c.make_tables.new.conn) c.in-Err.error c.from.result own c.from.ensures reported (c.in-Err.ensures.cause clean)
