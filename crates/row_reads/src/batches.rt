@@ -1,6 +1,6 @@
 //! The statements that read the batch table: by name, by id, and by product.
 ghost use Rattle.std.specs.Prelude.{◌≡◌, ◌<◌, ◌^◌, false, filter, find, map, option_map};
-ghost use Rattle.std.specs.Prelude.{IfOk, IfSome, IsPermutation};
+ghost use Rattle.std.specs.Prelude.{IfOk, IfSome, IsOk, IsPermutation};
 ghost use Rattle.std.specs.List.{list_any};
 ghost use Rattle.sqlite.specs.Held.{state};
 ghost use Rattle.row_reads.specs.Decoding.{batch_at_in, head_in, totals_in};
@@ -44,7 +44,7 @@ pub struct BatchHead {
 fn totals_in(row: &Row) -> Result<BatchTotals, Error>
     ensures value { IfOk result (λ totals. totals ≡ totals_in row.now) }
     ensures ranged { IfOk result AreCounts }
-    ensures total { AreTotalsAnswer row.now → FailsForMemory result }
+    ensures total { AreTotalsAnswer row.now → IsOk result }
 {
     let waiting = long_at(row, 3)?;
     let running = long_at(row, 4)?;

@@ -1,6 +1,6 @@
 //! The statements that read the session table: by number, by machine, and the good of a batch.
 ghost use Rattle.std.specs.Prelude.{◌≡◌, ◌<◌, ◌^◌, false, filter, find, option_map, All, IfOk};
-ghost use Rattle.std.specs.Prelude.{IfSome, IsPermutation, map};
+ghost use Rattle.std.specs.Prelude.{IfSome, IsOk, IsPermutation, map};
 ghost use Rattle.sqlite.specs.Held.{state};
 ghost use Rattle.store_data.specs.Cursor.{IsCursor};
 ghost use Rattle.row_reads.specs.CardDecoding.{IsGoodCard, IsSessionAt, cursor_in, good_at};
@@ -47,7 +47,7 @@ pub struct GoodCard {
 fn cursor_in(row: &Row) -> Result<Cursor, Error>
     ensures value { IfOk result (λ c. c ≡ cursor_in row.now) }
     ensures ranged { IfOk result IsCursor }
-    ensures total { IsCursorAnswer row.now → FailsForMemory result }
+    ensures total { IsCursorAnswer row.now → IsOk result }
 {
     Ok(Cursor {
         app: within_at(row, 5, 0, 4096)? as u16,

@@ -43,36 +43,36 @@ pub(crate) fn bytes_at(row: &Row, at: usize) -> Result<Bytes, Error>
     Ok(Bytes::from_vec(items))
 }
 
-// SQL's numbers end below it.
-const END: u64 = 1 << 63;
-
 // The number in this column.
 pub(crate) fn number_at(row: &Row, at: usize) -> Result<u64, Error>
     ensures value { IfOk result (λ n. n ≡ number_in (column row.now at)) }
     ensures ranged { IfOk result (λ n. n < 2 ^ 63) }
-    ensures total { IsWhole (column row.now at) → FailsForMemory result }
+    ensures total { IsWhole (column row.now at) → IsOk result }
 {
-    let n: u64 = row.get(at)?;
-    if n >= END {
-        return Err(Error::InvalidQuery);
+    match row.get_ref(at)? {
+        ValueRef::Int(number) => u64::try_from(number).map_err(|_| Error::InvalidQuery),
+        _ => Err(Error::InvalidQuery),
     }
-    Ok(n)
 }
 
 // The number below 2^32 in this column.
 pub(crate) fn long_at(row: &Row, at: usize) -> Result<u32, Error>
     ensures value { IfOk result (λ n. n ≡ number_in (column row.now at)) }
-    ensures total { IsBelow (2 ^ 32) (column row.now at) → FailsForMemory result }
+    ensures total { IsBelow (2 ^ 32) (column row.now at) → IsOk result }
 {
-    row.get(at)
+    u32::try_from(number_at(row, at)?).map_err(|_| Error::InvalidQuery)
 }
 
 // The flag in this column.
 pub(crate) fn flag_at(row: &Row, at: usize) -> Result<bool, Error>
     ensures value { IfOk result (λ b. b ≡ flag_in (column row.now at)) }
-    ensures total { IsBelow 2 (column row.now at) → FailsForMemory result }
+    ensures total { IsBelow 2 (column row.now at) → IsOk result }
 {
-    row.get(at)
+    match row.get_ref(at)? {
+        ValueRef::Int(0) => Ok(false),
+        ValueRef::Int(1) => Ok(true),
+        _ => Err(Error::InvalidQuery),
+    }
 }
 
 // The number in this column, where it lies between these.
@@ -80,7 +80,7 @@ pub(crate) fn within_at(row: &Row, at: usize, least: u32, most: u32) -> Result<u
     ensures value { IfOk result (λ n. n ≡ number_in (column row.now at)) }
     ensures least { IfOk result (λ n. least ≤ n) }
     ensures most { IfOk result (λ n. n ≤ most) }
-    ensures total { IsIn least most (column row.now at) → FailsForMemory result }
+    ensures total { IsIn least most (column row.now at) → IsOk result }
 {
     let n = long_at(row, at)?;
     if n < least || n > most {
