@@ -24,9 +24,9 @@ pub record OpensWith (new : State) (c : Contents) : Type 0 where
   pub holds : new.holds c
   pub crash : LeavesOnly new c
 
--- one that was closed holds what it held
+-- one that was closed is opened with what it held
 abbrev pub Reopens : State → State → Type 0
-Reopens old new = IsHonest new → (c : Contents) → old.holds c → new.holds c
+Reopens old new = IsHonest new → (c : Contents) → old.holds c → OpensWith new c
 
 -- over what a stop left of it, one is opened with contents that a crash may leave
 abbrev pub OpensAfter : State → State → Type 0

@@ -11,8 +11,8 @@ pub trait Reopen: JobStore {
     /// That no fault has shut it.
     ghost usable: { Self → Type 0 };
 
-    /// Closes the store, and opens it over again with what it held. Errors: refused memory, and a
-    /// store that does not open, as the device's.
+    /// Closes the store, and opens it over again with what it held: a crash then leaves this and
+    /// nothing else. Errors: refused memory, and a store that does not open, as the device's.
     fn reopen(self, alloc: Global) -> Result<Self, StoreFault>
         ensures anew { IfOk result (λ again. IsAnew (Self.state again)) }
         ensures holds { IfOk result
