@@ -1,13 +1,13 @@
 //! Exchanges by what differs in them: the bodies of requests and replies are compact JSON.
 
-/// The call is accepted, and answered so.
+/// The request is accepted, and this is its reply's body.
 macro_rules! accepted {
-    ($target:expr, $asked:expr, $reply_to:expr) => {
-        $crate::exchanges::Exchange($target, $asked, 200, $reply_to)
+    ($target:expr, $asked:expr, $body:expr) => {
+        $crate::exchanges::Exchange($target, $asked, 200, $body)
     };
 }
 
-/// The call is refused by this code and name.
+/// The request is refused by this code and name.
 macro_rules! refused {
     ($target:expr, $asked:expr, $code:literal, $name:literal) => {
         $crate::exchanges::Exchange(

@@ -1,5 +1,5 @@
-//! Files of earlier versions, taken up and served: what was answered is answered again, a refusal
-//! that was kept stays, a card more is made, and the batches are reported.
+//! Files of earlier versions, taken up and served: what was answered gets its reply again, a kept
+//! refusal stays, a card more is made, and the batches are reported.
 use crate::bodies::{accepted, answer, command, ended, imported, open, opened};
 use crate::disks::{Ended, Left, close, nothing, open};
 use crate::exchanges::Exchange;
@@ -25,7 +25,7 @@ const REFUSED: Exchange = Exchange(
     r#"{"code":35,"refused":"mark","row":2}"#,
 );
 
-// What is kept of it as its ask.
+// The ask under which it is kept.
 const ASK: &[u8] = b"/batch/B2/P1\0record,aid,rank,enc,tol,dgi\nR1,F00000000101,1,2,0,9002021122\n";
 
 // The same import under a new number, and its card.
@@ -75,7 +75,7 @@ spoiled            0
     ),
 ];
 
-// What is done to files.
+// The steps over files.
 #[derive(Clone, Copy)]
 enum Part {
     // Tables of a version are made in them.
@@ -100,7 +100,7 @@ fn made<S: Alter + Drop>(
     Ok(conn)
 }
 
-// What the set-up is answered again where its numbers were released, and where they weren't.
+// The set-up sent again: its replies where its numbers were released, and where they weren't.
 fn set_up_again(version: &Version) -> [Exchange; 3] {
     let mut again = SET_UP;
     if !version.asked.is_empty() {

@@ -234,7 +234,7 @@ fn check_refused<S: Alter + Drop>(
     }
 }
 
-// The same of each of these.
+// Each of these is refused for its cause, and stays as it is.
 fn check_all(rt: &impl Abort, alloc: Global, damages: &[Damage]) -> Result<(), Fail> {
     for damage in damages {
         let conn = sound(rt, alloc, tables(alloc)?)?;

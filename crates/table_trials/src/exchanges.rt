@@ -1,4 +1,4 @@
-//! What is asked of a store, and what is answered. What is refused memory is asked again.
+//! Requests to a store, and its replies. What is refused memory comes again.
 ghost use Rattle.std.specs.Prelude.{IfOk};
 ghost use Rattle.job_facts.specs.Requests.{IsArrival};
 ghost use Rattle.http_requests.specs.Asks.{IsInRange};
@@ -13,7 +13,7 @@ use std::process::Abort;
 use std::test::Fail;
 use worked_files::{JSON, post, reply_bytes};
 
-/// The target of a message, its body, and the status and the body that are answered.
+/// The target of a message and its body, and the status and the body of its reply.
 #[derive(Clone, Copy)]
 pub(crate) struct Exchange(
     pub(crate) &'static str,
@@ -60,7 +60,7 @@ fn asked(alloc: Global, bytes: &[u8]) -> Result<Asked, AskFault>
     }
 }
 
-/// The arrival of what is asked.
+/// The arrival that an exchange's message is.
 pub(crate) fn arrival(alloc: Global, exchange: &Exchange) -> Result<Arrival, Fail>
     ensures { IfOk result IsArrival }
 {
@@ -71,7 +71,7 @@ pub(crate) fn arrival(alloc: Global, exchange: &Exchange) -> Result<Arrival, Fai
     }
 }
 
-/// What an arrival is answered.
+/// The reply to an arrival.
 pub(crate) fn reply_to<S: JobStore>(
     alloc: Global,
     store: &mut S,
@@ -83,7 +83,7 @@ pub(crate) fn reply_to<S: JobStore>(
     handle(alloc, store, client, arrival.number, ask, &arrival.request)
 }
 
-/// The status and the body are those that an exchange says.
+/// The reply has the status and the body of the exchange.
 pub(crate) fn check_reply(rt: &impl Abort, exchange: &Exchange, kept: &Kept) {
     let Exchange(target, asked, status, body) = *exchange;
     assert_eq!(rt; kept.status, status, "{target} {asked}");

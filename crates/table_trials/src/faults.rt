@@ -1,8 +1,8 @@
 //! Stories over a device that fails, is full or lies: each fault in each step of a run, and then
 //! the repeat of all.
 //!
-//! A run is a list of lines, each of which a client sends and is answered: the set-up, a release of
-//! its numbers, a late repeat of one of these, a story, and the accounts.
+//! A run is a list of lines, each a client's message and its reply: the set-up, a release of its
+//! numbers, a late repeat of one of these, a story, and the accounts.
 use crate::exchanges::at_last;
 use crate::stories::{CLOSING, LATE, MADE_AGAIN, RELEASE, SET_UP, Story, WITHDRAWAL};
 use faulty_store::{Device, Fault, FaultyStore, Plan};
@@ -13,7 +13,7 @@ use std::process::Abort;
 use std::test::Fail;
 use worked_files::{JSON, get, reply_bytes};
 
-// What is answered where the store failed, or memory was refused.
+// The reply where the store failed, or memory was refused.
 const UNAVAILABLE: &[u8] =
     b"HTTP/1.1 503 Service Unavailable\r\nContent-Type: application/json\r\nContent-Length: 32\r\nConnection: close\r\n\r\n{\"code\":503,\"refused\":\"storage\"}";
 
@@ -42,20 +42,20 @@ static STORIES: [(&Story, [&str; 2]); 3] = [
     ),
 ];
 
-// Where the accounts are answered.
+// The targets of the accounts.
 const ACCOUNTS: [&str; 2] = ["/batch/B1", "/blanks/P1"];
 
 // More steps than a run takes.
 const MANY_TURNS: u64 = 1000;
 
-// What a connection brings, and what it is answered.
+// A connection's message, and its reply.
 #[derive(Drop)]
 struct Line {
     message: Vec<u8>,
     reply: Vec<u8>,
 }
 
-// A run, line by line, and what is answered of a number of its set-up that was released.
+// A run, line by line, and the reply to a number of its set-up that was released.
 #[derive(Drop)]
 struct Run {
     lines: Vec<Line>,
@@ -84,7 +84,7 @@ fn run_of(alloc: Global, story: &Story, accounts: &[&str; 2]) -> Result<Run, All
     })
 }
 
-// What the line at this place is answered, where so many lines had reached the device before it was
+// The reply to the line at this place, where so many lines had reached the device before it was
 // sent.
 fn wanted(run: &Run, place: usize, reached: usize) -> &[u8] {
     if place < SET_UP.len() && reached > SET_UP.len() {
@@ -109,8 +109,8 @@ fn faults(device: Device) -> u64 {
     device.failed.saturating_add(device.full)
 }
 
-// Sends these lines, one connection for each. 503 is answered as often as a fault of the device is
-// counted, or else memory was refused.
+// Sends these lines, one connection for each. There are as many replies 503 as the device counts
+// faults, or else memory was refused.
 fn sent(
     alloc: Global,
     store: &mut FaultyStore,
@@ -136,8 +136,8 @@ fn is_unavailable(replied: &Replied) -> bool {
     replied.written.as_slice() == UNAVAILABLE
 }
 
-// Sends the line at this place for the first time. Answers whether it is answered 503; else it is
-// answered as the run says.
+// Sends the line at this place for the first time. Answers whether its reply is 503; else it is
+// the reply that the run has.
 fn is_refused(
     rt: &impl Abort,
     alloc: Global,
@@ -160,7 +160,7 @@ fn is_refused(
     Ok(false)
 }
 
-// Sends so many lines again. Each is answered as the run says.
+// Sends so many lines again. Each gets the reply that the run has.
 fn check_repeat(
     rt: &impl Abort,
     alloc: Global,
@@ -194,12 +194,12 @@ fn check_set_up(rt: &impl Abort, store: &mut FaultyStore, reached: usize) {
     assert_eq!(rt; counts, wanted);
 }
 
-// Sends a run, each line of which meets this fault. A line that does is answered 503. A device that
-// failed has shut the store, which then answers 503 even to what is kept, until it is opened again;
-// one that is full leaves it open. Then all lines so far are sent again: each that was answered is
-// answered in the same bytes, but for released numbers, and that one is decided, or answered where
-// its write had reached the device. At the end the whole run is answered again, so nothing counts
-// twice in its accounts. Answers whether a line met the fault.
+// Sends a run, each line of which meets this fault. A line that does gets 503. A device that failed
+// has shut the store, which then answers 503 even to what is kept, until it is opened again; one
+// that is full leaves it open. Then all lines so far are sent again: each that had its reply gets
+// the same bytes, but for released numbers, and that one is decided, or gets the reply that was
+// kept where its write had reached the device. At the end the whole run gets its replies again, so
+// nothing counts twice in its accounts. Answers whether a line met the fault.
 fn check_run(rt: &impl Abort, alloc: Global, run: &Run, plan: Plan) -> Result<bool, NextFault> {
     let is_full = matches!(plan.fault, Fault::Full);
     let is_written = matches!(plan.fault, Fault::FailedAfterWrite);
@@ -231,8 +231,8 @@ fn check_run(rt: &impl Abort, alloc: Global, run: &Run, plan: Plan) -> Result<bo
     Ok(strikes)
 }
 
-// Sends a run in which the device loses all. The lines before are answered as the run says, and no
-// line is answered 503: the count of lies alone shows that the product, which was created, is gone.
+// Sends a run in which the device loses all. The lines before get the replies that the run has, and
+// no line gets 503: the count of lies alone shows that the product, which was created, is gone.
 // Answers whether the device has lied.
 fn check_lying(rt: &impl Abort, alloc: Global, run: &Run, plan: Plan) -> Result<bool, NextFault> {
     let mut store = FaultyStore::new(alloc, Some(plan));
@@ -282,14 +282,14 @@ fn check_turns(rt: &impl Abort, alloc: Global, fault: Fault) -> Result<(), Fail>
     Ok(())
 }
 
-// Whatever step it fails in, what was acknowledged is answered again, and the accounts are the
+// Whatever step it fails in, what was acknowledged gets its reply again, and the accounts are the
 // story's.
 #[test]
 fn a_device_that_fails_loses_nothing(rt: HostRuntime) -> Result<(), Fail> {
     check_turns(&rt, rt.alloc(), Fault::Failed)
 }
 
-// The write of a line that was answered 503 is there after all: the line's repeat gets its reply,
+// The write of a line that got 503 is there after all: the line's repeat gets its reply,
 // and makes no second change.
 #[test]
 fn a_write_that_reached_a_failed_device_counts_once(rt: HostRuntime) -> Result<(), Fail> {

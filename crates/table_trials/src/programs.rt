@@ -44,8 +44,8 @@ fn end_of<W: Write + Drop>(
     }
 }
 
-// The same to a page, and how much of it was printed. Refused memory is a fault, so that the run
-// comes again, also where the first reply of a drill shows it.
+// How a run with these words ends that prints to a page, and how much it printed. Refused memory is
+// a fault, so that the run comes again, also where the first reply of a drill shows it.
 fn printed(
     alloc: Global,
     words: &[&str],

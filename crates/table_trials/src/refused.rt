@@ -53,8 +53,8 @@ fn counts_of<S: JobStore>(store: &mut S, arrival: &Arrival) -> Result<[u64; 5], 
     ])
 }
 
-// What an arrival is answered. Where memory was refused, all stands as before, and it is answered
-// what it should at once.
+// The reply to an arrival. Where memory was refused, nothing has changed, and the arrival gets its
+// reply when it comes again.
 fn reply_at_last<S: JobStore>(
     rt: &impl Abort,
     alloc: Global,
@@ -77,8 +77,7 @@ fn reply_at_last<S: JobStore>(
     }
 }
 
-// Each exchange is answered at last what it says, and so when it comes again, which changes
-// nothing.
+// Each exchange gets its reply at last, and again when it comes again, which changes nothing.
 fn send_all<S: JobStore>(
     rt: &impl Abort,
     alloc: Global,

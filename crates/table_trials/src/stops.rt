@@ -1,6 +1,6 @@
 //! A run over files that fail from some call on: a stop at each call of either file.
 //!
-//! The arrival that meets the stop is answered that the device failed, and so is each behind it.
+//! The arrival that meets the stop, and each behind it, gets the fault that the device failed.
 //! What is left of the files is opened again, also where power was lost: its rows are those from
 //! before that arrival, or those from after it. Where no power was lost the whole run comes again,
 //! to what was adopted.
@@ -48,8 +48,8 @@ fn exchanges(alloc: Global) -> Result<Vec<Exchange>, AllocError> {
     Ok(all)
 }
 
-// Sends exchanges to a store. Answers how many are answered as they must be; each behind these is
-// answered that the device failed.
+// Sends exchanges to a store. Answers how many get their reply; each behind these gets the fault
+// that the device failed.
 fn replies_before_stop<S: JobStore>(
     rt: &impl Abort,
     alloc: Global,
@@ -70,8 +70,8 @@ fn replies_before_stop<S: JobStore>(
     Ok(count)
 }
 
-// Sends a run again to a store that made so many steps of it. Each exchange is answered as in a run
-// without a stop, but for released numbers.
+// Sends a run again to a store that made so many steps of it. Each exchange gets the reply that it
+// gets in a run without a stop, but for released numbers.
 fn check_replies_again<S: JobStore>(
     rt: &impl Abort,
     alloc: Global,
@@ -142,8 +142,8 @@ pub(crate) fn adopted<S: Alter + Drop>(
     }
 }
 
-// Makes the steps of a run over an empty database. Answers how many are answered as they must be,
-// and the rows behind them if these are all.
+// Makes the steps of a run over an empty database. Answers how many steps were made, and the rows
+// behind them if these are all.
 fn steps_over<S: Alter + Drop>(
     rt: &impl Abort,
     alloc: Global,
@@ -155,12 +155,12 @@ fn steps_over<S: Alter + Drop>(
         Ok(store) => store,
         Err(conn) => return Ok((0, rows, conn)),
     };
-    let reply_to = replies_before_stop(rt, alloc, &mut store, exchanges)?;
+    let answered = replies_before_stop(rt, alloc, &mut store, exchanges)?;
     let mut conn = store.close();
-    if reply_to == exchanges.len() {
+    if answered == exchanges.len() {
         rows = rows_of(alloc, &mut conn)?;
     }
-    Ok((reply_to.saturating_add(1), rows, conn))
+    Ok((answered.saturating_add(1), rows, conn))
 }
 
 // Makes the steps of a run over new files with this stop.
@@ -184,19 +184,20 @@ fn steps_before_stop(
     }
 }
 
-// How many steps have the rows of a database, where so many were answered: these, or one more.
+// How many steps the rows of a database are behind, where so many were answered: these, or one
+// more.
 fn steps_of<S: Alter>(
     rt: &impl Abort,
     alloc: Global,
     run: &Run,
-    reply_to: usize,
+    answered: usize,
     conn: &mut Connection<S>,
 ) -> Result<usize, Fail> {
     let rows = rows_of(alloc, conn)?;
-    let near = run.rows.get(reply_to..).unwrap_or(&[]);
+    let near = run.rows.get(answered..).unwrap_or(&[]);
     let behind = near.iter().take(2).position(|its| *its == rows);
-    assert!(rt; behind.is_some(), "behind {reply_to} steps: {rows}");
-    Ok(reply_to.saturating_add(behind.unwrap_or(0)))
+    assert!(rt; behind.is_some(), "behind {answered} steps: {rows}");
+    Ok(answered.saturating_add(behind.unwrap_or(0)))
 }
 
 // Sends a run again to a store that made so many steps of it. At the end its rows are those of a
@@ -215,17 +216,17 @@ fn check_again<S: Alter + Drop>(
     Ok(())
 }
 
-// A database has the rows of the steps that were answered, or of one more. Then, if that is asked
-// for, an empty one gets our tables, any other is adopted, and the run is sent again.
+// A database has the rows of the steps that were answered, or of one more. Then, where the run is
+// to be sent again, an empty one gets our tables, and any other is adopted.
 fn check_over<S: Alter + Drop>(
     rt: &impl Abort,
     alloc: Global,
     run: &Run,
-    reply_to: usize,
+    answered: usize,
     sends_again: bool,
     mut conn: Connection<S>,
 ) -> Result<(), Fail> {
-    let steps = steps_of(rt, alloc, run, reply_to, &mut conn)?;
+    let steps = steps_of(rt, alloc, run, answered, &mut conn)?;
     if !sends_again {
         return Ok(());
     }
@@ -243,12 +244,12 @@ fn check_left(
     rt: &impl Abort,
     alloc: Global,
     run: &Run,
-    reply_to: usize,
+    answered: usize,
     sends_again: bool,
     left: &Left,
 ) -> Result<(), Fail> {
     match open(alloc, left, NO_STOP) {
-        Ok(conn) => check_over(rt, alloc, run, reply_to, sends_again, conn),
+        Ok(conn) => check_over(rt, alloc, run, answered, sends_again, conn),
         Err(_) => Err(Fail::new("what is left isn't opened")),
     }
 }

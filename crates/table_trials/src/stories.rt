@@ -245,7 +245,7 @@ pub(crate) const RELEASE: Exchange = accepted!(
     r#"{"mark":3,"result":"released"}"#
 );
 
-/// What is answered of one of these numbers then.
+/// The reply to one of these numbers then.
 pub(crate) const NUMBER_RELEASED: &str = r#"{"code":73,"mark":3,"refused":"number-released"}"#;
 
 /// One of these comes late.

@@ -119,8 +119,8 @@ pub(crate) fn send_all<S: JobStore>(
     Ok(())
 }
 
-// Tables of a version, from a store without facts that is answered the set-up, what is asked behind
-// it, and a card that is spoiled and made again. Answers their rows in our own tables too.
+// Tables of a version, from a store without facts that gets the set-up, what is asked behind it, and
+// a card that is spoiled and made again. Answers their rows in our own tables too.
 pub(crate) fn turned<S: Alter + Drop>(
     rt: &impl Abort,
     alloc: Global,
@@ -182,7 +182,7 @@ fn worked<S: Alter + Drop>(
     }
 }
 
-// The same in files that hold this, with this stop.
+// Makes tables of a version, or adopts them, in files that hold this, with this stop.
 fn over_files(
     rt: &impl Abort,
     alloc: Global,

@@ -14,77 +14,77 @@ use store_data::PlanFault;
 use wire::AskFault;
 
 /// A fault that may be out of memory.
-pub(crate) trait MayWantMemory {
+pub(crate) trait MayBeOutOfMemory {
     fn is_memory(&self) -> bool;
 }
 
-impl MayWantMemory for AllocError {
+impl MayBeOutOfMemory for AllocError {
     fn is_memory(&self) -> bool {
         true
     }
 }
 
-impl MayWantMemory for DgiFault {
+impl MayBeOutOfMemory for DgiFault {
     fn is_memory(&self) -> bool {
         *self == DgiFault::Memory
     }
 }
 
-impl MayWantMemory for PlanFault {
+impl MayBeOutOfMemory for PlanFault {
     fn is_memory(&self) -> bool {
         *self == PlanFault::Memory
     }
 }
 
-impl MayWantMemory for ImportFault {
+impl MayBeOutOfMemory for ImportFault {
     fn is_memory(&self) -> bool {
         *self == ImportFault::Memory
     }
 }
 
-impl MayWantMemory for StoreFault {
+impl MayBeOutOfMemory for StoreFault {
     fn is_memory(&self) -> bool {
         *self == StoreFault::Memory
     }
 }
 
-impl MayWantMemory for AccountFault {
+impl MayBeOutOfMemory for AccountFault {
     fn is_memory(&self) -> bool {
         *self == AccountFault::Store(StoreFault::Memory)
     }
 }
 
-impl MayWantMemory for AskFault {
+impl MayBeOutOfMemory for AskFault {
     fn is_memory(&self) -> bool {
         *self == AskFault::Memory
     }
 }
 
-impl MayWantMemory for NextFault {
+impl MayBeOutOfMemory for NextFault {
     fn is_memory(&self) -> bool {
         *self == NextFault::Memory
     }
 }
 
-impl MayWantMemory for DrillStop {
+impl MayBeOutOfMemory for DrillStop {
     fn is_memory(&self) -> bool {
         *self == DrillStop::Memory
     }
 }
 
-impl MayWantMemory for FeedStop {
+impl MayBeOutOfMemory for FeedStop {
     fn is_memory(&self) -> bool {
         *self == FeedStop::Memory
     }
 }
 
-impl MayWantMemory for PlanStop {
+impl MayBeOutOfMemory for PlanStop {
     fn is_memory(&self) -> bool {
         *self == PlanStop::Memory
     }
 }
 
-impl MayWantMemory for WordsFault {
+impl MayBeOutOfMemory for WordsFault {
     fn is_memory(&self) -> bool {
         matches!(self, WordsFault::Memory)
     }

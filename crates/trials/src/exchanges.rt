@@ -1,9 +1,9 @@
-//! Names, a store of lists that is stocked, and connections to it. What is refused memory is asked
+//! Names, a store of lists that is stocked, and connections to it. What is refused memory comes
 //! again.
 ghost use Rattle.std.specs.Prelude.{IfOk};
 ghost use Rattle.wire.specs.Asks.{IsInRange};
 
-use crate::again::{MayWantMemory, at_last};
+use crate::again::{MayBeOutOfMemory, at_last};
 use crate::failing_writers::Limited;
 use job_facts::{Change, JobStore, Lot, NewBatch};
 use list_store::ListStore;
@@ -13,7 +13,7 @@ use std::test::Fail;
 use store_data::{Name, Product};
 use wire::{AskFault, Asked, FixedReply, Pieces, Reading, read_message, to_ask};
 
-/// What is answered where the store failed, or memory was refused.
+/// The reply where the store failed, or memory was refused.
 pub(crate) const UNAVAILABLE: &[u8] =
     b"HTTP/1.1 503 Service Unavailable\r\nContent-Type: application/json\r\nContent-Length: 32\r\nConnection: close\r\n\r\n{\"code\":503,\"refused\":\"storage\"}";
 
@@ -91,7 +91,7 @@ pub(crate) fn asked(alloc: Global, bytes: &[u8]) -> Result<Asked, AskFault>
 }
 
 /// What becomes of a connection that brings these bytes, and what was written; it comes again where
-/// it is answered refused memory, or would be with more room.
+/// memory was refused, whether its writer had room for that reply or not.
 pub(crate) fn served(
     alloc: Global,
     store: &mut ListStore,

@@ -1,4 +1,4 @@
-//! A writer that fails. It takes no memory, so that it fails where it is told to.
+//! A writer that fails. It takes no memory, so that it fails only where it is set to.
 use std::io::{self, ErrorKind, Write};
 
 /// Takes so many bytes in all, at most 512, and at most so many at a call; then a write fails.

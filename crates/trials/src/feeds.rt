@@ -1,6 +1,6 @@
 //! Feeds over replies in memory: a reader or a writer that fails, and messages that are no replies
 //! to a machine.
-use crate::again::{MayWantMemory, at_last};
+use crate::again::{MayBeOutOfMemory, at_last};
 use crate::exchanges::name;
 use crate::failing_readers::Broken;
 use crate::failing_writers::Limited;

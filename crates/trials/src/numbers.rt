@@ -1,5 +1,5 @@
 //! A machine whose boot has no numbers left.
-use crate::again::{MayWantMemory, at_last};
+use crate::again::{MayBeOutOfMemory, at_last};
 use crate::exchanges::name;
 use feeder::{Act, Feeder, InsertFault};
 use job_facts::{Refusal, Reply};

@@ -1,7 +1,7 @@
 //! Readers that fail, and readers whose reads are counted.
 ghost use Rattle.store_data.specs.Sequence.{IsProduct};
 
-use crate::again::{MayWantMemory, at_last};
+use crate::again::{MayBeOutOfMemory, at_last};
 use crate::batches::{FILE, product};
 use crate::exchanges::{UNAVAILABLE, inputs, name};
 use crate::failing_readers::{Broken, Counted, Failing};

@@ -344,7 +344,7 @@ fn serve_cut<W: Write, E: Write + Drop>(
     )
 }
 
-// The same, where each line can be written.
+// Serves these, and keeps the server's lines and its event lines, each of which can be written.
 fn cut_at(alloc: Global, texts: &[&[u8]], room: usize) -> Result<Ended, AllocError> {
     let mut lines = Vec::new(alloc);
     let mut events = EventLog::new(Level::Usual, Vec::new(alloc));

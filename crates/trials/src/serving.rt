@@ -1,5 +1,5 @@
 //! Connections that are used up, how connections end, and a drill's last line.
-use crate::again::{MayWantMemory, at_last};
+use crate::again::{MayBeOutOfMemory, at_last};
 use crate::exchanges::served;
 use crate::failing_writers::Limited;
 use drill::{DrillStop, drill_over_lists, serve_inputs};
@@ -11,7 +11,7 @@ use std::test::Fail;
 
 const RESET: &[u8] = b"POST /c/m1/1 HTTP/1.1\r\nContent-Length: 14\r\n\r\n{\"do\":\"reset\"}";
 
-// Where connections in memory are used up, that is answered.
+// A server whose connections in memory are used up ends with a fault of the device.
 #[test]
 fn the_end_of_connections_is_reported(rt: HostRuntime) {
     let none = at_last!(serve_inputs(rt.alloc(), Vec::new(rt.alloc()), 1, 1));

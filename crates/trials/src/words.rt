@@ -20,7 +20,7 @@ fn words_at_last(alloc: Global, words: &[&str]) -> Result<Words, WordsFault> {
     }
 }
 
-/// The same of the words of a line.
+/// What is read of the words of a line, at once or after refused memory.
 pub(crate) fn read_at_last(alloc: Global, line: &str) -> Result<Words, WordsFault> {
     let words = match words_of(alloc, line) {
         Err(_) => words_of(alloc, line)?,

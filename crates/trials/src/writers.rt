@@ -1,7 +1,7 @@
 //! Writers that fail at each byte, and that take one byte a call.
 ghost use Rattle.store_data.specs.Sequence.{IsProduct};
 
-use crate::again::{MayWantMemory, at_last};
+use crate::again::{MayBeOutOfMemory, at_last};
 use crate::batches::{FILE, PRINTED, product};
 use crate::exchanges::{REPORT, name, served, stocked};
 use crate::failing_writers::Limited;
@@ -20,7 +20,7 @@ use text_io::{WriteFailed, write_text};
 
 const TEXT: &[u8] = b"record R1\n";
 
-// What is answered where a writer has room for so many bytes of the text.
+// How the text's writing ends where a writer has room for so many of its bytes.
 fn end_in(room: usize) -> Result<(), WriteFailed> {
     if room < TEXT.len() {
         Err(WriteFailed)
@@ -141,7 +141,7 @@ const ONE_CHARGED: &str = reply!(
     r#"{"charged":1,"discarded":0,"free":2,"good":0,"lots":1,"product":"P1","running":1,"spoiled":0,"total":3}"#
 );
 
-// A message's reply is answered up to the room of its writer, and whole where the message comes
+// A message's reply is written up to the room of its writer, and whole where the message comes
 // again.
 fn check_sent_again(
     rt: &impl Abort,
@@ -179,7 +179,7 @@ fn a_failed_reply_is_sent_again(rt: HostRuntime) {
     check_sent_again(&rt, alloc, &mut store, PRODUCT, CREATED, writer);
 }
 
-// The card's first command is answered again, and one blank is charged.
+// The card's first command is handed out again, and one blank is charged.
 #[test]
 fn a_failed_reply_charges_one_blank(rt: HostRuntime) -> Result<(), Fail> {
     let (alloc, opened) = (rt.alloc(), OPENED.as_bytes());
@@ -199,7 +199,7 @@ const SCRIPT: &[u8] = b"office 1 {\"do\":\"reset\"}\nget /batch/B9\nsend m1\n";
 const LINES: &str =
     "200 {\"result\":\"reset\",\"session\":0}\n409 {\"code\":56,\"refused\":\"batch-unknown\"}\n";
 
-// The same where memory was refused to one of the two.
+// The lines where memory was refused to one of the two replies.
 const FIRST_REFUSED: &[u8] =
     b"503 {\"code\":503,\"refused\":\"storage\"}\n409 {\"code\":56,\"refused\":\"batch-unknown\"}\n";
 
@@ -228,7 +228,7 @@ fn drill_of_limited(rt: &impl Abort, alloc: Global, room: usize) -> Result<(), D
     end
 }
 
-// A failed write is answered before a bad line.
+// A failed write is reported before a bad line.
 #[test]
 fn a_drill_has_its_beginning_where_a_writer_fails(rt: HostRuntime) {
     for room in 0..LINES.len() {

@@ -139,8 +139,8 @@ pub fn check_feed(alloc: Global, case: &Case) -> Result<(), CaseFault> {
 fn comes_before(alloc: Global, server: &mut Server, line: &Line) -> Result<bool, CaseFault> {
     let text = line.text.as_str();
     if text == "set-up" {
-        for content in SET_UP {
-            let message = message_of(alloc, line, content)?;
+        for request in SET_UP {
+            let message = message_of(alloc, line, request)?;
             server.serve(message.as_slice())?;
         }
         return Ok(true);
@@ -173,13 +173,13 @@ fn put_before(
     alloc: Global,
     server: &mut Server,
     line: &Line,
-    content: &str,
+    text: &str,
 ) -> Result<(), CaseFault> {
-    let Some((number, content)) = content.split_once(' ') else {
+    let Some((number, request)) = text.split_once(' ') else {
         return Err(CaseFault::Form { line: line.number });
     };
     let ask = number_in(line, number)?;
-    let message = message_of(alloc, line, content)?;
+    let message = message_of(alloc, line, request)?;
     server.before.push((ask, message))?;
     Ok(())
 }
@@ -193,8 +193,8 @@ fn number_in(line: &Line, text: &str) -> Result<u64, CaseFault> {
 
 // A message: what stands behind `/c/` in its target, a space, and its body, in which `\n` ends a
 // line.
-fn message_of(alloc: Global, line: &Line, content: &str) -> Result<Vec<u8>, CaseFault> {
-    let Some((tail, body)) = content.split_once(' ') else {
+fn message_of(alloc: Global, line: &Line, request: &str) -> Result<Vec<u8>, CaseFault> {
+    let Some((tail, body)) = request.split_once(' ') else {
         return Err(CaseFault::Form { line: line.number });
     };
     let target = format!(in alloc; "/c/{tail}")?;
@@ -225,13 +225,13 @@ fn fed(
         &mut printed,
         server,
     );
-    let content = match end {
+    let last_line = match end {
         Ok(()) => "",
         Err(FeedStop::BadLine) => "refused 400\n",
         Err(FeedStop::Stale) => "refused 73\n",
         Err(FeedStop::NoReply) => "device\n",
         Err(_) => return Err(CaseFault::Memory),
     };
-    printed.extend_from_slice(content.as_bytes())?;
+    printed.extend_from_slice(last_line.as_bytes())?;
     Ok(printed)
 }

@@ -49,7 +49,7 @@ fn stock<S: JobStore>(alloc: Global, store: &mut S, printed: &Printed) -> Result
     Ok(())
 }
 
-// What a request is answered.
+// The reply to a request.
 fn ask<S: JobStore>(
     alloc: Global,
     store: &mut S,

@@ -49,18 +49,18 @@ fn check_row(alloc: Global, table: Table, line: &Line, answer: &Line) -> Result<
 // The sent form of a grouping's text, or its first fault.
 fn grouping(alloc: Global, line: &Line) -> Result<String, CaseFault> {
     let text = line.text.as_str();
-    let stated = match &from_hex_text(alloc, text.as_bytes()) {
+    let by_text = match &from_hex_text(alloc, text.as_bytes()) {
         Ok(sent) => hex::encode_upper(alloc, sent.as_slice())?,
         Err(fault) => fault_text(alloc, *fault)?,
     };
     match hex::decode(alloc, text) {
-        Ok(bytes) => by_bytes(alloc, bytes.as_slice(), stated),
-        Err(_) => Ok(stated),
+        Ok(bytes) => by_bytes(alloc, bytes.as_slice(), by_text),
+        Err(_) => Ok(by_text),
     }
 }
 
-// The same by the bytes of the text.
-fn by_bytes(alloc: Global, bytes: &[u8], stated: String) -> Result<String, CaseFault> {
+// What the text's reading gave, where the readings of its bytes give the same.
+fn by_bytes(alloc: Global, bytes: &[u8], by_text: String) -> Result<String, CaseFault> {
     let one = match read_one(bytes) {
         Ok((grouping, [])) => Ok(grouping),
         Ok(_) => Err(DgiFault::Trailing),
@@ -68,10 +68,10 @@ fn by_bytes(alloc: Global, bytes: &[u8], stated: String) -> Result<String, CaseF
     };
     let read = written(alloc, read_whole(bytes))?;
     let one = written(alloc, one)?;
-    if read == stated && one == stated {
-        return Ok(stated);
+    if read == by_text && one == by_text {
+        return Ok(by_text);
     }
-    Ok(format!(in alloc; "{stated}, {read} by read_whole, {one} by read_one")?)
+    Ok(format!(in alloc; "{by_text}, {read} by read_whole, {one} by read_one")?)
 }
 
 fn fault_text(alloc: Global, fault: DgiFault) -> Result<String, CaseFault> {
@@ -103,10 +103,10 @@ fn record(alloc: Global, line: &Line) -> Result<String, CaseFault> {
         return Err(CaseFault::Form { line: line.number });
     };
     let is_one = is_record(data.as_slice());
-    let stated = if is_one { "record" } else { "none" };
+    let found = if is_one { "record" } else { "none" };
     let size = data.len();
     if size > 254 {
-        return Ok(String::from_str(alloc, stated)?);
+        return Ok(String::from_str(alloc, found)?);
     }
     let file = format!(in alloc;
         "record,aid,rank,enc,tol,dgi\nR1,F00000000101,1,0,0,0101{size:02X}{text}\n"
@@ -117,11 +117,11 @@ fn record(alloc: Global, line: &Line) -> Result<String, CaseFault> {
     };
     let is_same = match check_batch(alloc, file.as_bytes(), &checking()) {
         Ok(_) => is_one,
-        Err(ImportFault::At(stated)) => !is_one && stated == fault,
+        Err(ImportFault::At(first)) => !is_one && first == fault,
         Err(ImportFault::Memory) => return Err(CaseFault::Memory),
     };
     let other = if is_same { "" } else { ", but not in a batch" };
-    Ok(format!(in alloc; "{stated}{other}")?)
+    Ok(format!(in alloc; "{found}{other}")?)
 }
 
 // A product that checks.

@@ -146,7 +146,7 @@ fn check_at(
     assert_eq!(rt; feed.events.taken(), events, "at {level:?}");
 }
 
-// The same at each level: where it is off nothing is written.
+// A case at each level: where it is off no line is written.
 fn check(rt: &impl Abort, alloc: Global, machine: Name, case: &Case) {
     for (level, events) in [
         (Level::Usual, case.events),
@@ -157,7 +157,7 @@ fn check(rt: &impl Abort, alloc: Global, machine: Name, case: &Case) {
     }
 }
 
-// The same of each of these.
+// Each of these cases at each level.
 fn check_each(rt: &impl Abort, alloc: Global, cases: &[Case]) -> Result<(), Fail> {
     let machine = name("m1")?;
     for case in cases {

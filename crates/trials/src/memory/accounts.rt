@@ -1,5 +1,5 @@
 //! Accounts and reports.
-use crate::again::{MayWantMemory, at_last};
+use crate::again::{MayBeOutOfMemory, at_last};
 use crate::exchanges::{REPORT, name, stocked};
 use crate::failing_writers::Limited;
 use job_facts::Refusal;

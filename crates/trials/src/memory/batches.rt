@@ -2,7 +2,7 @@
 ghost use Rattle.std.specs.Prelude.{IfOk};
 ghost use Rattle.store_data.specs.Sequence.{AreRows, IsProduct};
 
-use crate::again::{MayWantMemory, at_last};
+use crate::again::{MayBeOutOfMemory, at_last};
 use crate::batches::{FILE, PRINTED, TWO_APPLICATIONS, TWO_PRINTED, product};
 use crate::failing_writers::Limited;
 use batch_import::{ImportFault, Totals, check_batch, read_batch, rows};

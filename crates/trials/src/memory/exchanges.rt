@@ -1,7 +1,7 @@
 //! A decision, and a list of arrivals.
 ghost use Rattle.job_facts.specs.Requests.{IsArrival, IsRequest};
 
-use crate::again::{MayWantMemory, at_last};
+use crate::again::{MayBeOutOfMemory, at_last};
 use crate::exchanges::{name, stocked};
 use arrivals::body_of;
 use job_core::decide;

@@ -1,7 +1,7 @@
 //! Messages by each of their routes, the texts of requests, and replies read back.
 ghost use Rattle.wire.specs.Sending.{IsSendable};
 
-use crate::again::{MayWantMemory, at_last};
+use crate::again::{MayBeOutOfMemory, at_last};
 use crate::exchanges::{asked, name};
 use job_facts::{Call, Reply, Request};
 use std::alloc::Global;

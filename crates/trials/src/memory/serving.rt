@@ -1,5 +1,5 @@
 //! Connections and drills.
-use crate::again::{MayWantMemory, at_last};
+use crate::again::{MayBeOutOfMemory, at_last};
 use crate::exchanges::{UNAVAILABLE, inputs};
 use crate::failing_writers::Limited;
 use drill::{DrillStop, drill_over_lists, serve_inputs};
@@ -16,7 +16,7 @@ const PRODUCT: &[u8] =
 const CREATED: &[u8] =
     b"HTTP/1.1 200 OK\r\nContent-Type: application/json\r\nContent-Length: 35\r\nConnection: close\r\n\r\n{\"product\":\"P1\",\"result\":\"created\"}";
 
-// What is answered where a message was decided, and where memory for it was refused.
+// The reply where a message was decided, and where memory for it was refused.
 fn reply_of(served: Served) -> &'static [u8] {
     if served.decided { CREATED } else { UNAVAILABLE }
 }
@@ -41,8 +41,7 @@ fn refused_memory_is_answered_503(rt: HostRuntime) {
     assert!(rt; decided >= 2);
 }
 
-// What a connection in memory got is its reply, or a beginning of it where memory for that was
-// refused.
+// A connection in memory got its reply, or a beginning of it where memory for that was refused.
 fn check_replied(rt: &impl Abort, replied: &Replied) {
     let written = replied.written.as_slice();
     match replied.served.end {
@@ -106,8 +105,8 @@ fn unavailable(rt: &impl Abort, printed: &[u8]) -> usize {
     count
 }
 
-// Where memory is refused the lines before it are printed, or one message is answered 503; a second
-// drill prints it all.
+// Where memory is refused the lines before it are printed, or one message gets 503; a second drill
+// prints it all.
 #[test]
 fn refused_memory_is_no_half_drill(rt: HostRuntime) {
     for is_again in [false, true] {
