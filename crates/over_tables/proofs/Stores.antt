@@ -49,8 +49,8 @@ kept_then a b c one two = record {
 }
 
 -- it was refused between `old` and `mid` by one fault, and its cause was looked for up to `new`
-module _ (wanted : Wanted) (old mid new : sqlite.State) (fault : FileFault) (ToldOther ToldDamaged : Type 0)
-    (not_ours : IsNotOurs fault → ToldOther) (damaged : IsDamaged fault → ToldDamaged)
+module _ (wanted : Wanted) (old mid new : sqlite.State) (fault : FileFault) (WasOther WasDamaged : Type 0)
+    (not_ours : IsNotOurs fault → WasOther) (damaged : IsDamaged fault → WasDamaged)
     (why : HasCleanDisk new → Explains mid.now fault) (kept : HasCleanDisk new → IsKept mid new) (looked : Survives mid new (λ _. ⊥)) where
   before : HasCleanDisk new → HasCleanDisk mid
   before clean = omega (arith, looked.clean)
@@ -61,7 +61,7 @@ module _ (wanted : Wanted) (old mid new : sqlite.State) (fault : FileFault) (Tol
   left_before : HasCleanDisk new → (d : Option Contents) → (link new 0 0).may_leave d → (link mid 0 0).may_leave d
   left_before clean d left = elim (looked.crash clean left.0 left.1) [ inl may ↦ (left.0, may, left.2) | inr none ↦ absurd none ]
 
-  pub refused_new : Begins wanted old.now → (ToldOther → old.now.schema ≢ no_schema) → ¬ ToldDamaged → (HasCleanDisk mid → HasCleanDisk old)
+  pub refused_new : Begins wanted old.now → (WasOther → old.now.schema ≢ no_schema) → ¬ WasDamaged → (HasCleanDisk mid → HasCleanDisk old)
       → (HasCleanDisk mid → IsTrue old.is_open → IsKept old mid) → (HasCleanDisk mid → (d : Option Contents) → (link mid 0 0).may_leave d → (link old 0 0).may_leave d ⊎ IsFound d no_contents)
       → IsRefused wanted old new fault
   refused_new begins not_empty unread early stays late = record {
@@ -74,8 +74,8 @@ module _ (wanted : Wanted) (old mid new : sqlite.State) (fault : FileFault) (Tol
     crash = λ clean d left. elim (late (before clean) d (left_before clean d left)) [ inl may ↦ inl may | inr found ↦ inr (inl (begins, found)) ];
   }
 
-  pub refused_over : ¬ Begins wanted old.now → (HasCleanDisk mid → ToldOther → (v : Version) → ¬ IsOfVersion v old.now)
-      → (HasCleanDisk mid → ToldDamaged → ((v : Version) × IsOfVersion v old.now) × ((v : Version) → ¬ HoldsSoundRows v old.now)) → (HasCleanDisk mid → HasCleanDisk old)
+  pub refused_over : ¬ Begins wanted old.now → (HasCleanDisk mid → WasOther → (v : Version) → ¬ IsOfVersion v old.now)
+      → (HasCleanDisk mid → WasDamaged → ((v : Version) × IsOfVersion v old.now) × ((v : Version) → ¬ HoldsSoundRows v old.now)) → (HasCleanDisk mid → HasCleanDisk old)
       → (HasCleanDisk mid → IsKept old mid) → (HasCleanDisk mid → (d : Option Contents) → (link mid 0 0).may_leave d → (link old 0 0).may_leave d ⊎ WasHeld d old.now)
       → IsRefused wanted old new fault
   refused_over stands no_version spoiled early stays late = record {

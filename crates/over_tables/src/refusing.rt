@@ -51,7 +51,7 @@ pub(crate) fn with_cause<S: Alter>(
         → Explains (state S.Store conn).now result.1 }
     ensures not_ours { IsNotOurs result.1 → fault ≡ OpenFault.NotOurs }
     ensures damaged { IsDamaged result.1 → fault ≡ OpenFault.Damaged }
-    ensures told { (own : StoreFault) → fault ≡ OpenFault.Store own → result.1 ≡ of_store own }
+    ensures store { (own : StoreFault) → fault ≡ OpenFault.Store own → result.1 ≡ of_store own }
     ensures kept { HasCleanDisk (state S.Store result.0)
         → IsKept (state S.Store conn) (state S.Store result.0) }
     ensures idle { result.0.in_transaction ≡ false }

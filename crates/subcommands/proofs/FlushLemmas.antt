@@ -92,9 +92,9 @@ no_bad_line r n fault.Full is at = cc
 pub drill_flushed : (known before mid after : Option (List ℕ)) (end : End) (buffer : List ℕ)
     → DrillEnds known before mid (Ok tt) → Keeps mid after → Flushes Done end buffer → DrillRuns known before after end
 drill_flushed known before mid after end buffer (inl (fault, is, stays)) kept flushes = absurd (never_unopened tt fault is)
-drill_flushed known before mid after end buffer (inr (s, holds, (raw, error_line, runs))) kept (inl done) =
-    (Ok tt, done.0, inr (s, holds, (raw, error_line, rewritten _ _ s _ _ _ before mid after _ runs (Appends-kept before mid after _ runs.written kept))))
-drill_flushed known before mid after end buffer (inr (s, holds, (raw, error_line, runs))) kept (inr failed) = (
+drill_flushed known before mid after end buffer (inr (s, holds, (raw, agrees, runs))) kept (inl done) =
+    (Ok tt, done.0, inr (s, holds, (raw, agrees, rewritten _ _ s _ _ _ before mid after _ runs (Appends-kept before mid after _ runs.written kept))))
+drill_flushed known before mid after end buffer (inr (s, holds, (raw, agrees, runs))) kept (inr failed) = (
   Err drill.WriteFailed,
   failed,
   inr (
@@ -102,7 +102,7 @@ drill_flushed known before mid after end buffer (inr (s, holds, (raw, error_line
     holds,
     (
       raw,
-      error_line,
+      agrees,
       lost _ _ s _ _ _ before mid after _ runs (done_went_on _ _ s _ _ _ before mid _ runs) (whole before mid after _ runs.written kept),
     ),
   ),
@@ -111,9 +111,9 @@ drill_flushed known before mid after end buffer (inr (s, holds, (raw, error_line
 pub bad_line_flushed : (n : ℕ) (known before mid after : Option (List ℕ)) (end : End) (buffer : List ℕ)
     → DrillEnds known before mid (Err (drill.BadLine n)) → Keeps mid after → Flushes (BadLine n) end buffer → DrillRuns known before after end
 bad_line_flushed n known before mid after end buffer (inl (fault, is, stays)) kept flushes = absurd (no_bad_line (Err (drill.BadLine n)) n fault refl is)
-bad_line_flushed n known before mid after end buffer (inr (s, holds, (raw, error_line, runs))) kept (inl done) =
-    (Err (drill.BadLine n), done.0, inr (s, holds, (raw, error_line, rewritten _ _ s _ _ _ before mid after _ runs (Appends-kept before mid after _ runs.written kept))))
-bad_line_flushed n known before mid after end buffer (inr (s, holds, (raw, error_line, runs))) kept (inr failed) = (
+bad_line_flushed n known before mid after end buffer (inr (s, holds, (raw, agrees, runs))) kept (inl done) =
+    (Err (drill.BadLine n), done.0, inr (s, holds, (raw, agrees, rewritten _ _ s _ _ _ before mid after _ runs (Appends-kept before mid after _ runs.written kept))))
+bad_line_flushed n known before mid after end buffer (inr (s, holds, (raw, agrees, runs))) kept (inr failed) = (
   Err drill.WriteFailed,
   failed,
   inr (
@@ -121,7 +121,7 @@ bad_line_flushed n known before mid after end buffer (inr (s, holds, (raw, error
     holds,
     (
       raw,
-      error_line,
+      agrees,
       lost _ _ s _ _ _ before mid after _ runs (bad_went_on _ _ s _ _ n _ before mid runs) (whole before mid after _ runs.written kept),
     ),
   ),
