@@ -62,7 +62,7 @@ const NOT_OURS: [Damage; 7] = [
 ];
 
 // Rows that are those of no sound contents.
-const DAMAGED: [Damage; 17] = [
+const DAMAGED: [Damage; 18] = [
     Damage(
         "a session's state",
         &["UPDATE session SET state = 0 WHERE id = 1"],
@@ -116,6 +116,14 @@ const DAMAGED: [Damage; 17] = [
     Damage(
         "a grouping's coded form",
         &["UPDATE grouping2 SET coded = X'0101027001' WHERE batch = 1"],
+        "82 files",
+    ),
+    Damage(
+        "a file whose rank is 0",
+        &[
+            "UPDATE batch SET raw = X'7265636F72642C6169642C72616E6B2C656E632C746F6C2C6467690A\
+            52312C4630303030303030303130312C302C302C302C303130313032373030300A' WHERE id = 1",
+        ],
         "82 files",
     ),
     Damage(

@@ -248,6 +248,9 @@ pub(crate) const RELEASE: Exchange = accepted!(
 /// The reply to one of these numbers then.
 pub(crate) const NUMBER_RELEASED: &str = r#"{"code":73,"mark":3,"refused":"number-released"}"#;
 
+/// The last blank of the lot is discarded.
+pub(crate) const LAST_DISCARDED: Exchange = accepted!("/c/other/2", DISCARD, DISCARDED);
+
 /// One of these comes late.
 pub(crate) const LATE: Exchange = Exchange(
     "/c/office/2",

@@ -8,7 +8,7 @@ use crate::disks::{Ended, Left, Stop, close, nothing, open};
 use crate::exchanges::{Exchange, arrival, at_last, check_reply, reply_to};
 use crate::refused::tables;
 use crate::stops::{MANY_CALLS, NO_STOP, adopted, created, put_rows, rows_of};
-use crate::stories::{MADE_AGAIN, RELEASE, SET_UP};
+use crate::stories::{LAST_DISCARDED, MADE_AGAIN, RELEASE, SET_UP};
 use job_facts::{JobStore, StoreFault};
 use schema::{OpenFault, SqlStore};
 use sqlite::{Alter, Connection, Error};
@@ -31,19 +31,27 @@ const GROUPING: &str = "CREATE TABLE grouping (batch INTEGER NOT NULL, line INTE
 
 const GROUPINGS: &str = "INSERT INTO grouping SELECT * FROM grouping2";
 
+const TEXTS_OF_ONE: [&str; 7] = [
+    GROUPING,
+    GROUPINGS,
+    "DROP TABLE grouping2",
+    "DROP TABLE mark",
+    "DROP TABLE version",
+    "CREATE TABLE version (id INTEGER NOT NULL PRIMARY KEY CHECK (id = 1), number INTEGER \
+    NOT NULL CHECK (number = 1)) STRICT",
+    "INSERT INTO version (id, number) VALUES (1, 1)",
+];
+
 // It knows two encipherment marks, and no released numbers.
 pub(crate) const ONE: Version = Version {
     asked: &[],
-    texts: &[
-        GROUPING,
-        GROUPINGS,
-        "DROP TABLE grouping2",
-        "DROP TABLE mark",
-        "DROP TABLE version",
-        "CREATE TABLE version (id INTEGER NOT NULL PRIMARY KEY CHECK (id = 1), number INTEGER \
-        NOT NULL CHECK (number = 1)) STRICT",
-        "INSERT INTO version (id, number) VALUES (1, 1)",
-    ],
+    texts: &TEXTS_OF_ONE,
+};
+
+// The same, where the last blank of the lot is discarded, and so charged.
+const LAST_CHARGED: Version = Version {
+    asked: &[LAST_DISCARDED],
+    texts: &TEXTS_OF_ONE,
 };
 
 // It knows released numbers.
@@ -318,7 +326,7 @@ fn files_of_our_own_tables_stay_and_others_do_not(rt: HostRuntime) -> Result<(),
 #[test]
 fn tables_of_version_one(rt: HostRuntime) -> Result<(), Fail> {
     let store = tables(rt.alloc())?;
-    check_memory(&rt, rt.alloc(), &ONE, store)
+    check_memory(&rt, rt.alloc(), &LAST_CHARGED, store)
 }
 
 #[test]
