@@ -43,7 +43,7 @@ module _ (w : Writing) (entry : Entry) (old new : State) (before after : Known) 
 none_known : (t : Tables) (known : Known) → KnowsNothing known → IsAllKnownIn t known
 none_known t known none = record {
   records = λ apart. subst (All (IsKnownIn (fixed t))) (sym none.records) (All-nil (IsKnownIn (fixed t)));
-  standing = subst (λ o. IfSome o (IsStandingIn t)) (sym none.standing) tt;
+  standing = λ apart. subst (λ o. IfSome o (IsStandingIn t)) (sym none.standing) tt;
 }
 
 has_none : (t : Tables) (db : Database) (known : Known) → KnowsNothing known → IsImage t db → HasKnown db known

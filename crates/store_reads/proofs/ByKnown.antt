@@ -1,10 +1,11 @@
 -- What is read of contents by what is known of a record.
-use Rattle.std.proofs.Common.{◌≡◌, ℕ, List, Contains, Option, Some, None, Result, Ok, Err, IfOk, IfSome, IsTrue, map, sym, ap, subst, ◌∙◌, arith}
+use Rattle.std.proofs.Common.{◌≡◌, ℕ, List, Contains, Option, Some, None, Result, Ok, Err, IsTrue, map, sym, ap, subst, ◌∙◌, arith}
 use Rattle.std.specs.Prelude.{filter, find, option_map}
 use Rattle.std.specs.List.{flat_map}
 use Rattle.std.specs.Coded.{coded_option}
 use Rattle.std.proofs.Math.Logic.{∥∥₁_elim}
 use Rattle.std.proofs.Props.{props}
+use Rattle.std.proofs.lemmas.List.Elements.{All-contains}
 use base.Stored.{Coded-set}
 use Rattle.sqlite.specs.State.{HasCleanDisk, State}
 use Rattle.sqlite.specs.declared.error.Error.{Error}
@@ -16,7 +17,7 @@ use Rattle.job_facts.specs.Rows.{segment_row_of}
 use Rattle.job_facts.specs.Sound.{IsSound}
 use Rattle.job_facts.specs.States.{first_waiting, plan_for}
 use Rattle.table_rows.specs.Keys.{is_batch, is_batch_named, is_grouping_at, is_record_at, is_record_named, is_session, is_waiting_of}
-use Rattle.table_rows.specs.Tables.{PassesOnce, StoredBatch, StoredRecord}
+use Rattle.table_rows.specs.Tables.{PassesOnce, StoredBatch, StoredRecord, Tables}
 use Rattle.image_laws.specs.Image.{image, stored_batches, stored_groupings, stored_records, stored_sessions}
 use Rattle.row_laws.specs.RowValues.{plan_in, session_in, waiting_in}
 use Rattle.row_reads.specs.declared.groupings.CodedAt.{CodedAt}
@@ -27,10 +28,10 @@ use Rattle.row_reads.specs.Reads.{Looks, ReadsRows}
 use Rattle.sql_rows.specs.Image.{IsImage}
 use Rattle.store_reads.specs.declared.known.Known.{Known}
 use Rattle.store_reads.specs.declared.known.KnownRecord.{KnownRecord}
-use Rattle.store_reads.specs.declared.plans.SegmentHead.{SegmentHead}
+use Rattle.store_reads.specs.declared.plans.PlacedHead.{PlacedHead}
 use Rattle.store_reads.specs.declared.segments.BatchProduct.{BatchProduct}
 use Rattle.store_reads.specs.Fixed.{AreNamedApart, fixed}
-use Rattle.store_reads.specs.Known.{IsAllKnownIn, IsKnownIn, Knows, ReadsKnown, ReadsSome, known_records}
+use Rattle.store_reads.specs.Known.{IsAllKnownIn, IsKnownIn, IsNamed, Knows, known_heads, known_records}
 use Rattle.store_reads.specs.Segments.{head_at, plan_at, row_in_plan}
 use Rattle.store_reads.specs.Sessions.{row_named}
 use Rattle.store_reads.specs.ReadsContents.{ReadsContents}
@@ -98,46 +99,42 @@ module _ (c : Contents) (k : KnownRecord) (it : IsKnownIn (fixed (image c)) k) (
       segment_read c.facts k.batch k.rec a q law under (product_with_name (image c) k it apart) x.0 x.1 found (is ∙ ap (λ n. row_in_plan (plan_at c.facts under n k.rec) a q) (sym x.2))
 
   module _ (rising : Rises grouping_at line_of (filter (is_grouping_at k.id k.place) (stored_groupings c.facts))) where
-    pub without_head : None ≡ head_at k.groupings.items a q → None ≡ segment_row_of c.facts k.batch k.rec a q
-    without_head none = row_read None (row_without_head c.facts under k.place a q k.rec rising k.groupings.items it.groupings none)
+    pub without_head : None ≡ head_at (known_heads k) a q → None ≡ segment_row_of c.facts k.batch k.rec a q
+    without_head none = row_read None (row_without_head c.facts under k.place a q k.rec rising (known_heads k) it.heads none)
 
-    pub with_head : (h : SegmentHead) → Some h ≡ head_at k.groupings.items a q
-        → (cs : List CodedAt) → AreSorted coded_line (map coded_at (filter (is_of_segment k.id k.place h.aid h.rank) (stored_groupings c.facts))) cs
-        → Some (row_of_head under h (flat_map (λ (g : CodedAt). g.coded) cs)) ≡ segment_row_of c.facts k.batch k.rec a q
-    with_head h h_is cs coded =
-        row_read (Some (row_of_head under h (flat_map (λ (g : CodedAt). g.coded) cs))) (row_with_head c.facts under k.place a q k.rec rising k.groupings.items it.groupings h h_is cs coded)
+    pub with_head : (p : PlacedHead) → Some p ≡ head_at (known_heads k) a q
+        → (cs : List CodedAt) → AreSorted coded_line (map coded_at (filter (is_of_segment k.id k.place p.head.aid p.head.rank) (stored_groupings c.facts))) cs
+        → Some (row_of_head under p (flat_map (λ (g : CodedAt). g.coded) cs)) ≡ segment_row_of c.facts k.batch k.rec a q
+    with_head p is cs coded =
+        row_read (Some (row_of_head under p (flat_map (λ (g : CodedAt). g.coded) cs))) (row_with_head c.facts under k.place a q k.rec rising (known_heads k) it.heads p is cs coded)
 
-module _ (k : KnownRecord) (b r : List ℕ) (b_is : k.batch ≡ b) (r_is : k.rec ≡ r) (a q : ℕ) where
+module _ (k : KnownRecord) (b r : List ℕ) (named : IsNamed b r k) (a q : ℕ) where
   of_names : (f : Facts) → segment_row_of f k.batch k.rec a q ≡ segment_row_of f b r a q
-  of_names f = ap (λ n. segment_row_of f n k.rec a q) b_is ∙ ap (λ n. segment_row_of f b n a q) r_is
+  of_names f = ap (λ n. segment_row_of f n k.rec a q) named.0 ∙ ap (λ n. segment_row_of f b n a q) named.1
 
-  -- a record that was known
-  pub segment_by_known : (old new : State) (known : Known) → Knows old known → Contains (known_records known) k → Looks old new → ((c : Contents) → AreSound c → AreNamedApart (fixed (image c)))
-      → (result : Result (Option SegmentRow) Error) → ReadsKnown k old new result (λ c answer. answer ≡ segment_row_of c.facts k.batch k.rec a q)
-      → (HasCleanDisk new → IfOk result (λ answer. IfSome answer (λ (row : SegmentRow). IsTrue old.is_open)))
-      → ReadsSome old new result (λ c row. Some row ≡ segment_row_of c.facts b r a q)
-  segment_by_known old new known knows there looks apart (Err e) as_read live = λ clean. tt
-  segment_by_known old new known knows there looks apart (Ok None) as_read live = λ clean. tt
-  segment_by_known old new known knows there looks apart (Ok (Some row)) as_read live = λ clean.
-      let early : HasCleanDisk old = omega (arith, clean, looks.survives.clean) in (
-        live clean,
-        λ c sound is.
-            ∥∥₁_elim (known_in old known knows early (live clean) k there (image c) is (apart c sound)) (Coded-set (coded_option the_row.coded) _ _) (λ it. as_read clean c sound (λ _. is) it)
-            ∙ of_names c.facts,
-      )
+  module _ (old : State) (known : Known) (knows : Knows old known) (apart : (c : Contents) → AreSound c → AreNamedApart (fixed (image c))) (answer : Option SegmentRow) where
+    -- as it is by what is known, so it is
+    row_given : HasCleanDisk old → IsTrue old.is_open → ((t : Tables) → IsImage t old.now → AreNamedApart (fixed t) → IsAllKnownIn t known → IsKnownIn (fixed t) k)
+        → ((c : Contents) → AreSound c → IsImage (image c) old.now → IsKnownIn (fixed (image c)) k → answer ≡ segment_row_of c.facts k.batch k.rec a q) → Shows old (λ c. answer ≡ segment_row_of c.facts b r a q)
+    row_given clean live shows as_read = (
+      live,
+      λ c sound is.
+          ∥∥₁_elim (all_known_in old known knows clean live (image c) is) (Coded-set (coded_option the_row.coded) _ _) (λ all. as_read c sound is (shows (image c) is (apart c sound) all))
+          ∙ of_names c.facts,
+    )
 
-  -- a record that was read before
-  pub segment_by_read : (old mid new : State) (known : Known) → Knows old known → Looks old mid → Looks mid new
-      → (HasCleanDisk mid → ShowsRows old (λ t. AreNamedApart (fixed t) → IsAllKnownIn t known → IsKnownIn (fixed t) k)) → ((c : Contents) → AreSound c → AreNamedApart (fixed (image c)))
-      → (answer : Option SegmentRow) → (HasCleanDisk new → (c : Contents) → AreSound c → (IsTrue mid.is_open → IsImage (image c) mid.now) → IsKnownIn (fixed (image c)) k → answer ≡ segment_row_of c.facts k.batch k.rec a q)
-      → HasCleanDisk new → Shows old (λ c. answer ≡ segment_row_of c.facts b r a q)
-  segment_by_read old mid new known knows one two shows apart answer as_read clean =
-      let early : HasCleanDisk mid = omega (arith, clean, two.survives.clean) in
-      let first : HasCleanDisk old = omega (arith, early, one.survives.clean) in
-      let s = shows early in (
-        s.0,
-        λ c sound is.
-            ∥∥₁_elim (all_known_in old known knows first s.0 (image c) is) (Coded-set (coded_option the_row.coded) _ _)
-            (λ all. as_read clean c sound (λ live. subst (IsImage (image c)) (sym ((one.kept early).now_is live)) is) (s.1 (image c) is (apart c sound) all))
-            ∙ of_names c.facts,
-      )
+    -- of a record that was known
+    pub segment_by_known : (new : State) → Looks old new → Contains (known_records known) k → IsTrue old.is_open → HasCleanDisk new
+        → ((c : Contents) → AreSound c → (IsTrue old.is_open → IsImage (image c) old.now) → IsKnownIn (fixed (image c)) k → answer ≡ segment_row_of c.facts k.batch k.rec a q)
+        → Shows old (λ c. answer ≡ segment_row_of c.facts b r a q)
+    segment_by_known new looks there live clean as_read =
+        row_given (omega (arith, clean, looks.survives.clean)) live (λ t is each all. All-contains (IsKnownIn (fixed t)) (known_records known) k (all.records each) there) (λ c sound is. as_read c sound (λ _. is))
+
+    -- of a record that was read before
+    pub segment_by_read : (mid new : State) → Looks old mid → Looks mid new → (HasCleanDisk mid → ShowsRows old (λ t. AreNamedApart (fixed t) → IsAllKnownIn t known → IsKnownIn (fixed t) k))
+        → (HasCleanDisk new → (c : Contents) → AreSound c → (IsTrue mid.is_open → IsImage (image c) mid.now) → IsKnownIn (fixed (image c)) k → answer ≡ segment_row_of c.facts k.batch k.rec a q)
+        → HasCleanDisk new → Shows old (λ c. answer ≡ segment_row_of c.facts b r a q)
+    segment_by_read mid new one two shows as_read clean =
+        let early : HasCleanDisk mid = omega (arith, clean, two.survives.clean) in
+        let s = shows early in
+        row_given (omega (arith, early, one.survives.clean)) s.0 s.1 (λ c sound is. as_read clean c sound (λ live. subst (IsImage (image c)) (sym ((one.kept early).now_is live)) is))

@@ -48,13 +48,13 @@ knows_more a b c old new read one two shows knows each same clean live =
                 | inr before ↦ All-contains (IsKnownIn (fixed it.0)) (known_records old) x (it.2.records apart) before
               ])
               (known_records new) (All-contains_itself (known_records new));
-          standing = subst (λ o. IfSome o (IsStandingIn it.0)) (sym same) it.2.standing;
+          standing = λ apart. subst (λ o. IfSome o (IsStandingIn it.0)) (sym same) (it.2.standing apart);
         },
       ));
     }
 
 -- and how a record stands, in place of another
-pub knows_standing : (a b : State) (old new : Known) (id : ℕ) (card : RecordAt) → Looks a b → (HasCleanDisk b → ShowsRows a (λ t. IsStandingIn t (let s : StandingRecord = record { batch = id; card = card } in s)))
+pub knows_standing : (a b : State) (old new : Known) (id : ℕ) (card : RecordAt) → Looks a b → (HasCleanDisk b → ShowsRows a (λ t. AreNamedApart (fixed t) → IsStandingIn t (let s : StandingRecord = record { batch = id; card = card } in s)))
     → Knows a old → known_records new ≡ known_records old → standing_record new ≡ Some (let s : StandingRecord = record { batch = id; card = card } in s) → Knows b new
 knows_standing a b old new id card looks shows knows same is clean live =
     let k = looks.kept clean in
@@ -65,7 +65,7 @@ knows_standing a b old new id card looks shows knows same is clean live =
         subst (IsImage it.0) (sym (k.now_is live)) it.1,
         record {
           records = subst (AreKnownIn it.0) (sym same) it.2.records;
-          standing = subst (λ o. IfSome o (IsStandingIn it.0)) (sym is) ((shows clean).1 it.0 it.1);
+          standing = λ apart. subst (λ o. IfSome o (IsStandingIn it.0)) (sym is) ((shows clean).1 it.0 it.1 apart);
         },
       ));
     }

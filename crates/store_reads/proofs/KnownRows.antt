@@ -19,22 +19,22 @@ use Rattle.job_facts.proofs.Lists.{find-All}
 use Rattle.step_laws.proofs.BlankSums.{bytes_eq_either, named_once}
 use Rattle.step_laws.proofs.Permuted.{IsPermutation-filter}
 use Rattle.sql_base.proofs.Selecting.{map_map}
-use Rattle.table_rows.specs.Keys.{is_batch, is_batch_named, is_grouping_at, is_record_at, is_record_named, is_waiting_of}
+use Rattle.table_rows.specs.Keys.{is_batch, is_batch_named, is_record_at, is_record_named, is_waiting_of}
 use Rattle.table_rows.specs.Tables.{HaveSameRows, PassesOnce, StoredBatch, StoredRecord, Tables}
 use Rattle.table_rows.proofs.Found.{find_passes}
 use Rattle.image_laws.specs.Image.{image, stored_batches, stored_records}
 use Rattle.row_laws.proofs.Finding.{AllPairs-from_map, AllPairs-map, find-map}
-use Rattle.row_reads.specs.declared.groupings.GroupingAt.{GroupingAt}
 use Rattle.row_reads.specs.declared.records.RecordAt.{RecordAt}
-use Rattle.row_reads.specs.CardDecoding.{grouping_at, line_of, place_of, record_at}
-use Rattle.row_reads.specs.Extremes.{AreSorted, IsLeastBy}
+use Rattle.row_reads.specs.CardDecoding.{grouping_at, place_of, record_at}
+use Rattle.row_reads.specs.Extremes.{IsLeastBy}
 use Rattle.sql_rows.specs.Image.{IsImage}
 use Rattle.sql_rows.proofs.OneImage.{one_image}
 use Rattle.store_reads.specs.declared.known.Known.{Known}
 use Rattle.store_reads.specs.declared.known.KnownRecord.{KnownRecord}
 use Rattle.store_reads.specs.declared.known.StandingRecord.{StandingRecord}
-use Rattle.store_reads.specs.Fixed.{AreNamedApart, FixedBatch, FixedRecord, fixed, fixed_batch, fixed_record, is_named, is_named_in}
-use Rattle.store_reads.specs.Known.{IsAllKnownIn, IsKnownIn, IsStandingOf, Knows, IsStandingIn, known_records, standing_of, standing_record}
+use Rattle.store_reads.specs.Fixed.{AreNamedApart, Fixed, FixedBatch, FixedRecord, fixed, fixed_batch, fixed_record, is_named, is_named_in}
+use Rattle.store_reads.specs.Known.{AreHeadsAt, IsAllKnownIn, IsKnownIn, IsStandingOf, Knows, IsStandingIn, known_heads, known_records, standing_of, standing_record}
+use Rattle.store_reads.specs.declared.plans.SegmentHead.{SegmentHead}
 use Rattle.store_reads.specs.declared.segments.BatchProduct.{BatchProduct}
 use Rattle.store_reads.specs.Segments.{product_in, product_under}
 use Rattle.store_reads.proofs.Found.{found_some}
@@ -76,9 +76,10 @@ module _ (t u : Tables) (same : HaveSameRows t u) where
     batch = Contains-permutation _ _ _ (IsPermutation-map fixed_batch _ _ same.batches) it.batch;
     product = Contains-permutation _ _ _ same.products it.product;
     record_there = Contains-permutation _ _ _ (IsPermutation-map fixed_record _ _ same.records) it.record_there;
-    groupings = (
-      IsPermutation-trans _ _ _ (IsPermutation-sym _ _ (IsPermutation-map grouping_at _ _ (IsPermutation-filter _ _ _ same.groupings))) it.groupings.0,
-      it.groupings.1,
+    heads = (
+      it.heads.0,
+      (IsPermutation-trans _ _ _ (IsPermutation-sym _ _ (IsPermutation-map grouping_at _ _ (IsPermutation-filter _ _ _ same.groupings))) it.heads.1.0, it.heads.1.1),
+      it.heads.2,
     );
   }
 
@@ -94,7 +95,7 @@ all_known_in s known knows clean live t is =
     let back : HaveSameRows t it.0 = one_image t it.0 s.now is it.1 in
     record {
       records = λ apart. All-weaker (IsKnownIn (fixed it.0)) (IsKnownIn (fixed t)) (known_moved it.0 t there) (known_records known) (it.2.records (names_moved t it.0 back apart));
-      standing = standing_moved it.0 t there (standing_record known) it.2.standing;
+      standing = λ apart. standing_moved it.0 t there (standing_record known) (it.2.standing (names_moved t it.0 back apart));
     })
 
 -- so is each record
@@ -202,9 +203,14 @@ same_batch_part i j m n p q one two three = rw (one, two, three) refl
 same_record_part : (i j p q : ℕ) (m n : List ℕ) → i ≡ j → p ≡ q → m ≡ n → (let x : FixedRecord = record { batch = i; place = p; name = m } in x) ≡ (let y : FixedRecord = record { batch = j; place = q; name = n } in y)
 same_record_part i j p q m n one two three = rw (one, two, three) refl
 
+-- the segments of one record and place are those of another that has the same
+heads_moved : (x : Fixed) (i j p q : ℕ) (hs ks : List (List SegmentHead)) → AreHeadsAt x i p hs → j ≡ i → q ≡ p → ks ≡ hs → AreHeadsAt x j q ks
+heads_moved x i j p q hs ks heads id_is place_is same =
+    subst (λ n. AreHeadsAt x n q ks) (sym id_is) (subst (λ n. AreHeadsAt x i n ks) (sym place_is) (subst (AreHeadsAt x i p) (sym same) heads))
+
 pub read_known : (t : Tables) (k : KnownRecord) (e : BatchProduct) → Some e ≡ product_in t.products t.batches k.batch → (x : RecordAt) → Some x ≡ option_map record_at (find (is_record_named e.id k.rec) t.records)
-    → AreSorted line_of (map grouping_at (filter (is_grouping_at e.id x.place) t.groupings)) k.groupings.items → k.id ≡ e.id → k.product ≡ e.product → k.place ≡ x.place → IsKnownIn (fixed t) k
-read_known t k e e_is x x_is sorted id_is product_is place_is =
+    → AreHeadsAt (fixed t) e.id x.place (known_heads k) → k.id ≡ e.id → k.product ≡ e.product → k.place ≡ x.place → IsKnownIn (fixed t) k
+read_known t k e e_is x x_is heads id_is product_is place_is =
     let b = two_steps (product_under t.products) (find (is_batch_named k.batch) t.batches) e e_is in
     let p = found_some (λ (p : Product). let e : BatchProduct = record { id = b.0.id; product = p } in e) (product_named t.products b.0.product) e b.2 in
     let r = found_some record_at (find (is_record_named e.id k.rec) t.records) x x_is in
@@ -219,21 +225,19 @@ read_known t k e e_is x x_is sorted id_is product_is place_is =
       batch = in_map fixed_batch t.batches b.0 _ (same_batch_part _ _ _ _ _ _ id (sym named) (ap (λ (p : Product). p.code) product ∙ code)) (found_there (is_batch_named k.batch) t.batches b.0 b.1);
       product = subst (Contains t.products) (sym product) (found_there (λ (q : Product). bytes_eq q.code b.0.product) t.products p.0 p.1);
       record_there = in_map fixed_record t.records r.0 _ (same_record_part _ _ _ _ _ _ (id_is ∙ sym batch) place (sym (same-bytes_eq r.0.name k.rec both.1))) (found_there (is_record_named e.id k.rec) t.records r.0 r.1);
-      groupings =
-          subst (λ n. AreSorted line_of (map grouping_at (filter (is_grouping_at n k.place) t.groupings)) k.groupings.items) (sym id_is)
-          (subst (λ n. AreSorted line_of (map grouping_at (filter (is_grouping_at e.id n) t.groupings)) k.groupings.items) (sym place_is) sorted);
+      heads = heads_moved (fixed t) e.id k.id x.place k.place (known_heads k) (known_heads k) heads id_is place_is refl;
     }
 
 -- ---- how a record stands
 
 -- what is found of the record of its name
-pub standing_told : (t : Tables) (known : Known) → IsAllKnownIn t known → (id : ℕ) (n : List ℕ) (card : RecordAt) → IsStandingOf known id n card → PassesOnce (is_record_named id n) t.records
+pub standing_told : (t : Tables) (known : Known) → AreNamedApart (fixed t) → IsAllKnownIn t known → (id : ℕ) (n : List ℕ) (card : RecordAt) → IsStandingOf known id n card
     → Some card ≡ option_map record_at (find (is_record_named id n) t.records)
-standing_told t known all id n card is =
-    subst (λ m. PassesOnce (is_record_named id m) t.records → Some card ≡ option_map record_at (find (is_record_named id m) t.records)) is.1 (λ once.
+standing_told t known apart all id n card is =
+    subst (λ m. Some card ≡ option_map record_at (find (is_record_named id m) t.records)) is.1 (
     let s : StandingRecord = record { batch = id; card = card } in
-    let r = found_by_part standing_of (λ (x : StandingRecord). (x.batch == id) && bytes_eq x.card.name card.name) t.records s (subst (λ o. IfSome o (IsStandingIn t)) is.0 all.standing) once
-    (and_from (id == id) (bytes_eq card.name card.name) (same_number id) (bytes_eq-same card.name)) in
+    let r = found_by_part standing_of (λ (x : StandingRecord). (x.batch == id) && bytes_eq x.card.name card.name) t.records s (subst (λ o. IfSome o (IsStandingIn t)) is.0 (all.standing apart))
+    (records_once t apart id card.name) (and_from (id == id) (bytes_eq card.name card.name) (same_number id) (bytes_eq-same card.name)) in
     ap (λ (x : StandingRecord). Some x.card) r.2 ∙ sym (ap (option_map record_at) r.1))
 
 -- no change touches its place
@@ -245,42 +249,48 @@ stands_there t id card there =
 
 -- a record beside a known one of its batch, by how it stands
 pub read_beside : (t : Tables) (known : Known) → AreNamedApart (fixed t) → IsAllKnownIn t known → (o k : KnownRecord) → Contains (known_records known) o → (n : List ℕ) (card : RecordAt) → IsStandingOf known o.id n card
-    → (gs : List GroupingAt) → AreSorted line_of (map grouping_at (filter (is_grouping_at o.id card.place) t.groupings)) gs → k.groupings.items ≡ gs
+    → (heads : List (List SegmentHead)) → AreHeadsAt (fixed t) o.id card.place heads → known_heads k ≡ heads
     → k.id ≡ o.id → k.batch ≡ o.batch → k.product ≡ o.product → k.place ≡ card.place → k.rec ≡ n → IsKnownIn (fixed t) k
-read_beside t known apart all o k there n card is gs sorted same id_is batch_is product_is place_is rec_is =
+read_beside t known apart all o k there n card is heads are same id_is batch_is product_is place_is rec_is =
     let it = All-contains (IsKnownIn (fixed t)) (known_records known) o (all.records apart) there in
-    let stands : IsStandingIn t (let s : StandingRecord = record { batch = o.id; card = card } in s) = subst (λ s. IfSome s (IsStandingIn t)) is.0 all.standing in
+    let stands : IsStandingIn t (let s : StandingRecord = record { batch = o.id; card = card } in s) = subst (λ s. IfSome s (IsStandingIn t)) is.0 (all.standing apart) in
     record {
       batch = subst (Contains (map fixed_batch t.batches)) (same_batch_part _ _ _ _ _ _ (sym id_is) (sym batch_is) (sym (ap (λ (p : Product). p.code) product_is))) it.batch;
       product = subst (Contains t.products) (sym product_is) it.product;
       record_there = subst (Contains (map fixed_record t.records)) (same_record_part _ _ _ _ _ _ (sym id_is) (sym place_is) (is.1 ∙ sym rec_is)) (stands_there t o.id card stands);
-      groupings =
-          subst (λ n. AreSorted line_of (map grouping_at (filter (is_grouping_at n k.place) t.groupings)) k.groupings.items) (sym id_is)
-          (subst (λ n. AreSorted line_of (map grouping_at (filter (is_grouping_at o.id n) t.groupings)) k.groupings.items) (sym place_is)
-          (subst (AreSorted line_of (map grouping_at (filter (is_grouping_at o.id card.place) t.groupings))) (sym same) sorted));
+      heads = heads_moved (fixed t) o.id k.id card.place k.place heads (known_heads k) are id_is place_is same;
     }
 
--- ---- the first record that waits
+-- ---- a record of which it was read how it stands
 
 module _ (id : ℕ) (all : List StoredRecord) where
   abbrev IsThere : RecordAt → Type 0
   IsThere card = Contains (map standing_of all) (record { batch = id; card = card })
 
-  waiting_there : (x : StoredRecord) → is_waiting_of id x ≡ true → Contains all x → IsThere (record_at x)
-  waiting_there x hit there =
-      let both = and_parts (x.batch == id) _ hit in
-      let batch : x.batch ≡ id = grind (arith, nat_tests, both.0) in
+  stands_of : (x : StoredRecord) → (x.batch == id) ≡ true → Contains all x → IsThere (record_at x)
+  stands_of x hit there =
+      let batch : x.batch ≡ id = grind (arith, nat_tests, hit) in
       in_map standing_of all x _ (ap (λ (n : ℕ). let s : StandingRecord = record { batch = n; card = record_at x } in s) (sym batch)) there
 
   each_there : (xs : List StoredRecord) → All (λ x. is_waiting_of id x ≡ true) xs → All (Contains all) xs → All IsThere (map record_at xs)
   each_there [] waits there = All-nil IsThere
   each_there (x ∷ xs) waits there =
-      All-cons IsThere (record_at x) (map record_at xs) (waiting_there x (All-head (λ y. is_waiting_of id y ≡ true) x xs waits) (All-head (Contains all) x xs there))
+      let both = and_parts (x.batch == id) _ (All-head (λ y. is_waiting_of id y ≡ true) x xs waits) in
+      All-cons IsThere (record_at x) (map record_at xs) (stands_of x both.0 (All-head (Contains all) x xs there))
       (each_there xs (All-tail (λ y. is_waiting_of id y ≡ true) x xs waits) (All-tail (Contains all) x xs there))
 
+-- the first that waits
 pub waiting_stands : (t : Tables) (id : ℕ) (card : RecordAt) → IsLeastBy place_of (map record_at (filter (is_waiting_of id) t.records)) (Some card)
     → IsStandingIn t (let s : StandingRecord = record { batch = id; card = card } in s)
 waiting_stands t id card least =
     All-contains (IsThere id t.records) (map record_at (filter (is_waiting_of id) t.records)) card
     (each_there id t.records (filter (is_waiting_of id) t.records) (filter_passes (is_waiting_of id) t.records) (All-filter (is_waiting_of id) (Contains t.records) t.records (All-contains_itself t.records)))
     least.0
+
+-- that of a name
+pub named_stands : (t : Tables) (id : ℕ) (n : List ℕ) (card : RecordAt) → Some card ≡ option_map record_at (find (is_record_named id n) t.records)
+    → IsStandingIn t (let s : StandingRecord = record { batch = id; card = card } in s)
+named_stands t id n card card_is =
+    let r = found_some record_at (find (is_record_named id n) t.records) card card_is in
+    let both = and_parts (r.0.batch == id) (bytes_eq r.0.name n) (find_passes (is_record_named id n) t.records r.0 r.1) in
+    subst (IsThere id t.records) (sym r.2) (stands_of id t.records r.0 both.0 (found_there (is_record_named id n) t.records r.0 r.1))

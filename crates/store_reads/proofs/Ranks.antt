@@ -1,51 +1,78 @@
--- The ranks of groupings in turn, and the applications in turn.
-use Rattle.std.proofs.Common.{◌≡◌, ◌≢◌, ◌==◌, ◌||◌, ◌+◌, ◌-◌, ◌<◌, ◌≤◌, ℕ, zero, suc, Bool, cond, true, false, inl, inr, List, [], ◌∷◌, ◌++◌, filter, get_or, length, map, set, take, Bor, IfSome, Option, Some, None, refl, sym, ap, ◌∙◌, arith}
-use Rattle.std.specs.Prelude.{find, is_some, nat_lt, option_and_then, option_copied, option_map, slice_get}
-use Rattle.std.specs.List.{list_any, range_with_len}
-use Rattle.std.proofs.Math.Bool.{or-false}
+-- The first grouping of each rank, of groupings in turn, and the ranks in turn.
+use Rattle.std.proofs.Common.{◌≡◌, ◌≢◌, ◌==◌, ◌+◌, ◌-◌, ◌<◌, ◌≤◌, ℕ, zero, suc, Bool, cond, true, false, inl, inr, List, [], ◌∷◌, ◌++◌, get_or, length, set, take, Option, Some, None, refl, sym, ap, ◌∙◌, arith}
+use Rattle.std.specs.Prelude.{find, is_some, option_map}
+use Rattle.std.specs.Option.{option_or}
+use Rattle.std.specs.List.{cons_option, filter_map, range_with_len}
 use Rattle.std.proofs.lemmas.Bool.{cases_Bool}
 use Rattle.std.proofs.lemmas.Bool.Decides.{nat_tests}
-use Rattle.std.proofs.lemmas.List.{append-nil, get_or-set_other, get_or-set_same, map-append, take_more}
-use Rattle.std.proofs.lemmas.List.Elements.{filter-append}
-use Rattle.std.proofs.lemmas.List.Folds.{list_any-append}
-use Rattle.std.proofs.lemmas.List.Sums.{fold_push}
-use Rattle.std.proofs.lemmas.Option.{none-some, slice_get_read}
-use Rattle.store_data.specs.Groups.{first_appearances, with_key}
+use Rattle.std.proofs.lemmas.List.{append-nil, get_or-set_other, get_or-set_same, take_more}
+use Rattle.std.proofs.lemmas.List.Elements.{filter_map-append}
+use Rattle.std.proofs.lemmas.List.Folds.{find-append}
 use Rattle.row_reads.specs.declared.groupings.GroupingAt.{GroupingAt}
 use Rattle.store_reads.specs.declared.plans.SegmentHead.{SegmentHead}
-use Rattle.store_reads.specs.Segments.{head_of, head_of_rank, ranks_of}
+use Rattle.store_reads.specs.Segments.{head_of_rank, head_with}
 
--- one application more, unless it is there
-pub applications_more : (gs : List GroupingAt) (i : ℕ) (d : GroupingAt) → i < length gs
-    → first_appearances (map (λ (g : GroupingAt). g.aid) (take (i + 1) gs)) ≡ with_key (first_appearances (map (λ (g : GroupingAt). g.aid) (take i gs))) (get_or gs i d).aid
-applications_more gs i d within =
-    let aid : GroupingAt → List ℕ = λ g. g.aid in
-    ap (λ xs. first_appearances (map aid xs)) (take_more gs i d within) ∙ ap first_appearances (map-append aid (take i gs) (get_or gs i d ∷ []))
-    ∙ fold_push with_key [] (map aid (take i gs)) (get_or gs i d).aid
+or_none : (o : Option SegmentHead) → option_or o None ≡ o
+or_none None = refl
+or_none (Some h) = refl
 
--- a grouping has this rank
-abbrev pub any_has : List GroupingAt → ℕ → Bool
-any_has gs k = list_any (λ (g : GroupingAt). g.rank == k) gs
+pub not_some : (o : Option SegmentHead) → is_some o ≡ false → o ≡ None
+not_some None none = refl
+not_some (Some h) none = absurd (cc none)
 
-pub any_more : (gs : List GroupingAt) (i : ℕ) (d : GroupingAt) (k : ℕ) → i < length gs → any_has (take (i + 1) gs) k ≡ (any_has (take i gs) k || ((get_or gs i d).rank == k))
-any_more gs i d k within =
-    ap (λ xs. any_has xs k) (take_more gs i d within) ∙ list_any-append (λ (g : GroupingAt). g.rank == k) (take i gs) (get_or gs i d ∷ [])
-    ∙ ap (λ b. any_has (take i gs) k || b) (or-false ((get_or gs i d).rank == k))
+-- ---- one grouping more
 
-or_true : (b : Bool) → (b || true) ≡ true
-or_true true = refl
-or_true false = refl
+module _ (gs : List GroupingAt) (i : ℕ) (d : GroupingAt) (within : i < length gs) where
+  abbrev one : GroupingAt
+  one = get_or gs i d
 
--- a rank is marked
-pub marked : (has : List Bool) (any : ℕ → Bool) (rank k : ℕ) → rank < length has → get_or has k false ≡ any k → get_or (set has rank true) k false ≡ (any k || (rank == k))
-marked has any rank k within is = elim (cases_Bool (rank == k)) [
-  | inl hit ↦
-      let same : k ≡ rank = grind (arith, nat_tests, hit) in
-      ap (λ n. get_or (set has rank true) n false) same ∙ get_or-set_same has rank true false within ∙ sym (ap (λ b. any k || b) hit ∙ or_true (any k))
-  | inr miss ↦
-      let other : k ≢ rank = grind (arith, nat_tests, miss) in
-      get_or-set_other has rank k true false other ∙ is ∙ sym (ap (λ b. any k || b) miss ∙ or-false (any k))
-]
+  first_more : (k : ℕ) → head_of_rank (take (i + 1) gs) k ≡ option_or (head_of_rank (take i gs) k) (cond (one.rank == k) (Some (head_with k one)) None)
+  first_more k =
+      ap (λ xs. head_of_rank xs k) (take_more gs i d within)
+      ∙ ap (option_map (head_with k)) (find-append (λ (g : GroupingAt). g.rank == k) (take i gs) (one ∷ []))
+      ∙ split (find (λ (g : GroupingAt). g.rank == k) (take i gs)) (one.rank == k)
+    where
+      split : (o : Option GroupingAt) (b : Bool) → option_map (head_with k) (option_or o (cond b (Some one) None)) ≡ option_or (option_map (head_with k) o) (cond b (Some (head_with k one)) None)
+      split (Some g) b = refl
+      split None true = refl
+      split None false = refl
+
+  module _ (firsts : List (Option SegmentHead)) (k : ℕ) (is : get_or firsts k None ≡ head_of_rank (take i gs) k) where
+    -- of another rank
+    other_rank : (one.rank == k) ≡ false → get_or firsts k None ≡ head_of_rank (take (i + 1) gs) k
+    other_rank miss =
+        is ∙ sym (first_more k ∙ ap (λ b. option_or (head_of_rank (take i gs) k) (cond b (Some (head_with k one)) None)) miss ∙ or_none (head_of_rank (take i gs) k))
+
+    -- the first of its rank
+    pub first_put : one.rank < length firsts → get_or firsts one.rank None ≡ None → get_or (set firsts one.rank (Some (head_with one.rank one))) k None ≡ head_of_rank (take (i + 1) gs) k
+    first_put room none = elim (cases_Bool (one.rank == k)) [
+      | inl hit ↦
+          let same : k ≡ one.rank = grind (arith, nat_tests, hit) in
+          let before : head_of_rank (take i gs) k ≡ None = sym is ∙ ap (λ n. get_or firsts n None) same ∙ none in
+          ap (λ n. get_or (set firsts one.rank (Some (head_with one.rank one))) n None) same
+          ∙ get_or-set_same firsts one.rank (Some (head_with one.rank one)) None room
+          ∙ ap (λ n. Some (head_with n one)) (sym same)
+          ∙ sym (first_more k ∙ ap (λ o. option_or o (cond (one.rank == k) (Some (head_with k one)) None)) before ∙ ap (λ b. cond b (Some (head_with k one)) None) hit)
+      | inr miss ↦
+          let other : k ≢ one.rank = grind (arith, nat_tests, miss) in
+          get_or-set_other firsts one.rank k (Some (head_with one.rank one)) None other ∙ other_rank miss
+    ]
+
+    -- not the first of its rank
+    pub first_kept : is_some (get_or firsts one.rank None) ≡ true → get_or firsts k None ≡ head_of_rank (take (i + 1) gs) k
+    first_kept some = elim (cases_Bool (one.rank == k)) [
+      | inl hit ↦
+          let same : k ≡ one.rank = grind (arith, nat_tests, hit) in
+          let there : is_some (head_of_rank (take i gs) k) ≡ true = ap is_some (sym is ∙ ap (λ n. get_or firsts n None) same) ∙ some in
+          is ∙ first_stays (head_of_rank (take i gs) k) there (cond (one.rank == k) (Some (head_with k one)) None) ∙ sym (first_more k)
+      | inr miss ↦ other_rank miss
+    ]
+      where
+        first_stays : (o : Option SegmentHead) → is_some o ≡ true → (more : Option SegmentHead) → o ≡ option_or o more
+        first_stays None there more = absurd (cc there)
+        first_stays (Some h) there more = refl
+
+-- ---- one rank more
 
 range_more : (a n : ℕ) → range_with_len a (n + 1) ≡ range_with_len a n ++ (a + n) ∷ []
 range_more a zero = let e : a + 0 ≡ a = omega arith in rw e refl
@@ -54,38 +81,17 @@ range_more a (suc n) =
     let end : a + 1 + n ≡ a + suc n = omega arith in
     ap (range_with_len a) more ∙ ap (λ ks. a ∷ ks) (range_more (a + 1) n) ∙ ap (λ m. a ∷ (range_with_len (a + 1) n ++ m ∷ [])) end
 
--- one rank more
-pub ranks_more : (p : ℕ → Bool) (k : ℕ) → 1 ≤ k → filter p (range_with_len 1 (k + 1 - 1)) ≡ filter p (range_with_len 1 (k - 1)) ++ cond (p k) (k ∷ []) []
-ranks_more p k least =
-    let n = k - 1 in
-    let more : k + 1 - 1 ≡ n + 1 = omega arith in
-    let at : 1 + n ≡ k = omega arith in
-    ap (λ m. filter p (range_with_len 1 m)) more ∙ ap (filter p) (range_more 1 n) ∙ filter-append p (range_with_len 1 n) ((1 + n) ∷ [])
-    ∙ ap (λ m. filter p (range_with_len 1 n) ++ cond (p m) (m ∷ []) []) at
+module _ (f : ℕ → Option SegmentHead) (k : ℕ) (least : 1 ≤ k) (before after : List SegmentHead) (is : before ≡ filter_map f (range_with_len 1 (k - 1))) where
+  heads_more : filter_map f (range_with_len 1 (k + 1 - 1)) ≡ before ++ cons_option (f k) []
+  heads_more =
+      let n = k - 1 in
+      let more : k + 1 - 1 ≡ n + 1 = omega arith in
+      let at : 1 + n ≡ k = omega arith in
+      ap (λ m. filter_map f (range_with_len 1 m)) more ∙ ap (filter_map f) (range_more 1 n) ∙ filter_map-append f (range_with_len 1 n) ((1 + n) ∷ [])
+      ∙ ap (λ m. filter_map f (range_with_len 1 n) ++ cons_option (f m) []) at ∙ ap (λ hs. hs ++ cons_option (f k) []) (sym is)
 
-module _ (p : ℕ → Bool) (k : ℕ) (least : 1 ≤ k) (before after : List ℕ) (is : before ≡ filter p (range_with_len 1 (k - 1))) where
-  pub rank_kept : p k ≡ true → after ≡ before ++ k ∷ [] → after ≡ filter p (range_with_len 1 (k + 1 - 1))
-  rank_kept hit more = more ∙ ap (λ xs. xs ++ k ∷ []) is ∙ sym (ranks_more p k least ∙ ap (λ b. filter p (range_with_len 1 (k - 1)) ++ cond b (k ∷ []) []) hit)
+  pub head_put : (h : SegmentHead) → f k ≡ Some h → after ≡ before ++ h ∷ [] → after ≡ filter_map f (range_with_len 1 (k + 1 - 1))
+  head_put h hit more = more ∙ sym (heads_more ∙ ap (λ o. before ++ cons_option o []) hit)
 
-  pub rank_passed : p k ≡ false → after ≡ before → after ≡ filter p (range_with_len 1 (k + 1 - 1))
-  rank_passed miss same =
-      same ∙ is ∙ sym (ranks_more p k least ∙ ap (λ b. filter p (range_with_len 1 (k - 1)) ++ cond b (k ∷ []) []) miss ∙ append-nil (filter p (range_with_len 1 (k - 1))))
-
--- a segment without its bytes, by what is found of its rank
-abbrev pub head_with : ℕ → Bool → GroupingAt → SegmentHead
-head_with rank last g = record { aid = g.aid; rank = rank; enc = g.enc; tol = g.tol; last = last }
-
-pub head_read : (gs : List GroupingAt) (q place count rank : ℕ) → place ≡ q → count ≡ length (ranks_of gs) → slice_get (ranks_of gs) q ≡ Some rank
-    → (found : Option GroupingAt) → found ≡ find (λ (g : GroupingAt). g.rank == rank) gs → (made : Option SegmentHead) → made ≡ option_map (head_with rank (place + 1 == count)) found → made ≡ head_of gs q
-head_read gs q place count rank at many is found found_is made made_is =
-    made_is ∙ ap (option_map (head_with rank (place + 1 == count))) found_is
-    ∙ ap (λ n. option_map (head_with rank (n + 1 == count)) (find (λ (g : GroupingAt). g.rank == rank) gs)) at
-    ∙ ap (λ n. option_map (head_with rank (q + 1 == n)) (find (λ (g : GroupingAt). g.rank == rank) gs)) many
-    ∙ sym (ap (option_and_then (head_of_rank gs q)) is)
-
--- what is read at a place of a list
-pub read_at : (xs : List ℕ) (i x : ℕ) (o : Option (Bor ℕ)) → is_some o ≡ nat_lt i (length xs) → IfSome o (λ y. y.now ≡ get_or xs i y.now) → option_copied o ≡ Some x → slice_get xs i ≡ Some x
-read_at xs i x None there value is = absurd (none-some x is)
-read_at xs i x (Some y) there value is =
-    let within : i < length xs = grind (arith, nat_tests, there) in
-    slice_get_read xs (length xs) i y.now refl within value ∙ is
+  pub head_passed : f k ≡ None → after ≡ before → after ≡ filter_map f (range_with_len 1 (k + 1 - 1))
+  head_passed miss same = same ∙ sym (heads_more ∙ ap (λ o. before ++ cons_option o []) miss ∙ append-nil before)

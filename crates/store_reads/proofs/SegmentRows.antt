@@ -27,9 +27,10 @@ use Rattle.table_rows.specs.Keys.{is_batch_named, is_grouping_at, is_record_name
 use Rattle.table_rows.specs.Tables.{StoredBatch, StoredGrouping, StoredRecord}
 use Rattle.table_rows.proofs.Found.{find_passes}
 use Rattle.row_laws.specs.RowValues.{groupings_for, plan_in, row_of}
+use Rattle.store_reads.specs.declared.plans.PlacedHead.{PlacedHead}
 use Rattle.store_reads.specs.declared.plans.SegmentHead.{SegmentHead}
 use Rattle.store_reads.specs.declared.segments.BatchProduct.{BatchProduct}
-use Rattle.store_reads.specs.Segments.{head_at, plan_at, product_in, product_under, row_in_plan}
+use Rattle.store_reads.specs.Segments.{head_at, heads_of, plan_at, product_in, product_under, row_in_plan}
 use Rattle.store_reads.proofs.Found.{found_some}
 use Rattle.store_reads.proofs.Ordered.{Rises, read_in_order}
 use Rattle.store_reads.proofs.SegmentHeads.{bytes_of, filter_both, is_under, segment_by_head, with_bytes}
@@ -142,15 +143,19 @@ module _ (f : Facts) (b r : List ℕ) (a q : ℕ) (law : plan_for f b r ≡ plan
 
 -- ---- a segment of a record, by its groupings
 
-abbrev pub row_of_head : BatchProduct → SegmentHead → List ℕ → SegmentRow
-row_of_head e h bytes = record { aid = h.aid; bytes = bytes; enc = h.enc; tol = h.tol; last = h.last; max = e.product.max; low = e.product.low }
+abbrev pub row_of_head : BatchProduct → PlacedHead → List ℕ → SegmentRow
+row_of_head e p bytes = record { aid = p.head.aid; bytes = bytes; enc = p.head.enc; tol = p.head.tol; last = p.last; max = e.product.max; low = e.product.low }
 
 module _ (f : Facts) (e : BatchProduct) (place a q : ℕ) (r : List ℕ) where
   abbrev own : List StoredGrouping
   own = filter (is_grouping_at e.id place) (stored_groupings f)
 
-  heads_are : Rises grouping_at line_of own → (gs : List GroupingAt) → AreSorted line_of (map grouping_at own) gs → gs ≡ map grouping_at own
-  heads_are rising gs sorted = read_in_order grouping_at line_of own rising gs sorted
+  -- these are the segments of its groupings
+  abbrev AreHeads : List (List SegmentHead) → Type 0
+  AreHeads heads = (gs : List GroupingAt) × AreSorted line_of (map grouping_at own) gs × (heads ≡ heads_of gs)
+
+  heads_are : Rises grouping_at line_of own → (heads : List (List SegmentHead)) → AreHeads heads → heads ≡ heads_of (map grouping_at own)
+  heads_are rising heads are = are.2 ∙ ap heads_of (read_in_order grouping_at line_of own rising are.0 are.1)
 
   bytes_are : Rises grouping_at line_of own → (h : SegmentHead) (cs : List CodedAt) → AreSorted coded_line (map coded_at (filter (is_of_segment e.id place h.aid h.rank) (stored_groupings f))) cs
       → flat_map (λ (g : CodedAt). g.coded) cs ≡ bytes_of (filter (is_under h) own)
@@ -161,17 +166,18 @@ module _ (f : Facts) (e : BatchProduct) (place a q : ℕ) (r : List ℕ) where
       read_in_order coded_at coded_line (filter (is_under h) own) rises cs (subst (λ xs. AreSorted coded_line (map coded_at xs) cs) those sorted) in
       ap (flat_map (λ (g : CodedAt). g.coded)) as_read ∙ flat_map-map (λ (g : CodedAt). g.coded) coded_at (filter (is_under h) own)
 
-  row_by_head : row_in_plan (plan_at f e place r) a q ≡ option_map (segment_row (plan_at f e place r)) (option_map (with_bytes own) (head_at (map grouping_at own) a q))
+  row_by_head : row_in_plan (plan_at f e place r) a q ≡ option_map (segment_row (plan_at f e place r)) (option_map (with_bytes own) (head_at (heads_of (map grouping_at own)) a q))
   row_by_head = ap (option_map (segment_row (plan_at f e place r))) (segment_by_head r own e.product a q)
 
-  module _ (rising : Rises grouping_at line_of own) (gs : List GroupingAt) (sorted : AreSorted line_of (map grouping_at own) gs) where
-    pub row_without_head : None ≡ head_at gs a q → None ≡ row_in_plan (plan_at f e place r) a q
-    row_without_head none =
-        ap (λ o. option_map (segment_row (plan_at f e place r)) (option_map (with_bytes own) o)) (none ∙ ap (λ xs. head_at xs a q) (heads_are rising gs sorted)) ∙ sym row_by_head
+  module _ (rising : Rises grouping_at line_of own) (heads : List (List SegmentHead)) (are : AreHeads heads) where
+    row_by_heads : (o : Option PlacedHead) → o ≡ head_at heads a q → option_map (segment_row (plan_at f e place r)) (option_map (with_bytes own) o) ≡ row_in_plan (plan_at f e place r) a q
+    row_by_heads o is =
+        ap (λ p. option_map (segment_row (plan_at f e place r)) (option_map (with_bytes own) p)) (is ∙ ap (λ hs. head_at hs a q) (heads_are rising heads are)) ∙ sym row_by_head
 
-    pub row_with_head : (h : SegmentHead) → Some h ≡ head_at gs a q
-        → (cs : List CodedAt) → AreSorted coded_line (map coded_at (filter (is_of_segment e.id place h.aid h.rank) (stored_groupings f))) cs
-        → Some (row_of_head e h (flat_map (λ (g : CodedAt). g.coded) cs)) ≡ row_in_plan (plan_at f e place r) a q
-    row_with_head h h_is cs coded =
-        ap (λ bytes. Some (row_of_head e h bytes)) (bytes_are rising h cs coded)
-        ∙ ap (λ o. option_map (segment_row (plan_at f e place r)) (option_map (with_bytes own) o)) (h_is ∙ ap (λ xs. head_at xs a q) (heads_are rising gs sorted)) ∙ sym row_by_head
+    pub row_without_head : None ≡ head_at heads a q → None ≡ row_in_plan (plan_at f e place r) a q
+    row_without_head = row_by_heads None
+
+    pub row_with_head : (p : PlacedHead) → Some p ≡ head_at heads a q
+        → (cs : List CodedAt) → AreSorted coded_line (map coded_at (filter (is_of_segment e.id place p.head.aid p.head.rank) (stored_groupings f))) cs
+        → Some (row_of_head e p (flat_map (λ (g : CodedAt). g.coded) cs)) ≡ row_in_plan (plan_at f e place r) a q
+    row_with_head p is cs coded = ap (λ bytes. Some (row_of_head e p bytes)) (bytes_are rising p.head cs coded) ∙ row_by_heads (Some p) is

@@ -1,10 +1,10 @@
 -- A segment of a record's plan by rows: the product of its batch, the marks of its record's
 -- groupings, and the bytes of its own.
 use Rattle.std.specs.Prelude.{◌==◌, ◌+◌, ◌<◌, ◌^◌, ℕ, List, length, map, filter, find, slice_get, Option, option_and_then, option_map}
-use Rattle.std.specs.List.{list_any}
+use Rattle.std.specs.List.{filter_map}
 use Rattle.store_data.specs.declared.row.Product.{Product}
 use Rattle.store_data.specs.Cursor.{segment_at}
-use Rattle.store_data.specs.Groups.{first_appearances, with_the_key}
+use Rattle.store_data.specs.Groups.{grouped}
 use Rattle.store_data.specs.Ranks.{ranks}
 use Rattle.store_data.specs.Sequence.{IsProduct, Plan, plan_of}
 use Rattle.job_facts.specs.declared.rows.SegmentRow.{SegmentRow}
@@ -16,6 +16,7 @@ use Rattle.image_laws.specs.Image.{stored_groupings}
 use Rattle.table_rows.specs.Keys.{is_batch_named, is_grouping_at}
 use Rattle.table_rows.specs.Tables.{StoredBatch}
 use Rattle.row_laws.specs.RowValues.{row_of}
+use Rattle.store_reads.specs.declared.plans.PlacedHead.{PlacedHead}
 use Rattle.store_reads.specs.declared.plans.SegmentHead.{SegmentHead}
 use Rattle.store_reads.specs.declared.segments.BatchProduct.{BatchProduct}
 
@@ -45,27 +46,26 @@ row_in_plan plan a q = option_map (segment_row plan) (segment_at plan a q)
 
 -- ---- a segment without its bytes
 
--- the identifier of application a, by first appearance
-abbrev pub application_at : List GroupingAt → ℕ → Option (List ℕ)
-application_at gs a = slice_get (first_appearances (map (λ (g : GroupingAt). g.aid) gs)) a
+-- the segment of a rank with the marks of this grouping
+abbrev pub head_with : ℕ → GroupingAt → SegmentHead
+head_with r g = record { aid = g.aid; rank = r; enc = g.enc; tol = g.tol }
 
--- the groupings of an application, in file order
-abbrev pub of_application : List GroupingAt → List ℕ → List GroupingAt
-of_application = with_the_key (λ (g : GroupingAt). g.aid)
+-- that of the application with these groupings: with the marks of the rank's first
+abbrev pub head_of_rank : List GroupingAt → ℕ → Option SegmentHead
+head_of_rank own r = option_map (head_with r) (find (λ (g : GroupingAt). g.rank == r) own)
 
--- the ranks of groupings, each once, rising
-abbrev pub ranks_of : List GroupingAt → List ℕ
-ranks_of gs = filter (λ r. list_any (λ (g : GroupingAt). g.rank == r) gs) ranks
+-- those of each rank that has one, by rising rank
+abbrev pub heads_in : List GroupingAt → List SegmentHead
+heads_in own = filter_map (head_of_rank own) ranks
 
--- the segment of a rank, with the marks of the rank's first grouping
-abbrev pub head_of_rank : List GroupingAt → ℕ → ℕ → Option SegmentHead
-head_of_rank gs q r =
-    option_map (λ (g : GroupingAt). record { aid = g.aid; rank = r; enc = g.enc; tol = g.tol; last = q + 1 == length (ranks_of gs) }) (find (λ (g : GroupingAt). g.rank == r) gs)
+-- those of each application of a record with these groupings, the applications by first appearance
+abbrev pub heads_of : List GroupingAt → List (List SegmentHead)
+heads_of gs = map heads_in (grouped (λ (g : GroupingAt). g.aid) gs)
 
--- segment q of the application with these groupings: that of its rank q
-abbrev pub head_of : List GroupingAt → ℕ → Option SegmentHead
-head_of gs q = option_and_then (head_of_rank gs q) (slice_get (ranks_of gs) q)
+-- segment q of an application with these segments
+abbrev pub placed_head : List SegmentHead → ℕ → Option PlacedHead
+placed_head own q = option_map (λ (h : SegmentHead). record { head = h; last = q + 1 == length own }) (slice_get own q)
 
--- segment q of application a of the record with these groupings
-abbrev pub head_at : List GroupingAt → ℕ → ℕ → Option SegmentHead
-head_at gs a q = option_and_then (λ aid. head_of (of_application gs aid) q) (application_at gs a)
+-- segment q of application a of a record with these segments
+abbrev pub head_at : List (List SegmentHead) → ℕ → ℕ → Option PlacedHead
+head_at heads a q = option_and_then (λ own. placed_head own q) (slice_get heads a)

@@ -1,12 +1,13 @@
 //! What is known of the records that were read of late: what of their rows no change touches; and
 //! how one record stands, which need not be among them, up to the next change.
-ghost use Rattle.std.specs.Prelude.{◌≡◌, ◌<◌, ◌^◌, All, IfSome};
+ghost use Rattle.std.specs.Prelude.{◌≡◌, ◌<◌, ◌^◌, IfSome};
 ghost use Rattle.std.proofs.Props.{props};
 ghost use Rattle.store_data.specs.Sequence.{IsProduct};
-ghost use Rattle.row_reads.specs.CardDecoding.{IsGroupingAt, IsRecordAt};
+ghost use Rattle.row_reads.specs.CardDecoding.{IsRecordAt};
 ghost use Rattle.store_reads.specs.Fixed.{leaves_fixed};
 
-use row_reads::{GroupingAt, RecordAt};
+use crate::plans::SegmentHead;
+use row_reads::RecordAt;
 use std::alloc::Global;
 use store_data::{Name, Product};
 use table_rows::Writing;
@@ -22,12 +23,11 @@ pub struct KnownRecord {
     pub(crate) product: Product,
     /// The record's place in its batch, from 0.
     pub(crate) place: u64,
-    /// Its groupings without their bytes, by rising lines.
-    pub(crate) groupings: Vec<GroupingAt>,
+    /// The segments of each of its applications, without their bytes.
+    pub(crate) heads: Vec<Vec<SegmentHead>>,
     ghost id_in_range: { id < 2 ^ 63 },
     ghost place_in_range: { place < 2 ^ 63 },
     ghost product_in_range: { IsProduct product },
-    ghost groupings_in_range: { All IsGroupingAt groupings.items },
 }
 
 /// A record as it stands, in the batch with this id.

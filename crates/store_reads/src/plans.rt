@@ -1,16 +1,16 @@
-//! The segments of a record's plan, by its groupings without their bytes.
-ghost use Rattle.std.specs.Prelude.{◌≡◌, ◌==◌, All, IfOk, find, option_copied};
+//! The segments of a record's plan without their bytes, by its groupings without theirs.
+ghost use Rattle.std.specs.Prelude.{◌≡◌, All, IfOk, map};
 ghost use Rattle.std.specs.List.{flat_map};
+ghost use Rattle.store_data.specs.Groups.{grouped};
 ghost use Rattle.row_reads.specs.CardDecoding.{IsGroupingAt};
 ghost use Rattle.row_reads.specs.declared.groupings.CodedAt.{CodedAt as CodedAtValue};
 ghost use Rattle.row_reads.specs.declared.groupings.GroupingAt.{GroupingAt as GroupingAtValue};
-ghost use Rattle.store_reads.specs.Segments.{application_at, head_at, head_of, of_application};
-ghost use Rattle.store_reads.specs.Segments.{ranks_of};
+ghost use Rattle.store_reads.specs.Segments.{head_at, heads_in, heads_of};
 
 use indexmap::IndexSet;
 use row_reads::{CodedAt, GroupingAt};
 use std::alloc::{AllocError, Global};
-use store_data::{Aid, Bytes, Enc};
+use store_data::{Aid, Bytes, Enc, join_at};
 
 /// A segment of a plan without its bytes: whose it is, and the marks of its groupings.
 #[derive(Clone, Copy)]
@@ -19,107 +19,91 @@ pub(crate) struct SegmentHead {
     pub(crate) rank: u16,
     pub(crate) enc: Enc,
     pub(crate) tol: bool,
+}
+
+/// Such a segment, as its application has it.
+#[derive(Clone, Copy)]
+pub(crate) struct PlacedHead {
+    pub(crate) head: SegmentHead,
     /// Whether it is its application's last.
     pub(crate) last: bool,
 }
 
-// The identifier of application `app` of a record with these groupings.
-fn application_at(
+// These groupings by application, the applications by first appearance.
+fn by_application(
     alloc: Global,
     groupings: &[GroupingAt],
-    app: u16,
-) -> Result<Option<Aid>, AllocError>
-    ensures { IfOk result (λ aid. aid ≡ application_at groupings.now app) }
+) -> Result<Vec<Vec<GroupingAt>>, AllocError>
+    ensures { IfOk result (λ groups. map (λ own. own.items) groups.items
+        ≡ grouped (λ (g : GroupingAtValue). g.aid) groupings.now) }
 {
-    let mut seen = IndexSet::new(alloc);
+    let mut aids = IndexSet::new(alloc);
+    let mut groups = Vec::new(alloc);
     for g in groupings {
-        seen.insert(g.aid)?;
+        let (place, _) = aids.insert_full(g.aid)?;
+        join_at(alloc, &mut groups, place, *g)?;
     }
-    Ok(seen.get_index(usize::from(app)).copied())
-}
-
-// Those of these groupings that have this identifier.
-fn of_application(
-    alloc: Global,
-    groupings: &[GroupingAt],
-    aid: &Aid,
-) -> Result<Vec<GroupingAt>, AllocError>
-    ensures { IfOk result (λ own. own.items ≡ of_application groupings.now aid.now) }
-{
-    let mut own = Vec::new(alloc);
-    own.extend_from_slice(groupings)?;
-    own.retain(|g| g.aid == *aid);
-    Ok(own)
+    Ok(groups)
 }
 
 /// One more than the greatest rank.
 const RANKS: usize = 1000;
 
-// The ranks of these groupings, each once, rising.
-fn ranks_of(alloc: Global, groupings: &[GroupingAt]) -> Result<Vec<u16>, AllocError>
-    requires { All IsGroupingAt groupings.now }
-    ensures { IfOk result (λ ranks. ranks.items ≡ ranks_of groupings.now) }
+// The segments of an application with these groupings, by rising rank.
+fn heads_in(alloc: Global, own: &[GroupingAt]) -> Result<Vec<SegmentHead>, AllocError>
+    requires { All IsGroupingAt own.now }
+    ensures { IfOk result (λ heads. heads.items ≡ heads_in own.now) }
 {
-    let mut has = [false; RANKS];
-    for g in groupings {
-        has[usize::from(g.rank)] = true;
-    }
-    let mut ranks = Vec::new(alloc);
-    for rank in 1..RANKS {
-        if has[rank] {
-            ranks.push(rank as u16)?;
+    let mut firsts = [None; RANKS];
+    for g in own {
+        let rank = usize::from(g.rank);
+        if firsts[rank].is_none() {
+            firsts[rank] = Some(SegmentHead {
+                aid: g.aid,
+                rank: g.rank,
+                enc: g.enc,
+                tol: g.tol,
+            });
         }
     }
-    Ok(ranks)
+    let mut heads = Vec::new(alloc);
+    for rank in 1..RANKS {
+        if let Some(head) = firsts[rank] {
+            heads.push(head)?;
+        }
+    }
+    Ok(heads)
 }
 
-// The first of these groupings that has this rank.
-fn first_of(groupings: &[GroupingAt], rank: u16) -> Option<&GroupingAt>
-    ensures { option_copied result ≡ find (λ (g : GroupingAtValue). g.rank == rank) groupings.now }
-{
-    groupings.iter().find(|g| g.rank == rank)
-}
-
-// Segment `segment` of the application with these groupings, without its bytes.
-fn head_of(
+/// The segments of a record with these groupings, those of each application together, so that one
+/// is found in a time that does not depend on how many there are.
+pub(crate) fn heads_of(
     alloc: Global,
     groupings: &[GroupingAt],
-    segment: u16,
-) -> Result<Option<SegmentHead>, AllocError>
+) -> Result<Vec<Vec<SegmentHead>>, AllocError>
     requires { All IsGroupingAt groupings.now }
-    ensures { IfOk result (λ head. head ≡ head_of groupings.now segment) }
+    ensures { IfOk result
+        (λ heads. map (λ own. own.items) heads.items ≡ heads_of groupings.now) }
 {
-    let ranks = ranks_of(alloc, groupings)?;
+    let groups = by_application(alloc, groupings)?;
+    let mut heads = Vec::with_capacity(alloc, groups.len())?;
+    for own in &groups {
+        heads.push(heads_in(alloc, own.as_slice())?)?;
+    }
+    Ok(heads)
+}
+
+/// Segment `segment` of application `app` of a record with these segments, both from 0.
+pub(crate) fn head_at(heads: &[Vec<SegmentHead>], app: u16, segment: u16) -> Option<PlacedHead>
+    ensures { result ≡ head_at (map (λ own. own.items) heads.now) app segment }
+{
+    let own = heads.get(usize::from(app))?;
     let place = usize::from(segment);
-    let Some(rank) = ranks.get(place).copied() else {
-        return Ok(None);
-    };
-    let last = place + 1 == ranks.len();
-    let first = first_of(groupings, rank).copied();
-    Ok(first.map(|first| SegmentHead {
-        aid: first.aid,
-        rank,
-        enc: first.enc,
-        tol: first.tol,
-        last,
-    }))
-}
-
-/// Segment `segment` of application `app` of a record with these groupings, without its bytes.
-pub(crate) fn head_at(
-    alloc: Global,
-    groupings: &[GroupingAt],
-    app: u16,
-    segment: u16,
-) -> Result<Option<SegmentHead>, AllocError>
-    requires { All IsGroupingAt groupings.now }
-    ensures { IfOk result (λ head. head ≡ head_at groupings.now app segment) }
-{
-    let Some(aid) = application_at(alloc, groupings, app)? else {
-        return Ok(None);
-    };
-    let own = of_application(alloc, groupings, &aid)?;
-    head_of(alloc, own.as_slice(), segment)
+    let head = *own.get(place)?;
+    Some(PlacedHead {
+        head,
+        last: place + 1 == own.len(),
+    })
 }
 
 /// The bytes of groupings, joined.

@@ -1,6 +1,7 @@
 //! What the store answers of a record's state, and which record waits first.
-ghost use Rattle.std.specs.Prelude.{false, ◌<◌, ◌^◌, ◌≡◌};
+ghost use Rattle.std.specs.Prelude.{IsTrue, OnOk, false, ◌<◌, ◌^◌, ◌≡◌};
 ghost use Rattle.sqlite.specs.Held.{state};
+ghost use Rattle.sqlite.specs.State.{HasCleanDisk};
 ghost use Rattle.job_facts.specs.States.{first_waiting, record_state_of};
 ghost use Rattle.row_reads.specs.Reads.{Looks, ReadsRows};
 ghost use Rattle.store_reads.specs.Known.{Knows};
@@ -31,6 +32,28 @@ pub fn record_state<S: Alter>(
     };
     let found = record_named(conn, id, rec)?;
     Ok(found.map(|card| card.stands))
+}
+
+/// Reads how the record of this name in the batch with this id stands. It is known from then on.
+pub(crate) fn note_standing<S: Alter>(
+    conn: &mut Connection<S>,
+    known: &mut Known,
+    id: u64,
+    rec: &Name,
+) -> Result<(), Error>
+    requires idle { conn.old.in_transaction ≡ false }
+    requires knows { Knows (state S.Store conn.old) known.old }
+    requires id { id < 2 ^ 63 }
+    ensures open { HasCleanDisk (state S.Store conn.new)
+        → OnOk result (IsTrue (state S.Store conn.old).is_open) }
+    ensures knows { Knows (state S.Store conn.new) known.new }
+    ensures looks { Looks (state S.Store conn.old) (state S.Store conn.new) }
+{
+    let Some(card) = record_named(conn, id, rec)? else {
+        return Ok(());
+    };
+    known.note(id, &card);
+    Ok(())
 }
 
 // The first waiting record of the batch with this id. It is known from then on how it stands.

@@ -1,22 +1,22 @@
 //! What the store answers of a segment of a record's plan.
-ghost use Rattle.std.specs.Prelude.{All, IfOk, IfSome, IsTrue, false, ℕ, None, Some, ◌≡◌, ◌≤◌};
+ghost use Rattle.std.specs.Prelude.{IfOk, IfSome, IsTrue, false, map, None, ◌<◌, ◌^◌, ◌≡◌, ◌≤◌};
 ghost use Rattle.sqlite.specs.Held.{state};
 ghost use Rattle.sqlite.specs.State.{HasCleanDisk};
 ghost use Rattle.job_facts.specs.declared.rows.SegmentRow.{SegmentRow as SegmentRowValue};
 ghost use Rattle.job_facts.specs.Rows.{segment_row_of};
-ghost use Rattle.row_reads.specs.CardDecoding.{IsGroupingAt, IsRecordAt};
+ghost use Rattle.row_reads.specs.CardDecoding.{IsRecordAt};
 ghost use Rattle.row_reads.specs.Reads.{Looks, ReadsRows};
-ghost use Rattle.store_reads.specs.declared.known.KnownRecord.{KnownRecord as KnownRecordValue};
 ghost use Rattle.store_reads.specs.Fixed.{AreNamedApart, fixed};
-ghost use Rattle.store_reads.specs.Known.{IsAllKnownIn, IsKnownIn, Knows, ShowsSome};
-ghost use Rattle.store_reads.specs.Known.{ReadsKnown, ReadsSome};
+ghost use Rattle.store_reads.specs.Known.{AreHeadsAt, HasNoSegment, IsAllKnownIn, IsKnownIn};
+ghost use Rattle.store_reads.specs.Known.{IsNamed, Knows, ReadsKnown, known_heads};
 ghost use Rattle.store_reads.specs.Segments.{IsBatchProduct, product_in};
 ghost use Rattle.store_reads.specs.ReadsContents.{ReadsContents};
 
 use crate::known::{Known, KnownRecord};
-use crate::plans::{head_at, joined};
+use crate::plans::{SegmentHead, head_at, heads_of, joined};
+use crate::records::note_standing;
 use job_facts::SegmentRow;
-use row_reads::{GroupingAt, RecordAt, batch_by_name, coded_of, groupings_of, record_named};
+use row_reads::{RecordAt, batch_by_name, coded_of, groupings_of, record_named};
 use sqlite::{Alter, Connection, Error};
 use store_data::{Name, Product};
 
@@ -51,6 +51,24 @@ fn product_in<S: Alter>(
     }))
 }
 
+// The segments of the record at this place of the batch with this id, without their bytes.
+fn heads_at<S: Alter>(
+    conn: &mut Connection<S>,
+    id: u64,
+    place: u64,
+) -> Result<Vec<Vec<SegmentHead>>, Error>
+    requires idle { conn.old.in_transaction ≡ false }
+    requires id { id < 2 ^ 63 }
+    requires place { place < 2 ^ 63 }
+    ensures value { ReadsRows (state S.Store conn.old) (state S.Store conn.new) result
+        (λ t heads. AreHeadsAt (fixed t) id place (map (λ own. own.items) heads.items)) }
+    ensures looks { Looks (state S.Store conn.old) (state S.Store conn.new) }
+{
+    let groupings = groupings_of(conn, id, place)?;
+    let heads = heads_of(*groupings.allocator(), groupings.as_slice())?;
+    Ok(heads)
+}
+
 // The record of this name in the batch of this name, if it is there.
 fn record_read<S: Alter>(
     conn: &mut Connection<S>,
@@ -60,11 +78,9 @@ fn record_read<S: Alter>(
     requires { conn.old.in_transaction ≡ false }
     ensures known { ReadsRows (state S.Store conn.old) (state S.Store conn.new) result
         (λ t found. AreNamedApart (fixed t) → IfSome found (IsKnownIn (fixed t))) }
-    ensures named { IfOk result (λ found. IfSome found
-        (λ (k : KnownRecordValue). (k.batch ≡ batch.now) × (k.rec ≡ rec.now))) }
+    ensures named { IfOk result (λ found. IfSome found (IsNamed batch.now rec.now)) }
     ensures none { ReadsContents (state S.Store conn.old) (state S.Store conn.new) result
-        (λ c found. found ≡ None → (a q : ℕ)
-        → None ≡ segment_row_of c.facts batch.now rec.now a q) }
+        (λ c found. found ≡ None → HasNoSegment c.facts batch.now rec.now) }
     ensures looks { Looks (state S.Store conn.old) (state S.Store conn.new) }
 {
     row_laws::batches_by_name();
@@ -76,27 +92,26 @@ fn record_read<S: Alter>(
     let Some(card) = record_named(conn, found.id, rec)? else {
         return Ok(None);
     };
-    let groupings = groupings_of(conn, found.id, card.place)?;
+    let heads = heads_at(conn, found.id, card.place)?;
     Ok(Some(KnownRecord {
         batch: *batch,
         rec: *rec,
         id: found.id,
         product: found.product,
         place: card.place,
-        groupings,
+        heads,
     }))
 }
 
-// The record that stands so, of the batch of another, with these groupings.
-fn beside(other: &KnownRecord, card: &RecordAt, groupings: Vec<GroupingAt>) -> KnownRecord
-    requires card { IsRecordAt card.now }
-    requires groupings { All IsGroupingAt groupings.items }
+// The record that stands so, of the batch of another, with these segments.
+fn beside(other: &KnownRecord, card: &RecordAt, heads: Vec<Vec<SegmentHead>>) -> KnownRecord
+    requires { IsRecordAt card.now }
     ensures batch { result.batch ≡ other.now.batch }
     ensures rec { result.rec ≡ card.now.name }
     ensures id { result.id ≡ other.now.id }
     ensures product { result.product ≡ other.now.product }
     ensures place { result.place ≡ card.now.place }
-    ensures groupings { result.groupings.items ≡ groupings.items }
+    ensures heads { known_heads result ≡ map (λ own. own.items) heads.items }
 {
     KnownRecord {
         batch: other.batch,
@@ -104,36 +119,12 @@ fn beside(other: &KnownRecord, card: &RecordAt, groupings: Vec<GroupingAt>) -> K
         id: other.id,
         product: other.product,
         place: card.place,
-        groupings,
+        heads,
     }
 }
 
-// The record, where one of its batch is known, and how it stands itself: then its groupings alone
-// are read.
-fn record_beside<S: Alter>(
-    conn: &mut Connection<S>,
-    known: &Known,
-    batch: &Name,
-    rec: &Name,
-) -> Result<Option<KnownRecord>, Error>
-    requires { conn.old.in_transaction ≡ false }
-    ensures known { ShowsSome (state S.Store conn.old) (state S.Store conn.new) result
-        (λ t k. AreNamedApart (fixed t) → IsAllKnownIn t known.now → IsKnownIn (fixed t) k) }
-    ensures named { IfOk result (λ found. IfSome found
-        (λ (k : KnownRecordValue). (k.batch ≡ batch.now) × (k.rec ≡ rec.now))) }
-    ensures looks { Looks (state S.Store conn.old) (state S.Store conn.new) }
-{
-    let Some(other) = known.of_batch(batch) else {
-        return Ok(None);
-    };
-    let Some(card) = known.stands(other.id, rec) else {
-        return Ok(None);
-    };
-    let groupings = groupings_of(conn, other.id, card.place)?;
-    Ok(Some(beside(other, card, groupings)))
-}
-
-// The record, if it is there, by what is known or by what is read.
+// The record, if it is there. Where one of its batch is known, and how it stands itself, its
+// groupings alone are read.
 fn record_found<S: Alter>(
     conn: &mut Connection<S>,
     known: &Known,
@@ -144,17 +135,19 @@ fn record_found<S: Alter>(
     ensures known { ReadsRows (state S.Store conn.old) (state S.Store conn.new) result
         (λ t found. AreNamedApart (fixed t) → IsAllKnownIn t known.now
         → IfSome found (IsKnownIn (fixed t))) }
-    ensures named { IfOk result (λ found. IfSome found
-        (λ (k : KnownRecordValue). (k.batch ≡ batch.now) × (k.rec ≡ rec.now))) }
+    ensures named { IfOk result (λ found. IfSome found (IsNamed batch.now rec.now)) }
     ensures none { ReadsContents (state S.Store conn.old) (state S.Store conn.new) result
-        (λ c found. found ≡ None → (a q : ℕ)
-        → None ≡ segment_row_of c.facts batch.now rec.now a q) }
+        (λ c found. found ≡ None → HasNoSegment c.facts batch.now rec.now) }
     ensures looks { Looks (state S.Store conn.old) (state S.Store conn.new) }
 {
-    match record_beside(conn, known, batch, rec)? {
-        Some(card) => Ok(Some(card)),
-        None => record_read(conn, batch, rec),
-    }
+    let Some(other) = known.of_batch(batch) else {
+        return record_read(conn, batch, rec);
+    };
+    let Some(card) = known.stands(other.id, rec) else {
+        return record_read(conn, batch, rec);
+    };
+    let heads = heads_at(conn, other.id, card.place)?;
+    Ok(Some(beside(other, card, heads)))
 }
 
 // ---- a segment
@@ -180,78 +173,26 @@ fn segment_of<S: Alter>(
     row_laws::records_by_name();
     row_laws::plans_by_rows();
     row_laws::groupings_by_place();
-    let alloc = *card.groupings.allocator();
-    let Some(head) = head_at(alloc, card.groupings.as_slice(), app, segment)? else {
+    let Some(placed) = head_at(card.heads.as_slice(), app, segment) else {
         return Ok(None);
     };
+    let head = placed.head;
     let coded = coded_of(conn, card.id, card.place, &head.aid, head.rank)?;
-    let bytes = joined(alloc, coded.as_slice())?;
+    let bytes = joined(*coded.allocator(), coded.as_slice())?;
     Ok(Some(SegmentRow {
         aid: head.aid,
         bytes,
         enc: head.enc,
         tol: head.tol,
-        last: head.last,
+        last: placed.last,
         max: card.product.max,
         low: card.product.low,
     }))
 }
 
-// The segment, where its record is known and has it.
-fn known_segment<S: Alter>(
-    conn: &mut Connection<S>,
-    known: &Known,
-    batch: &Name,
-    rec: &Name,
-    app: u16,
-    segment: u16,
-) -> Result<Option<SegmentRow>, Error>
-    requires idle { conn.old.in_transaction ≡ false }
-    requires knows { Knows (state S.Store conn.old) known.now }
-    ensures value { ReadsSome (state S.Store conn.old) (state S.Store conn.new) result
-        (λ c row. Some row ≡ segment_row_of c.facts batch.now rec.now app segment) }
-    ensures ranged { IfOk result
-        (λ answer. IfSome answer (λ (row : SegmentRowValue). row.low ≤ 31)) }
-    ensures looks { Looks (state S.Store conn.old) (state S.Store conn.new) }
-{
-    row_laws::batches_by_name();
-    row_laws::records_by_name();
-    match known.named(batch, rec) {
-        None => Ok(None),
-        Some(card) => segment_of(conn, card, app, segment),
-    }
-}
-
-// The segment with its record, which is then known.
-fn segment_read<S: Alter>(
-    conn: &mut Connection<S>,
-    known: &mut Known,
-    batch: &Name,
-    rec: &Name,
-    app: u16,
-    segment: u16,
-) -> Result<Option<SegmentRow>, Error>
-    requires idle { conn.old.in_transaction ≡ false }
-    requires knows { Knows (state S.Store conn.old) known.old }
-    ensures value { ReadsContents (state S.Store conn.old) (state S.Store conn.new) result
-        (λ c answer. answer ≡ segment_row_of c.facts batch.now rec.now app segment) }
-    ensures ranged { IfOk result
-        (λ answer. IfSome answer (λ (row : SegmentRowValue). row.low ≤ 31)) }
-    ensures knows { Knows (state S.Store conn.new) known.new }
-    ensures looks { Looks (state S.Store conn.old) (state S.Store conn.new) }
-{
-    row_laws::batches_by_name();
-    row_laws::records_by_name();
-    let Some(card) = record_found(conn, known, batch, rec)? else {
-        return Ok(None);
-    };
-    let row = segment_of(conn, &card, app, segment)?;
-    known.keep(card);
-    Ok(row)
-}
-
 /// Segment `segment` of application `app` of a record, both from 0, if the record has it. Its
-/// record is read unless it is known, and is known from then on.
+/// record is read unless it is known, and is known from then on. Where a known record has no such
+/// segment, how the record stands is read and known.
 pub fn segment<S: Alter>(
     conn: &mut Connection<S>,
     known: &mut Known,
@@ -269,8 +210,20 @@ pub fn segment<S: Alter>(
     ensures knows { Knows (state S.Store conn.new) known.new }
     ensures looks { Looks (state S.Store conn.old) (state S.Store conn.new) }
 {
-    match known_segment(conn, known, batch, rec, app, segment)? {
-        Some(row) => Ok(Some(row)),
-        None => segment_read(conn, known, batch, rec, app, segment),
+    row_laws::batches_by_name();
+    row_laws::records_by_name();
+    if let Some(card) = known.named(batch, rec) {
+        let id = card.id;
+        if let Some(row) = segment_of(conn, card, app, segment)? {
+            return Ok(Some(row));
+        }
+        note_standing(conn, known, id, rec)?;
+        return Ok(None);
     }
+    let Some(card) = record_found(conn, known, batch, rec)? else {
+        return Ok(None);
+    };
+    let row = segment_of(conn, &card, app, segment)?;
+    known.keep(card);
+    Ok(row)
 }

@@ -7,6 +7,7 @@ use Rattle.sqlite.specs.State.{HasCleanDisk}
 use Rattle.image_laws.specs.Image.{image}
 use Rattle.image_laws.specs.WritingOf.{IsPlaceOf}
 use Rattle.row_reads.specs.contracts.records.RecordAt.{the_row}
+use Rattle.store_reads.proofs.ByKnown.{sound_apart}
 use Rattle.store_reads.proofs.KnownRows.{all_known_in, standing_told}
 use Rattle.store_reads.proofs.Placed.{record_placed}
 use Rattle.store_reads.proofs.ReadContents.{shown, shown_then}
@@ -26,7 +27,7 @@ returns-in-Some-stands-clause-value g c clean =
           subst (IsPlaceOf d.facts b r) (sym c.place_at.ensures)
           (record_placed d.facts b r (c.records_by_name.ensures.place d.facts b r) head (shows.1 (image d) is (c.batches_by_name.ensures.once d.facts b sound.facts)) card
           (∥∥₁_elim (all_known_in old c.args.known.now c.requires.knows early shows.0 (image d) is) (Coded-set (coded_option the_row.coded) _ _)
-          (λ all. standing_told (image d) c.args.known.now all head.id r card c.in-Some-stands.ensures.known (c.records_by_name.ensures.once d.facts head.id r)))),
+          (λ all. standing_told (image d) c.args.known.now (sound_apart c.batches_by_name.ensures.once c.records_by_name.ensures.once d sound) all head.id r card c.in-Some-stands.ensures.known))),
     )
 
 pub returns-clause-value : goal.returns-clause-value

@@ -36,9 +36,9 @@ returns-clause-known g c =
     let old = state g.S.Store c.args.conn.now in
     let mid = state g.S.Store c.product_in.new.conn in
     let late = state g.S.Store c.record_named.new.conn in
-    let new = state g.S.Store c.groupings_of.new.conn in
-    rows_then old late new _ _ _ (looks_then old mid late c.product_in.ensures.looks c.record_named.ensures.looks) c.groupings_of.ensures.looks
+    let new = state g.S.Store c.heads_at.new.conn in
+    rows_then old late new _ _ _ (looks_then old mid late c.product_in.ensures.looks c.record_named.ensures.looks) c.heads_at.ensures.looks
     (rows_both old mid late _ _ c.product_in.ensures.looks c.record_named.ensures.looks
     (rw c.in-Some.is at c.in_ok-found.ensures.value) (rw c.in-Some-2.is at c.in_ok-card.ensures.found))
-    c.in_ok-groupings.ensures.found
-    (λ t both sorted apart. read_known t _ e (both.0 apart) x (both.1 (records_once t apart e.id r)) sorted refl refl refl)
+    c.in_ok-heads.ensures.value
+    (λ t both heads apart. read_known t _ e (both.0 apart) x (both.1 (records_once t apart e.id r)) heads refl refl refl)
