@@ -42,7 +42,11 @@ pub struct ServeTask<'a> {
 }
 
 impl StoreTask for ServeTask<'_> {
+    ghost use Rattle.persod.specs.Tasks.{Serves};
+
     type Done = End;
+
+    ghost ran = { Serves };
 
     fn perform<D: Disk + Drop>(self, store: SqlStore<FileStore<D>>, found: Found) -> End {
         let ServeTask {
@@ -86,7 +90,11 @@ pub struct ReportTask<'a> {
 }
 
 impl StoreTask for ReportTask<'_> {
+    ghost use Rattle.persod.specs.Tasks.{ReportsBatch};
+
     type Done = End;
+
+    ghost ran = { ReportsBatch };
 
     fn perform<D: Disk + Drop>(self, store: SqlStore<FileStore<D>>, _found: Found) -> End {
         let ReportTask { rt, batch } = self;

@@ -1,1 +1,3 @@
 pub mod Unopened
+pub mod Ending
+pub mod Files

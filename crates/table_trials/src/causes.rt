@@ -14,7 +14,11 @@ use store_files::{Found, Place, StoreTask, place_of, with_store};
 struct Closed;
 
 impl StoreTask for Closed {
+    ghost use Rattle.std.specs.Prelude.{◌≡◌, IfSome};
+
     type Done = Option<Found>;
+
+    ghost ran = { λ _ found _ _ done. IfSome done (λ said. said ≡ found) };
 
     fn perform<D: Disk + Drop>(self, store: SqlStore<FileStore<D>>, found: Found) -> Option<Found> {
         match store.close().close() {

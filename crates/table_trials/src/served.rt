@@ -69,7 +69,11 @@ struct Asked<'a> {
 }
 
 impl StoreTask for Asked<'_> {
+    ghost use Rattle.std.specs.Prelude.{⊤};
+
     type Done = io::Result<Vec<String>>;
+
+    ghost ran = { λ _ _ _ _ _. ⊤ };
 
     fn perform<D: Disk + Drop>(
         self,
@@ -136,7 +140,11 @@ struct Run<'a> {
 }
 
 impl StoreTask for Run<'_> {
+    ghost use Rattle.std.specs.Prelude.{⊤};
+
     type Done = io::Result<Ran>;
+
+    ghost ran = { λ _ _ _ _ _. ⊤ };
 
     fn perform<D: Disk + Drop>(
         self,
@@ -194,7 +202,11 @@ struct Reported<'a> {
 }
 
 impl StoreTask for Reported<'_> {
+    ghost use Rattle.std.specs.Prelude.{⊤};
+
     type Done = Result<Vec<u8>, AccountFault>;
+
+    ghost ran = { λ _ _ _ _ _. ⊤ };
 
     fn perform<D: Disk + Drop>(
         self,

@@ -1,0 +1,68 @@
+-- What a task over the store of a file comes to (this project's profile). Of the process's own
+-- streams no bytes are known.
+use Rattle.std.specs.Prelude.{◌≡◌, ◌⊎◌, List, false, length, None, OnOk, Result, Ok, Err, ⊤}
+use Rattle.job_facts.specs.declared.refusal.Refusal.TheVariants.{BatchUnknown}
+use Rattle.job_facts.specs.declared.store.StoreFault.{StoreFault}
+use Rattle.job_facts.specs.Store.{CountsFaults, State, Stays}
+use Rattle.reports.specs.Answers.{MayReport, Reports, store_answer}
+use Rattle.reports.specs.Report.{report_text}
+use Rattle.reports.specs.declared.fault.AccountFault.{AccountFault}
+use Rattle.server.specs.Exchanges.{Exchange, ServesAll}
+use Rattle.server.specs.ObservedRuns.{NotesRun}
+use Rattle.server.specs.ServerLines.{WritesLines}
+use Rattle.server.specs.declared.opening.Opened.{Opened}
+use Rattle.server.specs.declared.stopping.ServeStop.{ServeStop}
+use Rattle.store_files.specs.declared.file.Found.{Found}
+use Rattle.subcommands.specs.Ends.{end_of_account, end_of_serve_stop}
+use Rattle.subcommands.specs.Joins.{end_of_close}
+use Rattle.subcommands.specs.declared.end.End.{End}
+use Rattle.subcommands.specs.declared.end.End.TheVariants.{Done, PortFailed}
+use Rattle.persod.specs.declared.tasks.ReportTask.{ReportTask}
+use Rattle.persod.specs.declared.tasks.ServeTask.{ServeTask}
+
+-- it ends so, unless the close of the store fails; where that goes well, the file is whole
+abbrev pub EndsClosed : Type 0 → End → End → Type 0
+EndsClosed whole last end = (closing : Result (Unit {0}) StoreFault) × OnOk closing whole × (end ≡ end_of_close last closing)
+
+-- ---- `serve`
+
+abbrev pub end_of_serve : Result (Unit {0}) ServeStop → End
+end_of_serve (Ok u) = Done
+end_of_serve (Err stop) = end_of_serve_stop stop
+
+-- the event line of the file names its path and says how it was found
+abbrev pub IsOpening : ServeTask → Found → Opened → Type 0
+IsOpening task found opened = (opened.path.now ≡ task.path.now) × (opened.is_new ≡ found.is_new) × (opened.has_log ≡ found.has_log)
+
+-- Connections were served over the store, and it was closed.
+pub record ServesFile (task : ServeTask) (found : Found) (old last : State) (whole : Type 0) (end : End) : Type 0 where
+  pub opened : Opened
+  pub exchanges : List Exchange
+  pub result : Result (Unit {0}) ServeStop
+  pub opening : IsOpening task found opened
+  pub serves : ServesAll old last exchanges
+  pub writes : WritesLines whole (λ _. ⊤) task.port task.turns (length exchanges) None None result
+  pub notes : NotesRun whole old last false opened exchanges result task.level None None
+  pub ends : end ≡ end_of_serve result
+
+-- or there was no port, and nothing was done
+abbrev pub Serves : ServeTask → Found → State → ((State → Type 0 → Type 0) → Type 0) → End → Type 0
+Serves task found old at_end end = at_end (λ last whole. ServesFile task found old last whole end ⊎ (Stays old last × EndsClosed whole PortFailed end))
+
+-- ---- `report`
+
+abbrev pub end_of_report : Result (Unit {0}) AccountFault → End
+end_of_report (Ok u) = Done
+end_of_report (Err fault) = end_of_account fault
+
+-- The batch was reported, the store stayed as it was, and it was closed.
+pub record ReportsFile (task : ReportTask) (old last : State) (whole : Type 0) (end : End) : Type 0 where
+  pub result : Result (Unit {0}) AccountFault
+  pub stays : Stays old last
+  pub reports : Reports old last BatchUnknown (λ c. report_text c.facts task.batch) None None result
+  pub cause : MayReport BatchUnknown result
+  pub faults : CountsFaults old last (store_answer result)
+  pub ends : EndsClosed whole (end_of_report result) end
+
+abbrev pub ReportsBatch : ReportTask → Found → State → ((State → Type 0 → Type 0) → Type 0) → End → Type 0
+ReportsBatch task found old at_end end = at_end (λ last whole. ReportsFile task old last whole end)
