@@ -1,0 +1,4 @@
+pub mod AccountLemmas
+pub mod BetweenLemmas
+pub mod KeyedLemmas
+pub mod LotLemmas
