@@ -1,4 +1,0 @@
-pub mod AccountLemmas
-pub mod BetweenLemmas
-pub mod KeyedLemmas
-pub mod LotLemmas

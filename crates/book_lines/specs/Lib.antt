@@ -1,7 +1,0 @@
-pub mod Lines
-pub mod Views
-pub mod Lists
-pub mod Book
-pub mod Keyed
-pub mod Blanks
-pub mod Counts
