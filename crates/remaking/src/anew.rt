@@ -1,7 +1,8 @@
 //! Our tables of any version are dropped and made anew, in an open transaction.
-ghost use Rattle.std.specs.Prelude.{◌≡◌, ◌++◌, map};
+ghost use Rattle.std.specs.Prelude.{◌≡◌, ◌++◌, ⊤, map};
 ghost use Rattle.sqlite.specs.Held.{state};
 ghost use Rattle.sqlite.specs.State.{HasCleanDisk, Survives};
+ghost use Rattle.sql_base.specs.Causes.{ReportsCause};
 ghost use Rattle.sql_base.specs.Ends.{Wrote};
 ghost use Rattle.remaking.specs.Anew.{DropsAll, MakesAnew};
 ghost use Rattle.remaking.specs.Drop.{DropsTable};
@@ -61,6 +62,8 @@ struct Dropping;
 impl<'a> Runs<&'a str> for Dropping {
     ghost makes = { λ text. DropsTable text.now };
 
+    ghost explains = { ⊤ };
+
     fn run<S: Alter>(tx: &mut Transaction<'_, S>, text: &&'a str) -> Result<usize, Error> {
         tx.execute(text, &[])
     }
@@ -74,6 +77,8 @@ fn drop_all<S: Alter>(tx: &mut Transaction<'_, S>, version: Version) -> Result<(
         (state S.Store tx.new.conn.now) result }
     ensures survives { Survives (state S.Store tx.old.conn.now) (state S.Store tx.new.conn.now)
         (λ _. ⊥) }
+    ensures cause { HasCleanDisk (state S.Store tx.new.conn.now)
+        → ReportsCause (state S.Store tx.old.conn.now) (state S.Store tx.new.conn.now) result }
 {
     let (own, shared) = drops_of(version);
     run_both::<Dropping, &str, S>(tx, own, shared)
@@ -91,6 +96,8 @@ pub(crate) fn make_anew<S: Alter>(
         (state S.Store tx.new.conn.now) result }
     ensures survives { Survives (state S.Store tx.old.conn.now) (state S.Store tx.new.conn.now)
         (λ _. ⊥) }
+    ensures cause { HasCleanDisk (state S.Store tx.new.conn.now)
+        → ReportsCause (state S.Store tx.old.conn.now) (state S.Store tx.new.conn.now) result }
 {
     drop_all(tx, version)?;
     make_all(tx)?;

@@ -1,8 +1,9 @@
 //! The bytes of batches are set, in an open transaction. A crash before its end leaves nothing of
 //! it.
-ghost use Rattle.std.specs.Prelude.{◌≡◌};
+ghost use Rattle.std.specs.Prelude.{◌≡◌, ⊤};
 ghost use Rattle.sqlite.specs.Held.{state};
-ghost use Rattle.sqlite.specs.State.{Survives};
+ghost use Rattle.sqlite.specs.State.{HasCleanDisk, Survives};
+ghost use Rattle.sql_base.specs.Causes.{ReportsCause};
 ghost use Rattle.sql_rows.specs.Image.{Moves};
 ghost use Rattle.sql_rows.specs.Many.{WritesMany};
 ghost use Rattle.remaking.specs.Rows.{with_bytes, with_each};
@@ -18,6 +19,8 @@ struct Bytes;
 
 impl Runs<StoredBatch> for Bytes {
     ghost makes = { λ batch. Moves (with_bytes batch) };
+
+    ghost explains = { ⊤ };
 
     fn run<S: Alter>(tx: &mut Transaction<'_, S>, batch: &StoredBatch) -> Result<usize, Error> {
         if !fit(batch.id, 0, 0, 0) {
@@ -38,6 +41,8 @@ pub(crate) fn set_bytes<S: Alter>(
         (state S.Store tx.old.conn.now) (state S.Store tx.new.conn.now) result }
     ensures survives { Survives (state S.Store tx.old.conn.now) (state S.Store tx.new.conn.now)
         (λ _. ⊥) }
+    ensures cause { HasCleanDisk (state S.Store tx.new.conn.now)
+        → ReportsCause (state S.Store tx.old.conn.now) (state S.Store tx.new.conn.now) result }
 {
     run_each::<Bytes, StoredBatch, S>(tx, batches)
 }

@@ -3,6 +3,7 @@
 ghost use Rattle.std.specs.Prelude.{◌≡◌, OnOk};
 ghost use Rattle.sqlite.specs.Held.{state};
 ghost use Rattle.sqlite.specs.State.{HasCleanDisk, Survives};
+ghost use Rattle.sql_base.specs.Causes.{ReportsCause};
 ghost use Rattle.sql_rows.specs.Image.{IsImage};
 ghost use Rattle.table_rows.specs.Tables.{no_rows};
 ghost use Rattle.sql_rows.specs.Many.{WritesMany};
@@ -25,6 +26,8 @@ pub(crate) fn fill<S: Alter>(tx: &mut Transaction<'_, S>, tables: &Tables) -> Re
         → IsImage tables.now (state S.Store tx.new.conn.now).now) }
     ensures survives { Survives (state S.Store tx.old.conn.now) (state S.Store tx.new.conn.now)
         (λ _. ⊥) }
+    ensures cause { HasCleanDisk (state S.Store tx.new.conn.now)
+        → ReportsCause (state S.Store tx.old.conn.now) (state S.Store tx.new.conn.now) result }
 {
     fill_bare(tx, tables)?;
     set_bytes(tx, tables.batches.as_slice())
@@ -37,6 +40,8 @@ fn fill_bare<S: Alter>(tx: &mut Transaction<'_, S>, tables: &Tables) -> Result<(
         (state S.Store tx.new.conn.now) result }
     ensures survives { Survives (state S.Store tx.old.conn.now) (state S.Store tx.new.conn.now)
         (λ _. ⊥) }
+    ensures cause { HasCleanDisk (state S.Store tx.new.conn.now)
+        → ReportsCause (state S.Store tx.old.conn.now) (state S.Store tx.new.conn.now) result }
 {
     put_all(tx, tables.products.as_slice())?;
     put_all(tx, tables.lots.as_slice())?;

@@ -1,8 +1,9 @@
 //! A row is put into its table, and a list of rows, in an open transaction. A crash before its end
 //! leaves nothing of it.
-ghost use Rattle.std.specs.Prelude.{◌≡◌, ◌<◌, ◌^◌, IsTrue};
+ghost use Rattle.std.specs.Prelude.{◌≡◌, ◌<◌, ◌^◌, ⊤, IsTrue};
 ghost use Rattle.sqlite.specs.Held.{state};
-ghost use Rattle.sqlite.specs.State.{Survives};
+ghost use Rattle.sqlite.specs.State.{HasCleanDisk, Survives};
+ghost use Rattle.sql_base.specs.Causes.{ReportsCause};
 ghost use Rattle.sql_rows.specs.Writes.{WritesRows};
 ghost use Rattle.table_rows.specs.Tables.{Tables};
 ghost use Rattle.sql_rows.specs.Image.{Moves};
@@ -37,7 +38,10 @@ pub(crate) trait Put {
         ensures wrote { WritesRows (with_row self.now) (state S.Store tx.old.conn.now)
             (state S.Store tx.new.conn.now) result }
         ensures survives { Survives (state S.Store tx.old.conn.now)
-            (state S.Store tx.new.conn.now) (λ _. ⊥) };
+            (state S.Store tx.new.conn.now) (λ _. ⊥) }
+        ensures cause { HasCleanDisk (state S.Store tx.new.conn.now)
+            → ReportsCause (state S.Store tx.old.conn.now)
+            (state S.Store tx.new.conn.now) result };
 }
 
 // The statements that put rows in.
@@ -45,6 +49,8 @@ struct Putting;
 
 impl<T: Put> Runs<T> for Putting {
     ghost makes = { λ row. Moves (T.with_row row) };
+
+    ghost explains = { ⊤ };
 
     fn run<S: Alter>(tx: &mut Transaction<'_, S>, row: &T) -> Result<usize, Error> {
         row.put(tx)
@@ -61,6 +67,8 @@ pub(crate) fn put_all<T: Put, S: Alter>(
         (state S.Store tx.new.conn.now) result }
     ensures survives { Survives (state S.Store tx.old.conn.now) (state S.Store tx.new.conn.now)
         (λ _. ⊥) }
+    ensures cause { HasCleanDisk (state S.Store tx.new.conn.now)
+        → ReportsCause (state S.Store tx.old.conn.now) (state S.Store tx.new.conn.now) result }
 {
     run_each::<Putting, T, S>(tx, rows)
 }

@@ -1,7 +1,8 @@
 //! A database of our tables of any version is made anew, with rows, in one transaction.
-ghost use Rattle.std.specs.Prelude.{◌≡◌, false, OnErr, OnOk};
+ghost use Rattle.std.specs.Prelude.{◌≡◌, ⊤, false, IfErr, OnErr, OnOk};
 ghost use Rattle.sqlite.specs.Held.{state};
 ghost use Rattle.sqlite.specs.State.{HasCleanDisk, Survives};
+ghost use Rattle.sql_base.specs.Causes.{HadCause};
 ghost use Rattle.sql_base.specs.Ends.{Ends, IsKept, IsLeft};
 ghost use Rattle.remaking.specs.Remakes.{Remakes};
 
@@ -21,6 +22,8 @@ struct Remaking<'a> {
 
 impl<'a> UnitOfWork for Remaking<'a> {
     ghost makes = { λ remaking. Remakes remaking.version remaking.tables.now };
+
+    ghost explains = { ⊤ };
 
     fn run<S: Alter>(&self, tx: &mut Transaction<'_, S>) -> Result<(), Error> {
         make_anew(tx, self.version)?;
@@ -44,6 +47,8 @@ pub fn remake<S: Alter>(
     ensures idle { conn.new.in_transaction ≡ false }
     ensures crash { Survives (state S.Store conn.old) (state S.Store conn.new)
         (IsLeft (Remakes version tables.now) (state S.Store conn.old)) }
+    ensures cause { HasCleanDisk (state S.Store conn.new) → IfErr result
+        (HadCause S.Store (state S.Store conn.old) (state S.Store conn.new)) }
 {
     transact(conn, &Remaking { version, tables })
 }

@@ -1,7 +1,8 @@
 //! Rows that change, in an open transaction. A crash before its end leaves nothing of it.
 ghost use Rattle.std.specs.Prelude.{◌≡◌, ◌<◌, ◌^◌};
 ghost use Rattle.sqlite.specs.Held.{state};
-ghost use Rattle.sqlite.specs.State.{Survives};
+ghost use Rattle.sqlite.specs.State.{HasCleanDisk, Survives};
+ghost use Rattle.sql_base.specs.Causes.{ReportsCause};
 ghost use Rattle.sql_rows.specs.Encoding.{record_code};
 ghost use Rattle.sql_rows.specs.Writes.{WritesRows};
 ghost use Rattle.row_writes.specs.Raw.{with_raw_set};
@@ -94,6 +95,8 @@ pub fn set_raw<S: Alter>(
         (state S.Store tx.new.conn.now) result }
     ensures survives { Survives (state S.Store tx.old.conn.now) (state S.Store tx.new.conn.now)
         (λ _. ⊥) }
+    ensures cause { HasCleanDisk (state S.Store tx.new.conn.now)
+        → ReportsCause (state S.Store tx.old.conn.now) (state S.Store tx.new.conn.now) result }
 {
     tx.execute(
         "UPDATE batch SET raw = ?2 WHERE id = ?1",

@@ -1,8 +1,9 @@
 //! One row more, in an open transaction. A crash before its end leaves nothing of it.
 ghost use Rattle.std.specs.Prelude.{◌≡◌, ◌<◌, ◌^◌};
 ghost use Rattle.sqlite.specs.Held.{state};
-ghost use Rattle.sqlite.specs.State.{Survives};
+ghost use Rattle.sqlite.specs.State.{HasCleanDisk, Survives};
 ghost use Rattle.job_facts.specs.Contents.{Mark};
+ghost use Rattle.sql_base.specs.Causes.{ReportsCause};
 ghost use Rattle.sql_rows.specs.Writes.{WritesRows};
 ghost use Rattle.table_rows.specs.After.{new_lot};
 ghost use Rattle.table_rows.specs.Kept.{kept_reply};
@@ -76,6 +77,8 @@ pub fn add_remake<S: Alter>(
         (state S.Store tx.new.conn.now) result }
     ensures survives { Survives (state S.Store tx.old.conn.now) (state S.Store tx.new.conn.now)
         (λ _. ⊥) }
+    ensures cause { HasCleanDisk (state S.Store tx.new.conn.now)
+        → ReportsCause (state S.Store tx.old.conn.now) (state S.Store tx.new.conn.now) result }
 {
     tx.execute(
         "INSERT INTO remake (batch, place, turn) VALUES (?1, ?2, ?3)",

@@ -1,7 +1,7 @@
 //! The tables are made in an empty database.
 ghost use Rattle.std.specs.Prelude.{◌≡◌, ◌↔◌, ⊤, false, IfErr, IsTrue, OnErr, OnOk};
 ghost use Rattle.sqlite.specs.Held.{state};
-ghost use Rattle.sqlite.specs.State.{HasCleanDisk, Survives};
+ghost use Rattle.sqlite.specs.State.{HasCleanDisk, Survives, is_disk_error};
 ghost use Rattle.sqlite.specs.Steps.{over_memory};
 ghost use Rattle.sql_base.specs.Causes.{HadCause, ReportsCause};
 ghost use Rattle.sql_base.specs.Ends.{Ends, IsKept, IsLeft, Wrote};
@@ -105,11 +105,13 @@ pub fn make_tables<S: Alter>(conn: &mut Connection<S>) -> Result<(), Error>
     transact(conn, &All)
 }
 
-// Makes the tables and the indices of a version in memory, in one transaction.
+// Makes the tables and the indices of a version in memory, in one transaction. There is no disk, so
+// no error is one of the disk.
 pub(crate) fn make_in_memory(conn: &mut Connection<MemStore>, version: Version) -> Result<(), Error>
     requires { conn.old.in_transaction ≡ false }
-    ensures { OnOk result (MakesVersion version (state over_memory conn.old).now
+    ensures made { OnOk result (MakesVersion version (state over_memory conn.old).now
         (state over_memory conn.new).now) }
+    ensures cause { IfErr result (λ e. is_disk_error e ≡ false) }
 {
     let mut tx = conn.transaction();
     make_version(&mut tx, version)?;

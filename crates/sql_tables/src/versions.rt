@@ -1,6 +1,8 @@
 //! The versions of our tables, each made in memory.
-ghost use Rattle.std.specs.Prelude.{◌≡◌, ◌↔◌, IfOk, IfSome, IsTrue, MatchOption};
+ghost use Rattle.std.specs.Prelude.{◌≡◌, ◌↔◌, false, IfErr, IfOk, IfSome, IsTrue};
+ghost use Rattle.std.specs.Prelude.{MatchOption, MatchResult};
 ghost use Rattle.sqlite.specs.Held.{state};
+ghost use Rattle.sqlite.specs.State.{is_disk_error};
 ghost use Rattle.sql_tables.specs.Alike.{HasJust};
 ghost use Rattle.sql_tables.specs.Ours.{AreThere};
 ghost use Rattle.sql_tables.specs.Versions.{schema_of};
@@ -22,10 +24,11 @@ pub enum Version {
     Three,
 }
 
-/// The schema of a version, by making its tables in memory. Their order and numbers are of no
-/// matter.
+/// The schema of a version, by making its tables in memory, where no error is one of the disk.
+/// Their order and numbers are of no matter.
 pub fn tables_of(alloc: Global, version: Version) -> Result<Schema, Error>
-    ensures { IfOk result (λ schema. schema ≡ schema_of version) }
+    ensures { MatchResult result (λ schema. schema ≡ schema_of version)
+        (λ e. is_disk_error e ≡ false) }
 {
     let mut conn = Connection::open_in_memory(alloc)?;
     make_in_memory(&mut conn, version)?;
@@ -41,19 +44,21 @@ fn has_version<S: Alter>(
         ↔ HasJust (state S.Store conn.now).now.schema (schema_of version)) }
     ensures there { IsTrue (state S.Store conn.now).is_open → IfOk result (λ has. IsTrue has
         → AreThere (state S.Store conn.now).now.schema (schema_of version).tables) }
+    ensures cause { IfErr result (λ e. is_disk_error e ≡ false) }
 {
     let ours = tables_of(alloc, version)?;
     Ok(has_just(conn.schema(), &ours))
 }
 
 /// Which version's tables a database has, in any order and with nothing beside them but indices
-/// that are no keys. Each of them is then found by its name.
+/// that are no keys. Each of them is then found by its name. No error is one of the disk.
 pub fn version_in<S: Alter>(alloc: Global, conn: &Connection<S>) -> Result<Option<Version>, Error>
     ensures exact { IfOk result (λ found. MatchOption found
         ((v : _) → ¬ HasJust (state S.Store conn.now).now.schema (schema_of v))
         (λ v. HasJust (state S.Store conn.now).now.schema (schema_of v))) }
     ensures there { IsTrue (state S.Store conn.now).is_open → IfOk result (λ found. IfSome found
         (λ v. AreThere (state S.Store conn.now).now.schema (schema_of v).tables)) }
+    ensures cause { IfErr result (λ e. is_disk_error e ≡ false) }
 {
     if has_version(alloc, conn, Version::Three)? {
         return Ok(Some(Version::Three));

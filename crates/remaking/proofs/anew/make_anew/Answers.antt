@@ -1,5 +1,6 @@
 use Rattle.std.proofs.Common.{Ok, arith}
 use Rattle.sqlite.specs.Held.{state}
+use Rattle.sql_base.proofs.Causing.{passed_on, passed_since}
 use Rattle.sql_base.proofs.Ending.{failed_wrote, wrote_then}
 use Rattle.sql_tables.specs.Opening.{MakesAll}
 use Rattle.remaking.specs.Anew.{DropsAll, MakesAnew}
@@ -24,3 +25,15 @@ returns-in_err-make_all-clause-made g c clean =
 
 pub returns-in_err-drop_all-clause-made : goal.returns-in_err-drop_all-clause-made
 returns-in_err-drop_all-clause-made g c clean = failed_wrote (MakesAnew c.args.version) _ _ c.from_residual.result c.from_residual.ensures.0 (c.in_err-drop_all.ensures.made clean).kept
+
+pub returns-in_err-make_all-clause-cause : goal.returns-in_err-make_all-clause-cause
+returns-in_err-make_all-clause-cause g c clean =
+    let a = state g.S.Store c.args.tx.now.conn.now in
+    let b = state g.S.Store c.drop_all.new.tx.conn.now in
+    let d = state g.S.Store c.make_all.new.tx.conn.now in
+    let r = c.from_residual-in_err-make_all in
+    passed_since a b d r.result c.drop_all.ensures.survives.counts c.in_err-make_all.field-0.0 r.ensures.1 (c.in_err-make_all.ensures.cause clean)
+
+pub returns-in_err-drop_all-clause-cause : goal.returns-in_err-drop_all-clause-cause
+returns-in_err-drop_all-clause-cause g c clean =
+    passed_on (state g.S.Store c.args.tx.now.conn.now) (state g.S.Store c.drop_all.new.tx.conn.now) c.in_err-drop_all.field-0.0 c.from_residual.result c.from_residual.ensures.1 (c.in_err-drop_all.ensures.cause clean)

@@ -1,6 +1,7 @@
 use Rattle.std.proofs.Common.{ap, subst, arith}
 use Rattle.sqlite.specs.Held.{state}
 use Rattle.sqlite.specs.State.{HasCleanDisk}
+use Rattle.sql_base.proofs.Causing.{passed_on, reports_since}
 use Rattle.sql_rows.specs.Image.{Moves}
 use Rattle.sql_rows.specs.Many.{WroteMany}
 use Rattle.table_rows.specs.Tables.{Tables}
@@ -26,3 +27,14 @@ returns-clause-alone g c clean =
     let s0 = state g.S.Store c.args.tx.now.conn.now in
     let s2 = state g.S.Store c.set_bytes.new.tx.conn.now in
     made_alone c.args.tables.now s0 s2 c.set_bytes.result (returns-clause-wrote g c clean)
+
+pub returns-clause-cause : goal.returns-clause-cause
+returns-clause-cause g c clean =
+    let s0 = state g.S.Store c.args.tx.now.conn.now in
+    let s1 = state g.S.Store c.fill_bare.new.tx.conn.now in
+    let s2 = state g.S.Store c.set_bytes.new.tx.conn.now in
+    reports_since s0 s1 s2 c.set_bytes.result c.fill_bare.ensures.survives.counts (c.set_bytes.ensures.cause clean)
+
+pub returns-in_err-fill_bare-clause-cause : goal.returns-in_err-fill_bare-clause-cause
+returns-in_err-fill_bare-clause-cause g c clean =
+    passed_on (state g.S.Store c.args.tx.now.conn.now) (state g.S.Store c.fill_bare.new.tx.conn.now) c.in_err-fill_bare.field-0.0 c.from_residual.result c.from_residual.ensures.1 (c.in_err-fill_bare.ensures.cause clean)

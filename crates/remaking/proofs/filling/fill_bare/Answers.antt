@@ -1,6 +1,7 @@
 use Rattle.std.proofs.Common.{ap, arith}
 use Rattle.sqlite.specs.Held.{state}
 use Rattle.sqlite.specs.State.{HasCleanDisk}
+use Rattle.sql_base.proofs.Causing.{passed_on, passed_since, reports_since}
 use Rattle.table_rows.specs.Tables.{Tables}
 use Rattle.remaking.specs.Rows.{with_all, without_bytes}
 use Rattle.remaking.proofs.Several.{all_each, all_same, many_on, same_made, unharmed}
@@ -69,3 +70,76 @@ returns-in_err-put_all-10-clause-survives g c =
     let by7 = unharmed (unharmed by5 c.put_all-6.ensures.survives) c.put_all-7.ensures.survives in
     let by9 = unharmed (unharmed by7 c.put_all-8.ensures.survives) c.put_all-9.ensures.survives in
     unharmed by9 c.put_all-10.ensures.survives
+
+pub returns-clause-cause : goal.returns-clause-cause
+returns-clause-cause g c clean =
+    let by3 = unharmed (unharmed c.put_all.ensures.survives c.put_all-2.ensures.survives) c.put_all-3.ensures.survives in
+    let by5 = unharmed (unharmed by3 c.put_all-4.ensures.survives) c.put_all-5.ensures.survives in
+    let by7 = unharmed (unharmed by5 c.put_all-6.ensures.survives) c.put_all-7.ensures.survives in
+    let by9 = unharmed (unharmed by7 c.put_all-8.ensures.survives) c.put_all-9.ensures.survives in
+    reports_since (state g.S.Store c.args.tx.now.conn.now) (state g.S.Store c.put_all-10.new.tx.conn.now) (state g.S.Store c.put_all-11.new.tx.conn.now) c.put_all-11.result (unharmed by9 c.put_all-10.ensures.survives).counts (c.put_all-11.ensures.cause clean)
+
+pub returns-in_err-put_all-10-clause-cause : goal.returns-in_err-put_all-10-clause-cause
+returns-in_err-put_all-10-clause-cause g c clean =
+    let by3 = unharmed (unharmed c.put_all.ensures.survives c.put_all-2.ensures.survives) c.put_all-3.ensures.survives in
+    let by5 = unharmed (unharmed by3 c.put_all-4.ensures.survives) c.put_all-5.ensures.survives in
+    let by7 = unharmed (unharmed by5 c.put_all-6.ensures.survives) c.put_all-7.ensures.survives in
+    let by9 = unharmed (unharmed by7 c.put_all-8.ensures.survives) c.put_all-9.ensures.survives in
+    let r = c.from_residual-in_err-put_all-10 in
+    passed_since (state g.S.Store c.args.tx.now.conn.now) (state g.S.Store c.put_all-9.new.tx.conn.now) (state g.S.Store c.put_all-10.new.tx.conn.now) r.result by9.counts c.in_err-put_all-10.field-0.0 r.ensures.1 (c.in_err-put_all-10.ensures.cause clean)
+
+pub returns-in_err-put_all-9-clause-cause : goal.returns-in_err-put_all-9-clause-cause
+returns-in_err-put_all-9-clause-cause g c clean =
+    let by3 = unharmed (unharmed c.put_all.ensures.survives c.put_all-2.ensures.survives) c.put_all-3.ensures.survives in
+    let by5 = unharmed (unharmed by3 c.put_all-4.ensures.survives) c.put_all-5.ensures.survives in
+    let by7 = unharmed (unharmed by5 c.put_all-6.ensures.survives) c.put_all-7.ensures.survives in
+    let r = c.from_residual-in_err-put_all-9 in
+    passed_since (state g.S.Store c.args.tx.now.conn.now) (state g.S.Store c.put_all-8.new.tx.conn.now) (state g.S.Store c.put_all-9.new.tx.conn.now) r.result (unharmed by7 c.put_all-8.ensures.survives).counts c.in_err-put_all-9.field-0.0 r.ensures.1 (c.in_err-put_all-9.ensures.cause clean)
+
+pub returns-in_err-put_all-8-clause-cause : goal.returns-in_err-put_all-8-clause-cause
+returns-in_err-put_all-8-clause-cause g c clean =
+    let by3 = unharmed (unharmed c.put_all.ensures.survives c.put_all-2.ensures.survives) c.put_all-3.ensures.survives in
+    let by5 = unharmed (unharmed by3 c.put_all-4.ensures.survives) c.put_all-5.ensures.survives in
+    let by7 = unharmed (unharmed by5 c.put_all-6.ensures.survives) c.put_all-7.ensures.survives in
+    let r = c.from_residual-in_err-put_all-8 in
+    passed_since (state g.S.Store c.args.tx.now.conn.now) (state g.S.Store c.put_all-7.new.tx.conn.now) (state g.S.Store c.put_all-8.new.tx.conn.now) r.result by7.counts c.in_err-put_all-8.field-0.0 r.ensures.1 (c.in_err-put_all-8.ensures.cause clean)
+
+pub returns-in_err-put_all-7-clause-cause : goal.returns-in_err-put_all-7-clause-cause
+returns-in_err-put_all-7-clause-cause g c clean =
+    let by3 = unharmed (unharmed c.put_all.ensures.survives c.put_all-2.ensures.survives) c.put_all-3.ensures.survives in
+    let by5 = unharmed (unharmed by3 c.put_all-4.ensures.survives) c.put_all-5.ensures.survives in
+    let r = c.from_residual-in_err-put_all-7 in
+    passed_since (state g.S.Store c.args.tx.now.conn.now) (state g.S.Store c.put_all-6.new.tx.conn.now) (state g.S.Store c.put_all-7.new.tx.conn.now) r.result (unharmed by5 c.put_all-6.ensures.survives).counts c.in_err-put_all-7.field-0.0 r.ensures.1 (c.in_err-put_all-7.ensures.cause clean)
+
+pub returns-in_err-put_all-6-clause-cause : goal.returns-in_err-put_all-6-clause-cause
+returns-in_err-put_all-6-clause-cause g c clean =
+    let by3 = unharmed (unharmed c.put_all.ensures.survives c.put_all-2.ensures.survives) c.put_all-3.ensures.survives in
+    let by5 = unharmed (unharmed by3 c.put_all-4.ensures.survives) c.put_all-5.ensures.survives in
+    let r = c.from_residual-in_err-put_all-6 in
+    passed_since (state g.S.Store c.args.tx.now.conn.now) (state g.S.Store c.put_all-5.new.tx.conn.now) (state g.S.Store c.put_all-6.new.tx.conn.now) r.result by5.counts c.in_err-put_all-6.field-0.0 r.ensures.1 (c.in_err-put_all-6.ensures.cause clean)
+
+pub returns-in_err-put_all-5-clause-cause : goal.returns-in_err-put_all-5-clause-cause
+returns-in_err-put_all-5-clause-cause g c clean =
+    let by3 = unharmed (unharmed c.put_all.ensures.survives c.put_all-2.ensures.survives) c.put_all-3.ensures.survives in
+    let r = c.from_residual-in_err-put_all-5 in
+    passed_since (state g.S.Store c.args.tx.now.conn.now) (state g.S.Store c.put_all-4.new.tx.conn.now) (state g.S.Store c.put_all-5.new.tx.conn.now) r.result (unharmed by3 c.put_all-4.ensures.survives).counts c.in_err-put_all-5.field-0.0 r.ensures.1 (c.in_err-put_all-5.ensures.cause clean)
+
+pub returns-in_err-put_all-4-clause-cause : goal.returns-in_err-put_all-4-clause-cause
+returns-in_err-put_all-4-clause-cause g c clean =
+    let by3 = unharmed (unharmed c.put_all.ensures.survives c.put_all-2.ensures.survives) c.put_all-3.ensures.survives in
+    let r = c.from_residual-in_err-put_all-4 in
+    passed_since (state g.S.Store c.args.tx.now.conn.now) (state g.S.Store c.put_all-3.new.tx.conn.now) (state g.S.Store c.put_all-4.new.tx.conn.now) r.result by3.counts c.in_err-put_all-4.field-0.0 r.ensures.1 (c.in_err-put_all-4.ensures.cause clean)
+
+pub returns-in_err-put_all-3-clause-cause : goal.returns-in_err-put_all-3-clause-cause
+returns-in_err-put_all-3-clause-cause g c clean =
+    let r = c.from_residual-in_err-put_all-3 in
+    passed_since (state g.S.Store c.args.tx.now.conn.now) (state g.S.Store c.put_all-2.new.tx.conn.now) (state g.S.Store c.put_all-3.new.tx.conn.now) r.result (unharmed c.put_all.ensures.survives c.put_all-2.ensures.survives).counts c.in_err-put_all-3.field-0.0 r.ensures.1 (c.in_err-put_all-3.ensures.cause clean)
+
+pub returns-in_err-put_all-2-clause-cause : goal.returns-in_err-put_all-2-clause-cause
+returns-in_err-put_all-2-clause-cause g c clean =
+    let r = c.from_residual-in_err-put_all-2 in
+    passed_since (state g.S.Store c.args.tx.now.conn.now) (state g.S.Store c.put_all.new.tx.conn.now) (state g.S.Store c.put_all-2.new.tx.conn.now) r.result c.put_all.ensures.survives.counts c.in_err-put_all-2.field-0.0 r.ensures.1 (c.in_err-put_all-2.ensures.cause clean)
+
+pub returns-in_err-put_all-clause-cause : goal.returns-in_err-put_all-clause-cause
+returns-in_err-put_all-clause-cause g c clean =
+    passed_on (state g.S.Store c.args.tx.now.conn.now) (state g.S.Store c.put_all.new.tx.conn.now) c.in_err-put_all.field-0.0 c.from_residual.result c.from_residual.ensures.1 (c.in_err-put_all.ensures.cause clean)

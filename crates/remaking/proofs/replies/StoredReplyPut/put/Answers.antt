@@ -1,4 +1,6 @@
+use Rattle.sql_base.proofs.Causing.{reports}
 use Rattle.table_rows.specs.Tables.{with_reply}
+use Rattle.row_writes.specs.Texts.{add_reply_text}
 use Rattle.row_writes.proofs.Putting.{reply_added}
 use Rattle.remaking.proofs.PuttingRows.{row_put_in}
 use Rattle.remaking.proofs.replies.StoredReplyPut.put.Goals as goal
@@ -7,3 +9,6 @@ pub returns-clause-wrote : goal.returns-clause-wrote
 returns-clause-wrote g c clean =
     row_put_in g.S.Store with_reply c.args.tx.now.conn.now c.execute.new.self.conn.now _ _ c.self.view_is _ _ _ (reply_added _ _ _) c.execute.result c.execute.ensures.ended
     (rw (c.int.ensures, c.int-2.ensures, c.as_slice.ensures.value, c.as_slice-2.ensures.value, c.as_slice-3.ensures.value) at (c.execute.ensures.runs clean))
+
+pub returns-clause-cause : goal.returns-clause-cause
+returns-clause-cause g c clean = reports g.S.Store c.args.tx.now.conn.now c.execute.new.self.conn.now add_reply_text _ c.execute.result c.execute.ensures.ended (c.execute.ensures.runs clean)
