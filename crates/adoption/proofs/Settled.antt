@@ -1,5 +1,5 @@
 -- Tables that stay as they are, or are made anew.
-use Rattle.std.proofs.Common.{◌≡◌, ◌∙◌, ℕ, List, [], IsTrue, Result, Ok, Err, OnOk, inl, inr, refl, sym, ap, subst, arith}
+use Rattle.std.proofs.Common.{◌≡◌, ◌∙◌, ℕ, List, [], IsTrue, Option, Some, MatchOption, Result, Ok, Err, OnErr, OnOk, inl, inr, refl, sym, ap, subst, arith}
 use Rattle.sqlite.specs.Effect.{Database, IsDatabase}
 use Rattle.sqlite.specs.Held.{Held, state}
 use Rattle.sqlite.specs.State.{HasCleanDisk, IsLive, IsNotRun, IsRolledBack, IsUnchanged, State, Survives}
@@ -7,16 +7,22 @@ use Rattle.sqlite.specs.Store.{Ghosts}
 use Rattle.sqlite.specs.Tree.{Trees}
 use Rattle.sqlite.specs.declared.error.Error.{Error}
 use Rattle.sqlite.proofs.StateLemmas.{survives_then}
-use Rattle.table_rows.specs.Tables.{Tables}
+use Rattle.table_rows.specs.Tables.{HaveSameRows, Tables}
 use Rattle.sql_base.specs.Ends.{Ends, IsKept, IsLeft}
 use Rattle.sql_tables.specs.declared.versions.Version.{Version}
 use Rattle.table_reads.specs.Rowids.{StandAsMade}
 use Rattle.table_reads.specs.Holding.{HoldsRows}
-use Rattle.table_reads.proofs.After.{kept_then}
 use Rattle.sql_rows.specs.Image.{IsImage}
+use Rattle.sql_rows.proofs.SameRows.{same_rows}
+use Rattle.sql_tables.specs.Tables.{our_schema}
+use Rattle.audit_rows.proofs.SoundLemmas.{same_back}
+use Rattle.table_reads.specs.Unread.{without_reply_bytes}
+use Rattle.table_reads.specs.declared.tables.HeldRows.{HeldRows}
+use Rattle.table_reads.proofs.After.{kept_then}
 use Rattle.remaking.specs.Remakes.{Remakes}
 use Rattle.adoption.specs.Adopts.{Settles}
 use Rattle.adoption.specs.Comes.{Comes}
+use Rattle.adoption.specs.Reading.{IsReading}
 
 -- nothing is left that was not, and a crash before left what was committed
 only_now : {S : Type 0} (g : Ghosts S) (law : (s : S) (db : Trees) → IsTrue (g.view s).is_open → g.recovers s db → db ≡ (g.view s).committed) (old new : Held S)
@@ -33,21 +39,21 @@ abbrev pub ImageLaw : Type 0
 ImageLaw = (v : Version) (t : Tables) (db : Database) → HoldsRows v t db → IsDatabase db → StandAsMade db → IsImage t db
 
 -- they stay, and so does the connection
-module _ {S : Type 0} (g : Ghosts S) (law : (s : S) (db : Trees) → IsTrue (g.view s).is_open → g.recovers s db → db ≡ (g.view s).committed) (old mid new : Held S) (v : Version) (t : Tables)
+module _ {S : Type 0} (g : Ghosts S) (law : (s : S) (db : Trees) → IsTrue (g.view s).is_open → g.recovers s db → db ≡ (g.view s).committed) (old new : Held S) (v : Version) (read : HeldRows)
     (image : ImageLaw) (settled : IsTrue (state g old).is_open → (state g old).now ≡ (state g old).committed) (live : IsLive (state g old)) (clean : HasCleanDisk (state g new))
-    (was_open : IsTrue (state g old).is_open) (stand : StandAsMade (state g old).now) (kept : IsKept (state g old) (state g mid)) (still : IsKept (state g mid) (state g new))
-    (before : Survives (state g old) (state g mid) (λ _. ⊥)) (last : Survives (state g mid) (state g new) (λ _. ⊥)) where
-  pub stays : {E : Type 0} (r : Result (Unit {0}) E) → OnOk r (IsTrue (state g new).is_open) → OnOk r (Comes (Settles v t) (state g old) (state g new))
+    (ours : (state g old).now.schema ≡ our_schema) (apart : IsTrue read.apart) (kept : IsKept (state g old) (state g new)) (survives : Survives (state g old) (state g new) (λ _. ⊥)) where
+  pub stays : {E : Type 0} (r : Result (Unit {0}) E) → OnOk r (IsTrue (state g new).is_open) → OnOk r (Comes (Settles v read) (state g old) (state g new))
   stays (Err e) shown = tt
-  stays (Ok u) shown = record {
-    db = (state g old).now;
-    made = λ held. image v t (state g old).now held (live was_open).0 stand;
-    shown = (kept_then (state g old) (state g mid) (state g new) kept still).now_is;
-    only = only_now g law old new was_open (settled was_open) clean
-        (survives_then (state g old) (state g mid) (state g new) (λ _. ⊥) (λ _. ⊥) (λ _. ⊥) (λ _ db none. none) (λ _ db none. none) before last);
-    was_open = was_open;
-    is_open = shown;
-  }
+  stays (Ok u) shown =
+      let was_open = kept.was_open shown in
+      record {
+        db = (state g old).now;
+        made = λ t is. image v t (state g old).now is.rows (live was_open).0 (ours, (is.apart ours).0 apart);
+        shown = kept.now_is;
+        only = only_now g law old new was_open (settled was_open) clean survives;
+        was_open = was_open;
+        is_open = shown;
+      }
 
 -- a connection that was asked for nothing shows what it showed
 module _ (old new : State) (settled : IsTrue old.is_open → old.now ≡ old.committed) where
@@ -66,14 +72,22 @@ module _ (old new : State) (settled : IsTrue old.is_open → old.now ≡ old.com
   not_run_kept sql e (inl none) = unchanged_kept none.1
   not_run_kept sql e (inr failed) = rolled_kept failed.3
 
-module _ (v : Version) (t : Tables) (old mid new : State) (kept : HasCleanDisk mid → IsKept old mid) (live : IsLive old) where
-  turned : HasCleanDisk mid → IsTrue mid.is_open → (db : Database) → Remakes v t mid.now db → Settles v t old.now db
-  turned clean shown db made held =
+-- rows that were read once more, with the bytes of their replies
+pub read_whole : (v : Version) (read : HeldRows) (db : Database) (found : Option Tables) (all : Tables) → found ≡ Some all
+    → ((w : Version) (t : Tables) → HoldsRows w t db → HaveSameRows read.tables (without_reply_bytes t) → MatchOption found ⊥ (λ rows. HaveSameRows rows t)) → (t : Tables) → IsReading v t db read → HaveSameRows all t
+read_whole v read db found all some value t is = subst (λ x. MatchOption x ⊥ (λ rows. HaveSameRows rows t)) some (value v t is.rows is.same)
+
+-- these whole rows are those of which this was read, and our tables are made anew with them
+module _ (v : Version) (read : HeldRows) (all : Tables) (old mid new : State) (kept : HasCleanDisk mid → IsKept old mid) (live : IsLive old)
+    (whole : HasCleanDisk mid → (t : Tables) → IsReading v t old.now read → HaveSameRows all t) where
+  turned : HasCleanDisk mid → IsTrue mid.is_open → (db : Database) → Remakes v all mid.now db → Settles v read old.now db
+  turned clean shown db made t is =
       let k = kept clean in
       let same = sym (k.now_is shown) in
-      made (subst (λ (d : Database). IsDatabase d) same (live (k.was_open shown)).0) (subst (λ (d : Database). HoldsRows v t d) same held).just
+      let stands : IsImage all db = made (subst (λ (d : Database). IsDatabase d) same (live (k.was_open shown)).0) (subst (λ (d : Database). HoldsRows v t d) same is.rows).just in
+      same_rows t all db (same_back all t (whole clean t is)) stands
 
-  pub remade : {E : Type 0} (r : Result (Unit {0}) E) → HasCleanDisk mid → OnOk r (Ends (Remakes v t) mid new) → OnOk r (Comes (Settles v t) old new)
+  pub remade : {E : Type 0} (r : Result (Unit {0}) E) → HasCleanDisk mid → OnOk r (Ends (Remakes v all) mid new) → OnOk r (Comes (Settles v read) old new)
   remade (Err e) clean ends = tt
   remade (Ok u) clean ends = record {
     db = new.now;
@@ -84,7 +98,11 @@ module _ (v : Version) (t : Tables) (old mid new : State) (kept : HasCleanDisk m
     is_open = ends.is_open;
   }
 
-  pub left_remade : Survives old mid (λ _. ⊥) → Survives mid new (IsLeft (Remakes v t) mid) → Survives old new (IsLeft (Settles v t) old)
+  pub kept_remade : {E : Type 0} (r : Result (Unit {0}) E) → HasCleanDisk mid → OnErr r (IsKept mid new) → OnErr r (IsKept old new)
+  kept_remade (Err e) clean still = kept_then old mid new (kept clean) still
+  kept_remade (Ok u) clean still = tt
+
+  pub left_remade : Survives old mid (λ _. ⊥) → Survives mid new (IsLeft (Remakes v all) mid) → Survives old new (IsLeft (Settles v read) old)
   left_remade before last =
-      survives_then old mid new (λ _. ⊥) (IsLeft (Remakes v t) mid) (IsLeft (Settles v t) old) (λ _ db none. absurd none)
+      survives_then old mid new (λ _. ⊥) (IsLeft (Remakes v all) mid) (IsLeft (Settles v read) old) (λ _ db none. absurd none)
       (λ clean db it. let early : HasCleanDisk mid = omega (arith, last.clean) in ((kept early).was_open it.0, (it.1.0, turned early it.0 it.1.0 it.1.1, it.1.2))) before last

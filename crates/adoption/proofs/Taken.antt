@@ -1,6 +1,5 @@
 -- From the rows that a database holds to the contents that are taken.
-use Rattle.std.proofs.Common.{IsTrue, subst, arith}
-use Rattle.std.proofs.lemmas.List.Sorted.{IsPermutation-sym}
+use Rattle.std.proofs.Common.{IsTrue, subst, sym, arith}
 use Rattle.sqlite.specs.Effect.{Database}
 use Rattle.sqlite.specs.State.{HasCleanDisk, State, Survives}
 use Rattle.sqlite.proofs.StateLemmas.{survives_then}
@@ -9,48 +8,38 @@ use Rattle.image_laws.specs.Image.{image}
 use Rattle.sql_base.specs.Ends.{IsKept, IsLeft}
 use Rattle.sql_tables.specs.declared.versions.Version.{Version}
 use Rattle.sql_rows.proofs.SameRows.{same_rows}
+use Rattle.audit_rows.proofs.SoundLemmas.{same_back}
 use Rattle.table_reads.specs.Holding.{HoldsRows}
-use Rattle.adoption.specs.Findings.{AreOfSoundContents}
+use Rattle.table_reads.specs.declared.tables.HeldRows.{HeldRows}
+use Rattle.adoption.specs.Findings.{HoldsAsRead}
 use Rattle.adoption.specs.Adopts.{Adopts, Settles}
 use Rattle.adoption.specs.Comes.{Comes}
-
-same_back : (t u : Tables) → HaveSameRows t u → HaveSameRows u t
-same_back t u same = record {
-  products = IsPermutation-sym _ _ same.products;
-  lots = IsPermutation-sym _ _ same.lots;
-  batches = IsPermutation-sym _ _ same.batches;
-  records = IsPermutation-sym _ _ same.records;
-  groupings = IsPermutation-sym _ _ same.groupings;
-  sessions = IsPermutation-sym _ _ same.sessions;
-  words = IsPermutation-sym _ _ same.words;
-  blanks = IsPermutation-sym _ _ same.blanks;
-  remakes = IsPermutation-sym _ _ same.remakes;
-  replies = IsPermutation-sym _ _ same.replies;
-  marks = IsPermutation-sym _ _ same.marks;
-}
+use Rattle.adoption.specs.Reading.{IsReading}
+use Rattle.adoption.specs.Unwritten.{LeavesOurs}
 
 -- the law that a database holds rows in any order
 abbrev pub OrderLaw : Type 0
 OrderLaw = (v : Version) (t u : Tables) (db : Database) → HaveSameRows t u → HoldsRows v u db → HoldsRows v t db
 
-pub adopted : OrderLaw → (v : Version) (t : Tables) (old new : Database) → HoldsRows v t old → AreOfSoundContents t → Settles v t old new → Adopts old new
-adopted law v t old new held is settles =
-    let same = same_back t (image is.0) is.2 in
+pub adopted : OrderLaw → (v : Version) (read : HeldRows) (old new : Database) → HoldsAsRead v read old → Settles v read old new → Adopts old new
+adopted law v read old new found settles =
+    let t = found.0 in
+    let c = found.2.0 in
+    let same = same_back t (image c) found.2.2 in
     record {
       version = v;
-      contents = is.0;
-      sound = is.1;
-      held = law v (image is.0) t old same held;
-      stands = same_rows (image is.0) t new same (settles held);
+      contents = c;
+      sound = found.2.1;
+      held = law v (image c) t old same found.1.rows;
+      stands = same_rows (image c) t new same (settles t found.1);
     }
 
 -- an audit, and then the rows settle
-module _ (law : OrderLaw) (v : Version) (t : Tables) (old mid new : State) (kept : HasCleanDisk mid → IsKept old mid)
-    (found : HasCleanDisk mid → HoldsRows v t old.now × AreOfSoundContents t) where
-  turned : HasCleanDisk mid → IsTrue mid.is_open → (db : Database) → Settles v t mid.now db → Adopts old.now db
-  turned clean shown db settles = let it = found clean in adopted law v t old.now db it.0 it.1 (subst (λ (d : Database). Settles v t d db) ((kept clean).now_is shown) settles)
+module _ (law : OrderLaw) (v : Version) (read : HeldRows) (old mid new : State) (kept : HasCleanDisk mid → IsKept old mid) (found : HasCleanDisk mid → HoldsAsRead v read old.now) where
+  turned : HasCleanDisk mid → IsTrue mid.is_open → (db : Database) → Settles v read mid.now db → Adopts old.now db
+  turned clean shown db settles = adopted law v read old.now db (found clean) (subst (λ (d : Database). Settles v read d db) ((kept clean).now_is shown) settles)
 
-  pub taken : HasCleanDisk mid → Comes (Settles v t) mid new → Comes Adopts old new
+  pub taken : HasCleanDisk mid → Comes (Settles v read) mid new → Comes Adopts old new
   taken clean comes = record {
     db = comes.db;
     made = turned clean comes.was_open comes.db comes.made;
@@ -60,7 +49,11 @@ module _ (law : OrderLaw) (v : Version) (t : Tables) (old mid new : State) (kept
     is_open = comes.is_open;
   }
 
-  pub left_taken : Survives old mid (λ _. ⊥) → Survives mid new (IsLeft (Settles v t) mid) → Survives old new (IsLeft Adopts old)
+  pub left_taken : Survives old mid (λ _. ⊥) → Survives mid new (IsLeft (Settles v read) mid) → Survives old new (IsLeft Adopts old)
   left_taken before last =
-      survives_then old mid new (λ _. ⊥) (IsLeft (Settles v t) mid) (IsLeft Adopts old) (λ _ db none. absurd none)
+      survives_then old mid new (λ _. ⊥) (IsLeft (Settles v read) mid) (IsLeft Adopts old) (λ _ db none. absurd none)
       (λ clean db it. let early : HasCleanDisk mid = omega (arith, last.clean) in ((kept early).was_open it.0, (it.1.0, turned early it.0 it.1.0 it.1.1, it.1.2))) before last
+
+  -- so the rows settle where they stand as this was read of them
+  pub leaves_as_read : ((t : Tables) → IsReading v t mid.now read → LeavesOurs mid new) → HasCleanDisk mid → IsTrue mid.is_open → LeavesOurs mid new
+  leaves_as_read leaves clean live = let it = found clean in leaves it.0 (subst (λ (d : Database). IsReading v it.0 d read) (sym ((kept clean).now_is live)) it.1)

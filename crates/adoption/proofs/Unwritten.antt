@@ -1,5 +1,5 @@
 -- Calls that leave each tree as it is.
-use Rattle.std.proofs.Common.{◌≡◌, false, Result, Ok, Err, OnErr, OnOk, inl, inr, sym, subst, arith}
+use Rattle.std.proofs.Common.{◌≡◌, false, IsTrue, Result, Ok, Err, OnErr, OnOk, inl, inr, sym, subst, arith}
 use Rattle.std.proofs.lemmas.Bool.{cases_Bool}
 use Rattle.sqlite.specs.Effect.{Database}
 use Rattle.sqlite.specs.State.{HasCleanDisk, State, Survives}
@@ -16,14 +16,6 @@ only_read old new kept survives clean = record {
   left = λ trees may. elim (survives.crash clean trees may) [ inl before ↦ before | inr none ↦ absurd none ];
 }
 
--- so do two reads
-pub read_twice : (old mid new : State) → (HasCleanDisk mid → IsKept old mid) → Survives old mid (λ _. ⊥) → (HasCleanDisk new → IsKept mid new) → Survives mid new (λ _. ⊥) → HasCleanDisk new → LeavesTrees old new
-read_twice old mid new kept before still last clean =
-    let early : HasCleanDisk mid = omega (arith, last.clean) in
-    let one = only_read old mid kept before early in
-    let two = only_read mid new still last clean in
-    record { kept = kept_then old mid new one.kept two.kept; left = λ trees may. one.left trees (two.left trees may) }
-
 module _ (R : Database → Database → Type 0) (old mid new : State) (kept : HasCleanDisk mid → IsKept old mid) (before : Survives old mid (λ _. ⊥)) where
   -- where a fault has shut the connection, what comes next leaves each tree
   shut_leaves_trees : {E : Type 0} (r : Result (Unit {0}) E) → mid.is_open ≡ false → OnOk r (Comes R mid new) → OnErr r (IsKept mid new) → Survives mid new (IsLeft R mid) → HasCleanDisk new → LeavesTrees mid new
@@ -37,13 +29,13 @@ module _ (R : Database → Database → Type 0) (old mid new : State) (kept : Ha
       at (Err e) ok err = err
 
   -- a read, and then what leaves our tables
-  pub leaves_then : {E : Type 0} (r : Result (Unit {0}) E) → (HasCleanDisk new → OnOk r (Comes R mid new)) → (HasCleanDisk new → OnErr r (IsKept mid new)) → Survives mid new (IsLeft R mid) → LeavesOurs mid new
-      → LeavesOurs old new
+  pub leaves_then : {E : Type 0} (r : Result (Unit {0}) E) → (HasCleanDisk new → OnOk r (Comes R mid new)) → (HasCleanDisk new → OnErr r (IsKept mid new)) → Survives mid new (IsLeft R mid)
+      → (HasCleanDisk mid → IsTrue mid.is_open → LeavesOurs mid new) → LeavesOurs old new
   leaves_then r ok err last leaves clean stand =
       let early : HasCleanDisk mid = omega (arith, last.clean) in
       let one = only_read old mid kept before early in
       let two : LeavesTrees mid new = elim (cases_Bool mid.is_open) [
-        | inl live ↦ leaves clean (subst StandAsMade (sym ((kept early).now_is live)) stand)
+        | inl live ↦ leaves early live clean (subst StandAsMade (sym ((kept early).now_is live)) stand)
         | inr shut ↦ shut_leaves_trees r shut (ok clean) (err clean) last clean
       ] in
       record {

@@ -6,10 +6,12 @@ use Rattle.image_laws.specs.Image.{image}
 use Rattle.sql_tables.specs.declared.versions.Version.{Version}
 use Rattle.sql_rows.specs.Image.{IsImage}
 use Rattle.table_reads.specs.Holding.{HoldsRows}
+use Rattle.table_reads.specs.declared.tables.HeldRows.{HeldRows}
+use Rattle.adoption.specs.Reading.{IsReading}
 
--- rows that stand in the tables of this version come to stand in our own
-abbrev pub Settles : Version → Tables → Database → Database → Type 0
-Settles v t old new = HoldsRows v t old → IsImage t new
+-- the rows of which this was read, in the tables of this version, come to stand in our own
+abbrev pub Settles : Version → HeldRows → Database → Database → Type 0
+Settles v read old new = (t : Tables) → IsReading v t old read → IsImage t new
 
 -- the rows of sound contents, in the tables of some version, come to stand in our own
 pub record Adopts (old new : Database) : Type 0 where

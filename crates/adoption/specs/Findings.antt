@@ -5,7 +5,9 @@ use Rattle.sql_tables.specs.declared.versions.Version.{Version}
 use Rattle.job_facts.specs.Contents.{AreSound, Contents}
 use Rattle.table_rows.specs.Tables.{HaveSameRows, Tables}
 use Rattle.image_laws.specs.Image.{image}
-use Rattle.table_reads.specs.Holding.{HoldsRows, HoldsSoundRows, IsOfVersion}
+use Rattle.table_reads.specs.Holding.{HoldsSoundRows, IsOfVersion}
+use Rattle.table_reads.specs.declared.tables.HeldRows.{HeldRows}
+use Rattle.adoption.specs.Reading.{IsReading}
 use Rattle.adoption.specs.declared.auditing.Found.{Found}
 use Rattle.adoption.specs.declared.auditing.Found.TheVariants.{NotOurs, Sound, Unsound}
 
@@ -13,14 +15,18 @@ use Rattle.adoption.specs.declared.auditing.Found.TheVariants.{NotOurs, Sound, U
 abbrev pub AreOfSoundContents : Tables → Type 0
 AreOfSoundContents t = (c : Contents) × AreSound c × HaveSameRows t (image c)
 
+-- the rows that the database holds are those of sound contents, and this was read of them
+abbrev pub HoldsAsRead : Version → HeldRows → Database → Type 0
+HoldsAsRead v read db = (t : Tables) × IsReading v t db read × AreOfSoundContents t
+
 abbrev pub IsFinding : Found → Database → Type 0
 IsFinding NotOurs db = (v : Version) → ¬ IsOfVersion v db
 IsFinding Unsound db = ((v : Version) × IsOfVersion v db) × ((v : Version) → ¬ HoldsSoundRows v db)
-IsFinding (Sound v t) db = HoldsRows v t db × AreOfSoundContents t
+IsFinding (Sound v read) db = HoldsAsRead v read db
 
 -- rows of this version are those of sound contents, or not; where they are, they are given in
 -- another order
-abbrev pub Judges : Version → Tables → Found → Type 0
-Judges v t NotOurs = ⊥
-Judges v t Unsound = ¬ AreOfSoundContents t
-Judges v t (Sound w u) = (w ≡ v) × HaveSameRows u t × AreOfSoundContents u
+abbrev pub Judges : Version → HeldRows → Found → Type 0
+Judges v read NotOurs = ⊥
+Judges v read Unsound = ¬ AreOfSoundContents read.tables
+Judges v read (Sound w given) = (w ≡ v) × HaveSameRows given.tables read.tables × (given.apart ≡ read.apart) × AreOfSoundContents read.tables

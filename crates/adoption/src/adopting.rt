@@ -2,10 +2,12 @@
 ghost use Rattle.std.specs.Prelude.{◌≡◌, false, IfErr, OnErr, OnOk};
 ghost use Rattle.sqlite.specs.Held.{state};
 ghost use Rattle.sqlite.specs.State.{HasCleanDisk, Survives};
+ghost use Rattle.job_facts.specs.declared.store.StoreFault.{StoreFault};
 ghost use Rattle.sql_base.specs.Ends.{IsKept, IsLeft};
 ghost use Rattle.sql_tables.specs.declared.versions.Version.{Version};
 ghost use Rattle.table_reads.specs.Holding.{HoldsSoundRows, IsOfVersion};
 ghost use Rattle.adoption.specs.Adopts.{Adopts};
+ghost use Rattle.adoption.specs.Causes.{IsCaused};
 ghost use Rattle.adoption.specs.Comes.{Comes};
 ghost use Rattle.adoption.specs.Unwritten.{LeavesOurs};
 
@@ -36,11 +38,14 @@ pub fn adopt<S: Alter>(alloc: Global, conn: &mut Connection<S>) -> Result<(), Op
     ensures idle { conn.new.in_transaction ≡ false }
     ensures crash { Survives (state S.Store conn.old) (state S.Store conn.new)
         (IsLeft Adopts (state S.Store conn.old)) }
+    ensures cause { HasCleanDisk (state S.Store conn.new) → IfErr result
+        (λ e. (own : StoreFault) → e ≡ OpenFault.Store own
+        → IsCaused S.Store (state S.Store conn.old) (state S.Store conn.new) own) }
 {
     table_reads::laws::rows_are_held_in_any_order();
     match audit(alloc, conn)? {
         Found::NotOurs => Err(OpenFault::NotOurs),
         Found::Unsound => Err(OpenFault::Damaged),
-        Found::Sound { version, tables } => Ok(settle(alloc, conn, version, &tables)?),
+        Found::Sound { version, rows } => Ok(settle(alloc, conn, version, rows)?),
     }
 }

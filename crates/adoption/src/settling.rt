@@ -1,10 +1,13 @@
 //! Rows that a database holds come to stand in our own tables.
-ghost use Rattle.std.specs.Prelude.{◌≡◌, false, IsTrue, OnErr, OnOk};
+ghost use Rattle.std.specs.Prelude.{◌≡◌, false, IfErr, IsTrue, OnErr, OnOk};
 ghost use Rattle.sqlite.specs.Held.{state};
 ghost use Rattle.sqlite.specs.State.{HasCleanDisk, Survives};
+ghost use Rattle.sql_base.specs.Causes.{HadCause};
 ghost use Rattle.sql_base.specs.Ends.{IsKept, IsLeft};
+ghost use Rattle.table_rows.specs.Tables.{Tables};
 ghost use Rattle.adoption.specs.Adopts.{Settles};
 ghost use Rattle.adoption.specs.Comes.{Comes};
+ghost use Rattle.adoption.specs.Reading.{IsReading};
 ghost use Rattle.adoption.specs.Unwritten.{LeavesOurs};
 
 use crate::ours::can_stay;
@@ -13,7 +16,7 @@ use sql_base::laws;
 use sql_tables::Version;
 use sqlite::{Alter, Connection, Error};
 use std::alloc::Global;
-use table_rows::Tables;
+use table_reads::{HeldRows, with_reply_bytes};
 
 // Whether the connection is still open: a fault at the end of a read may have shut it. Nothing is
 // changed.
@@ -25,36 +28,67 @@ fn stay_open<S: Alter>(conn: &mut Connection<S>) -> Result<(), Error>
         → IsKept (state S.Store conn.old) (state S.Store conn.new) }
     ensures idle { conn.new.in_transaction ≡ false }
     ensures survives { Survives (state S.Store conn.old) (state S.Store conn.new) (λ _. ⊥) }
+    ensures cause { HasCleanDisk (state S.Store conn.new) → IfErr result
+        (HadCause S.Store (state S.Store conn.old) (state S.Store conn.new)) }
 {
     laws::is_committed(conn);
     conn.prepare("SELECT number FROM version")?;
     Ok(())
 }
 
+// Our own tables are made anew, and the rows put in, with the bytes of their replies. A disk that
+// is not clean may have lost a row since it was read. It reported nothing then, so that the error
+// is not one of the disk.
+fn rebuild<S: Alter>(
+    conn: &mut Connection<S>,
+    version: Version,
+    rows: HeldRows,
+) -> Result<(), Error>
+    requires idle { conn.old.in_transaction ≡ false }
+    ensures ok { HasCleanDisk (state S.Store conn.new) → OnOk result
+        (Comes (Settles version rows) (state S.Store conn.old) (state S.Store conn.new)) }
+    ensures kept { HasCleanDisk (state S.Store conn.new)
+        → OnErr result (IsKept (state S.Store conn.old) (state S.Store conn.new)) }
+    ensures idle { conn.new.in_transaction ≡ false }
+    ensures crash { Survives (state S.Store conn.old) (state S.Store conn.new)
+        (IsLeft (Settles version rows) (state S.Store conn.old)) }
+    ensures cause { HasCleanDisk (state S.Store conn.new) → IfErr result
+        (HadCause S.Store (state S.Store conn.old) (state S.Store conn.new)) }
+{
+    laws::is_live(conn);
+    let Some(whole) = with_reply_bytes(conn, rows.tables)? else {
+        return Err(Error::InvalidQuery);
+    };
+    remake(conn, version, &whole)
+}
+
 /// Our own tables that stand as they are made stay, to the last byte of each tree. Others are made
-/// anew, and their rows put in, in one transaction. A crash leaves what it could leave before, or
-/// all of it.
+/// anew, and their rows put in, in one transaction: the replies are read once more, whole. A crash
+/// leaves what it could leave before, or all of it.
 pub(crate) fn settle<S: Alter>(
     alloc: Global,
     conn: &mut Connection<S>,
     version: Version,
-    tables: &Tables,
+    rows: HeldRows,
 ) -> Result<(), Error>
     requires idle { conn.old.in_transaction ≡ false }
     ensures ok { HasCleanDisk (state S.Store conn.new) → OnOk result
-        (Comes (Settles version tables.now) (state S.Store conn.old) (state S.Store conn.new)) }
+        (Comes (Settles version rows) (state S.Store conn.old) (state S.Store conn.new)) }
     ensures kept { HasCleanDisk (state S.Store conn.new)
         → OnErr result (IsKept (state S.Store conn.old) (state S.Store conn.new)) }
-    ensures unchanged { LeavesOurs (state S.Store conn.old) (state S.Store conn.new) }
+    ensures unchanged { (t : Tables) → IsReading version t (state S.Store conn.old).now rows
+        → LeavesOurs (state S.Store conn.old) (state S.Store conn.new) }
     ensures idle { conn.new.in_transaction ≡ false }
     ensures crash { Survives (state S.Store conn.old) (state S.Store conn.new)
-        (IsLeft (Settles version tables.now) (state S.Store conn.old)) }
+        (IsLeft (Settles version rows) (state S.Store conn.old)) }
+    ensures cause { HasCleanDisk (state S.Store conn.new) → IfErr result
+        (HadCause S.Store (state S.Store conn.old) (state S.Store conn.new)) }
 {
     table_reads::laws::our_rows_are_an_image();
     laws::is_committed(conn);
     laws::is_live(conn);
-    if can_stay(alloc, conn)? {
+    if can_stay(alloc, conn, rows.apart)? {
         return stay_open(conn);
     }
-    remake(conn, version, tables)
+    rebuild(conn, version, rows)
 }

@@ -3,11 +3,12 @@ pub mod Shapes
 pub mod ReadRows
 pub mod WholeTables
 pub mod Meanings
+pub mod BriefText
+pub mod BriefRows
 pub mod Found
 pub mod Alone
 pub mod Rising
 pub mod After
-pub mod Numbers
 pub mod OneVersion
 pub mod OneHeld
 pub mod Together
@@ -17,3 +18,4 @@ pub mod RowsHeld
 pub mod OurImage
 pub mod AnyOrder
 pub mod SaidVersion
+pub mod Causes

@@ -42,7 +42,7 @@ one_number s table n m is one two = sym (is.numbered n) ∙ one_tree s (table n)
 
 -- ---- the version
 
-one_row : (a b : Row) → IsPermutation (a ∷ []) (b ∷ []) → a ≡ b
+pub one_row : (a b : Row) → IsPermutation (a ∷ []) (b ∷ []) → a ≡ b
 one_row a b same = sym (All-permutation (λ x. x ≡ a) _ _ same at 0 b (omega arith))
   where
     at : (k : ℕ) (d : Row) → k < 1 → slice_index_or (a ∷ []) k d ≡ a

@@ -1,20 +1,19 @@
 -- What the rows of a whole table give of those that are stored.
-use Rattle.std.proofs.Common.{◌≡◌, ◌++◌, ℕ, zero, suc, Bool, true, false, List, [], ◌∷◌, map, filter, Option, Some, None, Vec, Global, MatchOption, All, refl, sym, ap, ap₂, subst, ◌∙◌, arith}
+use Rattle.std.proofs.Common.{◌≡◌, ◌++◌, ℕ, zero, suc, Bool, true, false, List, [], ◌∷◌, map, All, refl, sym, ap, ap₂, subst, ◌∙◌, arith}
 use Rattle.std.specs.List.{AllByRecursion}
 use Rattle.std.specs.List.Sorted.{IsPermutation}
 use Rattle.std.proofs.lemmas.List.{map-append}
 use Rattle.std.proofs.lemmas.List.Sorted.{All-permutation, IsPermutation-map, IsPermutation-sym, IsPermutation-trans}
-use Rattle.sqlite.specs.Effect.{IsDatabase}
+use Rattle.sqlite.specs.Effect.{Database, IsDatabase}
 use Rattle.sqlite.specs.Order.{Row}
-use Rattle.sqlite.specs.State.{Shown, State}
 use Rattle.sqlite.specs.Table.{Table}
 use Rattle.sqlite_schema.specs.Names.{same_name}
 use Rattle.sqlite_schema.specs.Rules.{passes as keeps}
+use Rattle.sqlite_schema.specs.declared.schema.Constraint.{Constraint}
 use Rattle.sqlite_schema.specs.declared.schema.Constraint.TheVariants.{Datatype, NotNull}
-use Rattle.sql_base.proofs.Selecting.{all_pass, passes, selected, shown}
 use Rattle.sql_tables.specs.Finds.{Finds}
 use Rattle.sql_rows.specs.Image.{given_rows}
-use Rattle.table_reads.specs.Whole.{IsWhole, NoneStandSo, as_stored, stored_row}
+use Rattle.table_reads.specs.Whole.{AreShown, IsWhole, NoneStandSo, as_stored, columns_of, stored_row, with_rowid}
 use Rattle.sql_tables.proofs.Lookups.{all_at, is_at}
 
 -- ---- the rows of a text that asks for a table whole
@@ -29,25 +28,26 @@ each_shown : (show : Row → Row) (by_rowid : Bool) (P Q : Row → Type 0) → (
 each_shown show by_rowid P Q shows [] ps qs = refl
 each_shown show by_rowid P Q shows (r ∷ rows) ps qs = ap₂ ◌∷◌ (shows r ps.0 qs.0) (each_shown show by_rowid P Q shows rows ps.1 qs.1)
 
-pub exact : (sql : List ℕ) (table : ℕ → Table) (by_rowid : Bool) → IsWhole sql table by_rowid → (old new : State) (rows : List Row) → Shown sql [] old new rows → IsDatabase old.now
-    → (tree : ℕ) → Finds old.now.schema (table tree) → IsPermutation (map (as_stored by_rowid) rows) (given_rows by_rowid (old.now.trees tree))
-exact sql table by_rowid whole old new rows h sound tree f =
-    let numbered = whole.numbered tree in
-    let s = old.now.schema in
-    let db = old.now.trees in
+-- what holds of each row of a table that is found
+pub each_keeps : (c : Constraint) (db : Database) → IsDatabase db → (table : ℕ → Table) (tree : ℕ) → (table tree).tree ≡ tree → Finds db.schema (table tree) → AllByRecursion (λ r. keeps c db.schema db.trees (table tree) r ≡ true) (db.trees tree)
+each_keeps c db sound table tree numbered f =
+    let s = db.schema in
     let t = table tree in
-    let asks = whole.asks s tree f in
-    let got = selected sql [] old new s refl tree [] whole.columns asks.names asks.command asks.plain asks.unlisted rows h in
     let place = is_at (λ u. same_name u.name t.name) s.tables t f.named in
-    let rule = sound.obeys.rules in
-    let typed = subst (λ n. AllByRecursion (λ r. keeps Datatype s db t r ≡ true) (db n)) numbered (all_at (λ u. AllByRecursion (λ r. keeps Datatype s db u r ≡ true) (db u.tree)) s.tables place.at t (rule Datatype) place.there) in
-    let there = subst (λ n. AllByRecursion (λ r. keeps NotNull s db t r ≡ true) (db n)) numbered (all_at (λ u. AllByRecursion (λ r. keeps NotNull s db u r ≡ true) (db u.tree)) s.tables place.at t (rule NotNull) place.there) in
-    let same : map (as_stored by_rowid) (map (shown whole.columns []) (filter (passes [] []) (db tree))) ≡ given_rows by_rowid (db tree) =
-    ap (λ xs. map (as_stored by_rowid) (map (shown whole.columns []) xs)) (all_pass (db tree))
-    ∙ each_shown (shown whole.columns []) by_rowid (λ r. keeps Datatype s db t r ≡ true) (λ r. keeps NotNull s db t r ≡ true) (λ r. whole.shows s db tree r) (db tree) typed there
-    ∙ given_is by_rowid (db tree) in
-    let read = IsPermutation-map (as_stored by_rowid) _ _ got in
-    IsPermutation-sym _ _ (subst (λ xs. IsPermutation xs (map (as_stored by_rowid) rows)) same read)
+    subst (λ n. AllByRecursion (λ r. keeps c s db.trees t r ≡ true) (db.trees n)) numbered (all_at (λ u. AllByRecursion (λ r. keeps c s db.trees u r ≡ true) (db.trees u.tree)) s.tables place.at t (sound.obeys.rules c) place.there)
+
+pub exact : (sql : List ℕ) (table : ℕ → Table) (by_rowid : Bool) (whole : IsWhole sql table by_rowid) (db : Database) → IsDatabase db → (tree : ℕ) → Finds db.schema (table tree)
+    → (rows : List Row) (apart : Bool) → AreShown (with_rowid whole.columns) (db.trees tree) rows apart → IsPermutation (map (as_stored by_rowid) rows) (given_rows by_rowid (db.trees tree))
+exact sql table by_rowid whole db sound tree f rows apart shown =
+    let numbered = whole.numbered tree in
+    let s = db.schema in
+    let t = table tree in
+    let columns = with_rowid whole.columns in
+    let same : map (as_stored by_rowid) (map (columns_of columns) (db.trees tree)) ≡ given_rows by_rowid (db.trees tree) =
+    each_shown (columns_of columns) by_rowid (λ r. keeps Datatype s db.trees t r ≡ true) (λ r. keeps NotNull s db.trees t r ≡ true) (λ r. whole.shows s db.trees tree r) (db.trees tree)
+    (each_keeps Datatype db sound table tree numbered f) (each_keeps NotNull db sound table tree numbered f)
+    ∙ given_is by_rowid (db.trees tree) in
+    IsPermutation-sym _ _ (subst (λ xs. IsPermutation xs (map (as_stored by_rowid) rows)) same (IsPermutation-map (as_stored by_rowid) _ _ shown.rows))
 
 -- ---- typed rows
 
@@ -69,20 +69,18 @@ each_behind f P [] all = tt
 each_behind f P (r ∷ rows) all = (all.0 r refl, each_behind f P rows all.1)
 
 -- rows that stand as those that are given are rows of the table's shape
-pub shaped : {X : Type 0} (encode : X → Row) (fits : X → Type 0) (by_rowid : Bool) (IsShaped : Row → Type 0) → ((x : X) → fits x → (r : Row) → as_stored by_rowid r ≡ encode x → IsShaped r) → (rows : List Row) (stored : List Row)
-    → IsPermutation (map (as_stored by_rowid) rows) stored → (xs : List X) → All fits xs → IsPermutation (map encode xs) stored → All IsShaped rows
-shaped encode fits by_rowid IsShaped law rows stored is xs all same =
-    let Behind : Row → Type 0 = λ s. (r : Row) → as_stored by_rowid r ≡ s → IsShaped r in
+pub shaped : {X : Type 0} (encode : X → Row) (fits : X → Type 0) (f : Row → Row) (IsShaped : Row → Type 0) → ((x : X) → fits x → (r : Row) → f r ≡ encode x → IsShaped r) → (rows : List Row) (stored : List Row)
+    → IsPermutation (map f rows) stored → (xs : List X) → All fits xs → IsPermutation (map encode xs) stored → All IsShaped rows
+shaped encode fits f IsShaped law rows stored is xs all same =
+    let Behind : Row → Type 0 = λ s. (r : Row) → f r ≡ s → IsShaped r in
     let encoded : AllByRecursion Behind (map encode xs) = each_encoded encode fits Behind law xs (from_all fits xs all) in
-    let both : IsPermutation (map encode xs) (map (as_stored by_rowid) rows) = IsPermutation-trans _ stored _ same (IsPermutation-sym _ _ is) in
-    let here : All Behind (map (as_stored by_rowid) rows) = All-permutation Behind _ _ both (to_all Behind (map encode xs) encoded) in
-    to_all IsShaped rows (each_behind (as_stored by_rowid) IsShaped rows (from_all Behind (map (as_stored by_rowid) rows) here))
+    let both : IsPermutation (map encode xs) (map f rows) = IsPermutation-trans _ stored _ same (IsPermutation-sym _ _ is) in
+    let here : All Behind (map f rows) = All-permutation Behind _ _ both (to_all Behind (map encode xs) encoded) in
+    to_all IsShaped rows (each_behind f IsShaped rows (from_all Behind (map f rows) here))
 
-pub all_read : {X : Type 0} (encode : X → Row) (fits : X → Type 0) (by_rowid : Bool) (IsShaped : Row → Type 0) → ((x : X) → fits x → (r : Row) → as_stored by_rowid r ≡ encode x → IsShaped r) → (rows : List Row) (stored : List Row)
-    → IsPermutation (map (as_stored by_rowid) rows) stored → (found : Option (Vec X Global)) → MatchOption found (All IsShaped rows → ⊥) (λ all. map encode all.items ≡ map (as_stored by_rowid) rows)
-    → MatchOption found (NoneStandSo encode fits stored) (λ all. IsPermutation (map encode all.items) stored)
-all_read encode fits by_rowid IsShaped law rows stored is (Some all) h = subst (λ xs. IsPermutation xs stored) (sym h) is
-all_read encode fits by_rowid IsShaped law rows stored is None h = λ xs all same. h (shaped encode fits by_rowid IsShaped law rows stored is xs all same)
+pub none_read : {X : Type 0} (encode : X → Row) (fits : X → Type 0) (by_rowid : Bool) (IsShaped : Row → Type 0) → ((x : X) → fits x → (r : Row) → as_stored by_rowid r ≡ encode x → IsShaped r) → (rows : List Row) (stored : List Row)
+    → IsPermutation (map (as_stored by_rowid) rows) stored → (All IsShaped rows → ⊥) → NoneStandSo encode fits stored
+none_read encode fits by_rowid IsShaped law rows stored is none = λ xs all same. none (shaped encode fits (as_stored by_rowid) IsShaped law rows stored is xs all same)
 
 -- one more row is decoded
 pub further : {X : Type 0} (encode : X → Row) (f : Row → Row) (rows : List Row) (row : Row) (x : X) → encode x ≡ f row

@@ -9,7 +9,7 @@ use Rattle.std.proofs.lemmas.Cmp.{int_ranked, tied_itself}
 use Rattle.std.proofs.lemmas.List.Sorted.{All-permutation, IsPermutation-sym, IsPermutation-trans, length_permutation}
 use Rattle.sqlite.specs.Order.{Row}
 use Rattle.sqlite.specs.State.{Shown, State}
-use Rattle.sqlite.specs.Term.{col}
+use Rattle.sqlite.specs.Term.{Term}
 use Rattle.sqlite.specs.Tree.{IsAscending, rowid}
 use Rattle.sqlite.specs.View.{is_int}
 use Rattle.sqlite.specs.declared.types.Value.{Value}
@@ -20,7 +20,8 @@ use Rattle.sqlite_value.specs.Order.{value_cmp}
 use Rattle.sql_base.specs.Rowids.{Apart, AreApart}
 use Rattle.sql_base.proofs.Rowids.{back, few_apart}
 use Rattle.sql_base.proofs.Selecting.{all_pass, selected, shown}
-use Rattle.table_reads.specs.Rowids.{AreRising, AsksRowids, IsRisingFrom, int_in, rowid_int}
+use Rattle.table_reads.specs.Rowids.{AreRising, IsRisingFrom, int_in, rowid_int}
+use Rattle.table_reads.specs.Whole.{AreShown, Asks, columns_of, with_rowid}
 use Rattle.table_reads.proofs.ReadRows.{from_all, to_all}
 
 -- ---- the shown rows
@@ -134,50 +135,53 @@ apart_if (r ∷ rows) few = (none_other r rows (few (rowid r)), apart_if rows (�
       | inr miss ↦ rw miss at (few id)
     ]
 
-abbrev rowid_alone : Row → Row
-rowid_alone r = rowid r ∷ []
-
-behind : (rows : List Row) → AllByRecursion (λ r. IsTrue (is_int (rowid r))) (map rowid_alone rows) → AllByRecursion (λ r. IsTrue (is_int (rowid r))) rows
-behind [] all = tt
-behind (r ∷ rows) all = (all.0, behind rows all.1)
+abbrev Ints : Row → Type 0
+Ints r = IsTrue (is_int (rowid r))
 
 lengths : (f : Row → Row) (xs : List Row) → length (map f xs) ≡ length xs
 lengths f [] = refl
 lengths f (x ∷ xs) = ap suc (lengths f xs)
 
-abbrev Ints : Row → Type 0
-Ints r = IsTrue (is_int (rowid r))
+-- rows that are shown with their rowids, and with these columns beside them
+module _ (columns : List Term) where
+  abbrev shows : Row → Row
+  shows = columns_of (with_rowid columns)
 
-ahead : (rows : List Row) → AllByRecursion Ints rows → AllByRecursion Ints (map rowid_alone rows)
-ahead [] all = tt
-ahead (r ∷ rows) all = (all.0, ahead rows all.1)
+  behind : (rows : List Row) → AllByRecursion Ints (map shows rows) → AllByRecursion Ints rows
+  behind [] all = tt
+  behind (r ∷ rows) all = (all.0, behind rows all.1)
 
--- as many rows of the table have a rowid as are shown with it
-as_many : (stored rows : List Row) → IsPermutation (map rowid_alone stored) rows → (id : Value) → length (filter (has id) rows) ≡ length (filter (has id) stored)
-as_many stored rows same id =
-    let one : length (filter (has id) (map rowid_alone stored)) ≡ length (filter (has id) rows) = sym (length_permutation _ _ (IsPermutation-filter (has id) _ _ same)) in
-    sym one ∙ ap length (filter-map (has id) rowid_alone stored) ∙ lengths rowid_alone (filter (has id) stored)
+  ahead : (rows : List Row) → AllByRecursion Ints rows → AllByRecursion Ints (map shows rows)
+  ahead [] all = tt
+  ahead (r ∷ rows) all = (all.0, ahead rows all.1)
 
-module _ (stored rows : List Row) (same : IsPermutation (map rowid_alone stored) rows) where
-  given_apart : AreRising rows → AreApart stored
-  given_apart rising = record {
-    apart = apart_if stored (λ id. subst (λ n. n ≤ 1) (as_many stored rows same id) (few_apart (has id) id (λ r h. equal_if r id h) rows (all_apart rows rising)));
-    ints = behind stored (from_all Ints (map rowid_alone stored) (All-permutation Ints rows (map rowid_alone stored) (IsPermutation-sym _ _ same) (to_all Ints rows (all_ints rows rising))));
-  }
+  module _ (stored rows : List Row) (same : IsPermutation (map shows stored) rows) where
+    -- as many rows of the table have a rowid as are shown with it
+    as_many : (id : Value) → length (filter (has id) rows) ≡ length (filter (has id) stored)
+    as_many id =
+        let one : length (filter (has id) (map shows stored)) ≡ length (filter (has id) rows) = sym (length_permutation _ _ (IsPermutation-filter (has id) _ _ same)) in
+        sym one ∙ ap length (filter-map (has id) shows stored) ∙ lengths shows (filter (has id) stored)
 
-  told_rising : IsSortedByKey rowid_int int_cmp rows → AreApart stored → AreRising rows
-  told_rising sorted apart =
-      all_rising rows
-      (from_all Ints rows (All-permutation Ints (map rowid_alone stored) rows same (to_all Ints (map rowid_alone stored) (ahead stored apart.ints))))
-      (apart_if rows (λ id. subst (λ n. n ≤ 1) (sym (as_many stored rows same id)) (few_apart (has id) id (λ r h. equal_if r id h) stored apart.apart)))
-      sorted
+    given_apart : AreRising rows → AreApart stored
+    given_apart rising = record {
+      apart = apart_if stored (λ id. subst (λ n. n ≤ 1) (as_many id) (few_apart (has id) id (λ r h. equal_if r id h) rows (all_apart rows rising)));
+      ints = behind stored (from_all Ints (map shows stored) (All-permutation Ints rows (map shows stored) (IsPermutation-sym _ _ same) (to_all Ints rows (all_ints rows rising))));
+    }
 
--- the answer of a text that asks for rowids, sorted
-pub rowids_apart : (sql : _) (old new : State) (rows sorted : List Row) → Shown sql [] old new rows → IsPermutation rows sorted → IsSortedByKey rowid_int int_cmp sorted
-    → (tree : ℕ) → AsksRowids old.now.schema sql tree → AreRising sorted ↔ AreApart (old.now.trees tree)
-rowids_apart sql old new rows sorted h same rise tree asks =
-    let columns = col 1 0 ∷ [] in
-    let got = selected sql [] old new old.now.schema refl tree [] columns asks.names asks.command asks.plain asks.unlisted rows h in
-    let value : IsPermutation (map rowid_alone (old.now.trees tree)) rows = subst (λ xs. IsPermutation (map (shown columns []) xs) rows) (all_pass (old.now.trees tree)) got in
-    let all = IsPermutation-trans _ rows _ value same in
-    (given_apart (old.now.trees tree) sorted all, told_rising (old.now.trees tree) sorted all rise)
+    told_rising : IsSortedByKey rowid_int int_cmp rows → AreApart stored → AreRising rows
+    told_rising sorted apart =
+        all_rising rows
+        (from_all Ints rows (All-permutation Ints (map shows stored) rows same (to_all Ints (map shows stored) (ahead stored apart.ints))))
+        (apart_if rows (λ id. subst (λ n. n ≤ 1) (sym (as_many id)) (few_apart (has id) id (λ r h. equal_if r id h) stored apart.apart)))
+        sorted
+
+-- what a text that asks for rowids, and for columns beside them, shows, sorted
+pub sorted_shown : (sql : _) (old new : State) (rows sorted : List Row) → Shown sql [] old new rows → IsPermutation rows sorted → IsSortedByKey rowid_int int_cmp sorted → (apart : Bool) → IsTrue apart ↔ AreRising sorted
+    → (tree : ℕ) (columns : List Term) → Asks old.now.schema sql tree (with_rowid columns) → AreShown (with_rowid columns) (old.now.trees tree) sorted apart
+sorted_shown sql old new rows sorted h same rise apart is tree columns asks =
+    let got = selected sql [] old new old.now.schema refl tree [] (with_rowid columns) asks.names asks.command asks.plain asks.unlisted rows h in
+    let value : IsPermutation (map (columns_of (with_rowid columns)) (old.now.trees tree)) rows = subst (λ xs. IsPermutation (map (shown (with_rowid columns) []) xs) rows) (all_pass (old.now.trees tree)) got in
+    let all = IsPermutation-trans _ rows _ value same in record {
+      rows = all;
+      apart_is = ((λ rises. given_apart columns (old.now.trees tree) sorted all (is.0 rises)), (λ held. is.1 (told_rising columns (old.now.trees tree) sorted all rise held)));
+    }

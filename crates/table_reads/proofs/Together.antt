@@ -1,5 +1,5 @@
 -- One read after another, and what they give of all tables.
-use Rattle.std.proofs.Common.{ℕ, Bool, List, map, Option, Some, None, Vec, Global, MatchOption, All, subst, arith}
+use Rattle.std.proofs.Common.{ℕ, Bool, List, map, Option, Some, None, MatchOption, All, IsTrue, ◌↔◌, subst, arith}
 use Rattle.std.specs.Prelude.{option_map, option_and_then}
 use Rattle.std.specs.List.Sorted.{IsPermutation}
 use Rattle.sqlite.specs.Effect.{Database}
@@ -8,11 +8,13 @@ use Rattle.sqlite.specs.State.{HasCleanDisk, State, Survives}
 use Rattle.sqlite.specs.Table.{Table}
 use Rattle.sqlite.proofs.StateLemmas.{survives_then}
 use Rattle.sql_base.specs.Ends.{IsKept}
+use Rattle.sql_base.specs.Rowids.{AreApart}
 use Rattle.sql_rows.specs.Image.{given_rows}
 use Rattle.sql_tables.specs.Finds.{Finds}
 use Rattle.table_reads.specs.Whole.{NoneStandSo}
 use Rattle.table_reads.specs.Holding.{Holds}
-use Rattle.table_reads.specs.Reading.{Has, Reads, items}
+use Rattle.table_reads.specs.Reading.{HasWhole, Reads}
+use Rattle.table_reads.specs.declared.reads.TableRows.{TableRows}
 
 -- ---- states
 
@@ -30,21 +32,16 @@ outlives_four one two three four = outlives (outlives one two) (outlives three f
 
 -- what was read of one table
 pub found_as : {X : Type 0} (encode : X → Row) (fits : X → Type 0) (table : ℕ → Table) (by_rowid : Bool) (db : Database) (Refused : Type 0)
-    → (((xs : List X) → All fits xs → Holds table by_rowid (map encode xs) db → ⊥) → Refused) → (found : Option (Vec X Global))
-    → ((tree : ℕ) → Finds db.schema (table tree) → MatchOption found (NoneStandSo encode fits (given_rows by_rowid (db.trees tree))) (λ all. IsPermutation (map encode all.items) (given_rows by_rowid (db.trees tree))))
-    → MatchOption found Refused (λ all. Has table by_rowid (map encode all.items) db)
+    → (((xs : List X) → All fits xs → Holds table by_rowid (map encode xs) db → ⊥) → Refused) → (found : Option (TableRows X))
+    → ((tree : ℕ) → Finds db.schema (table tree) → MatchOption found (NoneStandSo encode fits (given_rows by_rowid (db.trees tree))) (λ all. IsPermutation (map encode all.rows.items) (given_rows by_rowid (db.trees tree)) × (IsTrue all.apart ↔ AreApart (db.trees tree))))
+    → MatchOption found Refused (HasWhole table by_rowid encode db)
 found_as encode fits table by_rowid db Refused refuses (Some all) h = h
 found_as encode fits table by_rowid db Refused refuses None h = refuses (λ xs fit held. h held.number held.finds xs fit held.rows_are)
 
 -- the same of the database that was shown at first
-pub carried : {X : Type 0} (R : Database → Type 0) (P : Database → List X → Type 0) (old mid : State) → IsKept old mid → (found : Option (Vec X Global)) → Reads R (λ db all. P db all.items) mid found
-    → MatchOption (option_map items found) (R old.now) (P old.now)
-carried R P old mid kept (Some all) read = subst (λ db. P db all.items) (kept.now_is read.0) read.1
+pub carried : {F : Type 0} (R : Database → Type 0) (P : Database → F → Type 0) (old mid : State) → IsKept old mid → (found : Option F) → Reads R P mid found → MatchOption found (R old.now) (P old.now)
+carried R P old mid kept (Some all) read = subst (λ db. P db all) (kept.now_is read.0) read.1
 carried R P old mid kept None read = subst R (kept.now_is read.0) read.1
-
-pub listed : {X : Type 0} (R : Type 0) (P : List X → Type 0) (found : Option (Vec X Global)) → MatchOption found R (λ all. P all.items) → MatchOption (option_map items found) R P
-listed R P (Some all) h = h
-listed R P None h = h
 
 -- the next, where this one was found
 pub then_found : {A B : Type 0} (R : Type 0) (P : A → Type 0) (Q : B → Type 0) (f : A → Option B) (o : Option A) → MatchOption o R P → ((x : A) → P x → MatchOption (f x) R Q) → MatchOption (option_and_then f o) R Q

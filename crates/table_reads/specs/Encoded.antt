@@ -1,6 +1,7 @@
 -- A typed row in its ranges stands as a row of the shape of its table.
 use Rattle.std.proofs.Common.{◌≡◌, ◌<◌, Bool, true, false, [], ◌∷◌, refl, sym, ap, subst, ◌∙◌, arith}
-use Rattle.sqlite.specs.Order.{Row}
+use Rattle.sqlite.specs.Order.{Row, column}
+use Rattle.sqlite.specs.declared.types.Value.{Value}
 use Rattle.store_data.specs.declared.row.Enc.{Enc}
 use Rattle.store_data.specs.declared.row.Enc.TheVariants as enc
 use Rattle.store_data.specs.declared.row.Product.{Product}
@@ -45,13 +46,17 @@ pub taken : (r : Row) → r ≡ without_null (as_stored true r)
 taken [] = refl
 taken (id ∷ row) = refl
 
+led : (r : Row) (v : Value) (vs : Row) → as_stored false r ≡ v ∷ vs → r ≡ column r 0 ∷ v ∷ vs
+led [] v vs e = absurd (cc)
+led (id ∷ row) v vs e = ap (λ rest. id ∷ rest) e
+
 pub product_law : (x : Product) → FitsProduct x → (r : Row) → as_stored false r ≡ product_row x → IsProductRow r
 unfolding IsProductRow
-product_law x fits r e = subst IsProductRow (sym e) (refl, refl, (refl, fits.0), (refl, fits.1), (refl, flag_low x.check))
+product_law x fits r e = subst IsProductRow (sym (led r _ _ e)) (refl, refl, (refl, fits.0), (refl, fits.1), (refl, flag_low x.check))
 
 pub lot_law : (x : StoredLot) → FitsLot x → (r : Row) → as_stored false r ≡ lot_row x → IsLotRow r
 unfolding IsLotRow
-lot_law x fits r e = subst IsLotRow (sym e) (refl, refl, refl, refl, (refl, fits), refl)
+lot_law x fits r e = subst IsLotRow (sym (led r _ _ e)) (refl, refl, refl, refl, (refl, fits), refl)
 
 pub batch_law : (x : StoredBatch) → IsAny x → (r : Row) → as_stored true r ≡ batch_row x → IsBatchRow r
 unfolding IsBatchRow
@@ -59,11 +64,11 @@ batch_law x fits r e = subst IsBatchRow (sym (taken r ∙ ap without_null e)) (r
 
 pub record_law : (x : StoredRecord) → IsAny x → (r : Row) → as_stored false r ≡ record_row x → IsRecordRow r
 unfolding IsRecordRow
-record_law x fits r e = subst IsRecordRow (sym e) (refl, refl, refl, refl, (refl, record_low x.state), refl, refl)
+record_law x fits r e = subst IsRecordRow (sym (led r _ _ e)) (refl, refl, refl, refl, (refl, record_low x.state), refl, refl)
 
 pub grouping_law : (x : StoredGrouping) → FitsGrouping x → (r : Row) → as_stored false r ≡ grouping_row x → IsGroupingRow r
 unfolding IsGroupingRow
-grouping_law x fits r e = subst IsGroupingRow (sym e) (refl, refl, refl, refl, refl, (refl, fits), (refl, enc_low x.enc), (refl, flag_low x.tol), refl)
+grouping_law x fits r e = subst IsGroupingRow (sym (led r _ _ e)) (refl, refl, refl, refl, refl, (refl, fits), (refl, enc_low x.enc), (refl, flag_low x.tol), refl)
 
 pub session_law : (x : StoredSession) → IsAny x → (r : Row) → as_stored true r ≡ session_row x → IsSessionRow r
 unfolding IsSessionRow
@@ -71,7 +76,7 @@ session_law x fits r e = subst IsSessionRow (sym (taken r ∙ ap without_null e)
 
 pub word_law : (x : StoredWord) → FitsWord x → (r : Row) → as_stored false r ≡ word_row x → IsWordRow r
 unfolding IsWordRow
-word_law x fits r e = subst IsWordRow (sym e) (refl, refl, refl, (refl, fits))
+word_law x fits r e = subst IsWordRow (sym (led r _ _ e)) (refl, refl, refl, (refl, fits))
 
 pub blank_law : (x : StoredBlank) → IsAny x → (r : Row) → as_stored true r ≡ blank_row x → IsBlankRow r
 unfolding IsBlankRow
@@ -79,12 +84,12 @@ blank_law x fits r e = subst IsBlankRow (sym (taken r ∙ ap without_null e)) (r
 
 pub remake_law : (x : StoredRemake) → IsAny x → (r : Row) → as_stored false r ≡ remake_row x → IsRemakeRow r
 unfolding IsRemakeRow
-remake_law x fits r e = subst IsRemakeRow (sym e) (refl, refl, refl, refl)
+remake_law x fits r e = subst IsRemakeRow (sym (led r _ _ e)) (refl, refl, refl, refl)
 
 pub reply_law : (x : Entry) → IsAny x → (r : Row) → as_stored false r ≡ reply_row x → IsReplyRow r
 unfolding IsReplyRow
-reply_law x fits r e = subst IsReplyRow (sym e) (refl, refl, refl, refl, refl, refl)
+reply_law x fits r e = subst IsReplyRow (sym (led r _ _ e)) (refl, refl, refl, refl, refl, refl)
 
 pub mark_law : (x : Mark) → IsAny x → (r : Row) → as_stored false r ≡ mark_row x → IsMarkRow r
 unfolding IsMarkRow
-mark_law x fits r e = subst IsMarkRow (sym e) (refl, refl, refl)
+mark_law x fits r e = subst IsMarkRow (sym (led r _ _ e)) (refl, refl, refl)

@@ -5,5 +5,7 @@ pub mod Encoded
 pub mod Texts
 pub mod Version
 pub mod Rowids
+pub mod Unread
+pub mod Replies
 pub mod Holding
 pub mod Reading

@@ -1,15 +1,16 @@
 -- What reading tables whole gives of a database.
-use Rattle.std.specs.Prelude.{◌≡◌, ℕ, Bool, false, List, [], map, All, Option, MatchOption, IsPermutation, IsTrue, Vec, option_map, option_and_then}
-use Rattle.std.specs.Global.{Global}
+use Rattle.std.specs.Prelude.{◌≡◌, ◌↔◌, ◌&&◌, ℕ, Bool, true, false, List, [], ◌∷◌, map, All, Option, MatchOption, IsPermutation, IsTrue, option_map, option_and_then}
+use Rattle.std.specs.List.{AllByRecursion}
 use Rattle.sqlite.specs.Effect.{Database}
 use Rattle.sqlite.specs.Order.{Row}
 use Rattle.sqlite.specs.State.{State}
 use Rattle.sqlite.specs.Table.{Table}
 use Rattle.store_data.specs.declared.row.Product.{Product}
-use Rattle.job_facts.specs.Contents.{Entry, Mark}
+use Rattle.sql_base.specs.Rowids.{AreApart}
+use Rattle.job_facts.specs.Contents.{Mark}
 use Rattle.table_rows.specs.Tables.{StoredBatch, StoredBlank, StoredGrouping, StoredLot, StoredRecord, StoredRemake, StoredSession, StoredWord, Tables}
-use Rattle.sql_tables.specs.Tables.{mark_at}
-use Rattle.sql_rows.specs.Encoding.{grouping_row, mark_row}
+use Rattle.sql_tables.specs.Tables.{batch_at, batch_table, blank_at, blank_table, grouping_table, lot_at, lot_table, mark_at, mark_table, our_schema, product_at, product_table, record_at, record_table, remake_at, remake_table, session_at, session_table, word_at, word_table}
+use Rattle.sql_rows.specs.Encoding.{batch_row, blank_row, grouping_row, lot_row, mark_row, product_row, record_row, remake_row, session_row, word_row}
 use Rattle.sql_rows.specs.Image.{given_rows}
 use Rattle.sql_tables.specs.Alike.{HasJust}
 use Rattle.sql_tables.specs.Finds.{Finds}
@@ -19,6 +20,10 @@ use Rattle.sql_tables.specs.declared.versions.Version.{Version}
 use Rattle.sql_tables.specs.declared.versions.Version.TheVariants.{One, Two, Three}
 use Rattle.table_reads.specs.Shown.{FitsGrouping, FitsLot, FitsProduct, FitsWord}
 use Rattle.table_reads.specs.Holding.{HoldsRows, SaysVersion, groupings_at}
+use Rattle.table_reads.specs.Rowids.{HasRowidsApart}
+use Rattle.table_reads.specs.Unread.{without_reply_bytes}
+use Rattle.table_reads.specs.declared.reads.TableRows.{TableRows}
+use Rattle.table_reads.specs.declared.tables.HeldRows.{HeldRows}
 
 -- the numbers of rows are in the ranges of the program
 pub record Fit (t : Tables) : Type 0 where
@@ -41,24 +46,26 @@ Reads Refused Found old found = IsTrue old.is_open × MatchOption found (Refused
 abbrev pub Has : (ℕ → Table) → Bool → List Row → Database → Type 0
 Has table by_rowid rows db = (tree : ℕ) → Finds db.schema (table tree) → IsPermutation rows (given_rows by_rowid (db.trees tree))
 
-abbrev pub HasGroupings : Version → List StoredGrouping → Database → Type 0
-HasGroupings v groupings db = Has (groupings_at v) false (map grouping_row groupings) db
+-- they were read, and it was said whether no two of them have one rowid
+abbrev pub HasWhole : {X : Type 0} → (ℕ → Table) → Bool → (X → Row) → Database → TableRows X → Type 0
+HasWhole table by_rowid encode db all =
+    (tree : ℕ) → Finds db.schema (table tree) → IsPermutation (map encode all.rows.items) (given_rows by_rowid (db.trees tree)) × (IsTrue all.apart ↔ AreApart (db.trees tree))
+
+abbrev pub HasGroupings : Version → Database → TableRows StoredGrouping → Type 0
+HasGroupings v db all = HasWhole (groupings_at v) false grouping_row db all
 
 -- version 1 has no marks
-abbrev pub HasMarks : Version → List Mark → Database → Type 0
-HasMarks One marks db = marks ≡ []
-HasMarks Two marks db = Has mark_at false (map mark_row marks) db
-HasMarks Three marks db = Has mark_at false (map mark_row marks) db
+abbrev pub HasMarks : Version → Database → TableRows Mark → Type 0
+HasMarks One db all = all.rows.items ≡ []
+HasMarks Two db all = HasWhole mark_at false mark_row db all
+HasMarks Three db all = HasWhole mark_at false mark_row db all
 
--- ---- all of them
-
-abbrev pub items : {X : Type 0} → Vec X Global → List X
-items all = all.items
+-- ---- all of them but replies
 
 -- all rows, where those of each table were read
-abbrev pub tables_of : Option (List Product) → Option (List StoredLot) → Option (List StoredBatch) → Option (List StoredRecord) → Option (List StoredGrouping) → Option (List StoredSession)
-    → Option (List StoredWord) → Option (List StoredBlank) → Option (List StoredRemake) → Option (List Entry) → Option (List Mark) → Option Tables
-tables_of of_products of_lots of_batches of_records of_groupings of_sessions of_words of_blanks of_remakes of_replies of_marks =
+abbrev pub held_of : Option (TableRows Product) → Option (TableRows StoredLot) → Option (TableRows StoredBatch) → Option (TableRows StoredRecord) → Option (TableRows StoredGrouping) → Option (TableRows StoredSession)
+    → Option (TableRows StoredWord) → Option (TableRows StoredBlank) → Option (TableRows StoredRemake) → Option (TableRows Mark) → Option HeldRows
+held_of of_products of_lots of_batches of_records of_groupings of_sessions of_words of_blanks of_remakes of_marks =
     option_and_then (λ products.
     option_and_then (λ lots.
     option_and_then (λ batches.
@@ -68,21 +75,60 @@ tables_of of_products of_lots of_batches of_records of_groupings of_sessions of_
     option_and_then (λ words.
     option_and_then (λ blanks.
     option_and_then (λ remakes.
-    option_and_then (λ replies.
     option_map (λ marks. record {
-      products = products;
-      lots = lots;
-      batches = batches;
-      records = records;
-      groupings = groupings;
-      sessions = sessions;
-      words = words;
-      blanks = blanks;
-      remakes = remakes;
-      replies = replies;
-      marks = marks;
-    }) of_marks) of_replies) of_remakes) of_blanks) of_words) of_sessions) of_groupings) of_records) of_batches) of_lots) of_products
+      tables = record {
+        products = products.rows.items;
+        lots = lots.rows.items;
+        batches = batches.rows.items;
+        records = records.rows.items;
+        groupings = groupings.rows.items;
+        sessions = sessions.rows.items;
+        words = words.rows.items;
+        blanks = blanks.rows.items;
+        remakes = remakes.rows.items;
+        replies = [];
+        marks = marks.rows.items;
+      };
+      apart = ((((((((products.apart && lots.apart) && batches.apart) && records.apart) && groupings.apart) && sessions.apart) && words.apart) && blanks.apart) && remakes.apart) && marks.apart;
+    }) of_marks) of_remakes) of_blanks) of_words) of_sessions) of_groupings) of_records) of_batches) of_lots) of_products
+
+-- our tables but `version` and `reply`
+abbrev pub most_tables : List Table
+most_tables = product_table ∷ lot_table ∷ batch_table ∷ record_table ∷ grouping_table ∷ session_table ∷ word_table ∷ blank_table ∷ remake_table ∷ mark_table ∷ []
+
+abbrev pub MarksAre : Version → List Mark → Database → Type 0
+MarksAre One marks db = marks ≡ []
+MarksAre Two marks db = Has mark_at false (map mark_row marks) db
+MarksAre Three marks db = Has mark_at false (map mark_row marks) db
+
+-- the rows of each table but `version` and `reply`, wherever it stands, and whether no two rows of
+-- one of them have one rowid
+pub record HasMost (v : Version) (db : Database) (held : HeldRows) : Type 0 where
+  pub products : Has product_at false (map product_row held.tables.products) db
+  pub lots : Has lot_at false (map lot_row held.tables.lots) db
+  pub batches : Has batch_at true (map batch_row held.tables.batches) db
+  pub records : Has record_at false (map record_row held.tables.records) db
+  pub groupings : Has (groupings_at v) false (map grouping_row held.tables.groupings) db
+  pub sessions : Has session_at true (map session_row held.tables.sessions) db
+  pub words : Has word_at false (map word_row held.tables.words) db
+  pub blanks : Has blank_at true (map blank_row held.tables.blanks) db
+  pub remakes : Has remake_at false (map remake_row held.tables.remakes) db
+  pub marks : MarksAre v held.tables.marks db
+  pub apart : v ≡ Three → db.schema ≡ our_schema → IsTrue held.apart ↔ AllByRecursion (λ t. AreApart (db.trees t.tree)) most_tables
+
+-- ---- all of them
 
 -- where the tables are those of the version and it is given, these are the rows
 abbrev pub HasRows : Version → Database → Tables → Type 0
 HasRows v db t = HasJust db.schema (schema_of v) → AreThere db.schema (schema_of v).tables → SaysVersion v db → HoldsRows v t db
+
+-- what the audit has of the rows: all but the bytes of replies, and whether no two rows of a table
+-- have one rowid
+pub record IsForAudit (v : Version) (db : Database) (held : HeldRows) : Type 0 where
+  pub rows : Tables
+  pub holds : HoldsRows v rows db
+  pub tables : held.tables ≡ without_reply_bytes rows
+  pub apart : db.schema ≡ our_schema → IsTrue held.apart ↔ HasRowidsApart db
+
+abbrev pub HasForAudit : Version → Database → HeldRows → Type 0
+HasForAudit v db held = HasJust db.schema (schema_of v) → AreThere db.schema (schema_of v).tables → SaysVersion v db → IsForAudit v db held

@@ -1,16 +1,13 @@
 -- Shown rowids that rise, and rowids that are apart.
-use Rattle.std.specs.Prelude.{◌≡◌, ◌<ℤ◌, ℕ, ℤ, pos, List, [], ◌∷◌, ⊤}
+use Rattle.std.specs.Prelude.{◌≡◌, ◌<ℤ◌, ℤ, pos, List, [], ◌∷◌, ⊤}
 use Rattle.std.specs.List.{AllByRecursion}
 use Rattle.sqlite.specs.Effect.{Database}
 use Rattle.sqlite.specs.Order.{Row}
-use Rattle.sqlite.specs.Schema.{Schema}
-use Rattle.sqlite.specs.Term.{col}
 use Rattle.sqlite.specs.Tree.{rowid}
 use Rattle.sqlite.specs.declared.types.Value.{Value}
 use Rattle.sqlite.specs.declared.types.Value.TheVariants.{Int}
 use Rattle.sql_base.specs.Rowids.{AreApart}
 use Rattle.sql_tables.specs.Tables.{our_schema}
-use Rattle.table_reads.specs.Whole.{Asks}
 
 -- ---- as they are shown
 
@@ -31,10 +28,6 @@ AreRising [] = ⊤
 AreRising (row ∷ rows) = (Int (rowid_int row) ≡ rowid row) × IsRisingFrom (rowid_int row) rows
 
 -- ---- as they stand
-
--- the text asks for the rowids of this tree, and for nothing else
-abbrev pub AsksRowids : Schema → List ℕ → ℕ → Type 0
-AsksRowids s sql tree = Asks s sql tree (col 1 0 ∷ [])
 
 -- no two rows of one of our tables have one rowid
 abbrev pub HasRowidsApart : Database → Type 0

@@ -22,15 +22,15 @@ IsText v = Text (bytes_in v) ≡ v
 abbrev pub IsBlob : Value → Type 0
 IsBlob v = Blob (bytes_in v) ≡ v
 
--- ---- rows
+-- ---- rows; each begins with its rowid, which a table has as a column or not
 
 unfoldable pub IsProductRow : Row → Type 0
-IsProductRow r = (length r ≡ 4) × IsText (column r 0) × IsBelow 256 (column r 1) × IsBelow 256 (column r 2) × IsBelow 2 (column r 3)
+IsProductRow r = (length r ≡ 5) × IsText (column r 1) × IsBelow 256 (column r 2) × IsBelow 256 (column r 3) × IsBelow 2 (column r 4)
 
 unfoldable pub IsLotRow : Row → Type 0
 IsLotRow r =
-    (length r ≡ 5) × IsText (column r 0) × IsText (column r 1) × IsNumber (column r 2) × IsBelow (2 ^ 32) (column r 3)
-    × IsNumber (column r 4)
+    (length r ≡ 6) × IsText (column r 1) × IsText (column r 2) × IsNumber (column r 3) × IsBelow (2 ^ 32) (column r 4)
+    × IsNumber (column r 5)
 
 unfoldable pub IsBatchRow : Row → Type 0
 IsBatchRow r =
@@ -40,13 +40,13 @@ IsBatchRow r =
 
 unfoldable pub IsRecordRow : Row → Type 0
 IsRecordRow r =
-    (length r ≡ 6) × IsNumber (column r 0) × IsNumber (column r 1) × IsText (column r 2) × IsBelow 5 (column r 3) × IsNumber (column r 4)
-    × IsNumber (column r 5)
+    (length r ≡ 7) × IsNumber (column r 1) × IsNumber (column r 2) × IsText (column r 3) × IsBelow 5 (column r 4) × IsNumber (column r 5)
+    × IsNumber (column r 6)
 
 unfoldable pub IsGroupingRow : Row → Type 0
 IsGroupingRow r =
-    (length r ≡ 8) × IsNumber (column r 0) × IsNumber (column r 1) × IsNumber (column r 2) × IsBlob (column r 3)
-    × IsBelow 65536 (column r 4) × IsBelow 3 (column r 5) × IsBelow 2 (column r 6) × IsBlob (column r 7)
+    (length r ≡ 9) × IsNumber (column r 1) × IsNumber (column r 2) × IsNumber (column r 3) × IsBlob (column r 4)
+    × IsBelow 65536 (column r 5) × IsBelow 3 (column r 6) × IsBelow 2 (column r 7) × IsBlob (column r 8)
 
 unfoldable pub IsSessionRow : Row → Type 0
 IsSessionRow r =
@@ -55,19 +55,23 @@ IsSessionRow r =
     × IsNumber (column r 10) × IsNumber (column r 11)
 
 unfoldable pub IsWordRow : Row → Type 0
-IsWordRow r = (length r ≡ 3) × IsNumber (column r 0) × IsNumber (column r 1) × IsBelow 65536 (column r 2)
+IsWordRow r = (length r ≡ 4) × IsNumber (column r 1) × IsNumber (column r 2) × IsBelow 65536 (column r 3)
 
 unfoldable pub IsBlankRow : Row → Type 0
 IsBlankRow r = (length r ≡ 3) × IsNumber (column r 0) × IsText (column r 1) × IsBelow 2 (column r 2)
 
 unfoldable pub IsRemakeRow : Row → Type 0
-IsRemakeRow r = (length r ≡ 3) × IsNumber (column r 0) × IsNumber (column r 1) × IsNumber (column r 2)
+IsRemakeRow r = (length r ≡ 4) × IsNumber (column r 1) × IsNumber (column r 2) × IsNumber (column r 3)
 
 unfoldable pub IsReplyRow : Row → Type 0
-IsReplyRow r = (length r ≡ 5) × IsText (column r 0) × IsNumber (column r 1) × IsBlob (column r 2) × IsNumber (column r 3) × IsBlob (column r 4)
+IsReplyRow r = (length r ≡ 6) × IsText (column r 1) × IsNumber (column r 2) × IsBlob (column r 3) × IsNumber (column r 4) × IsBlob (column r 5)
 
 unfoldable pub IsMarkRow : Row → Type 0
-IsMarkRow r = (length r ≡ 2) × IsText (column r 0) × IsNumber (column r 1)
+IsMarkRow r = (length r ≡ 3) × IsText (column r 1) × IsNumber (column r 2)
+
+-- a row of replies without what was asked and what was answered
+unfoldable pub IsBriefRow : Row → Type 0
+IsBriefRow r = (length r ≡ 4) × IsText (column r 1) × IsNumber (column r 2) × IsNumber (column r 3)
 
 -- ---- typed rows: their numbers are in the ranges of the program
 

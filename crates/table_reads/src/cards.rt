@@ -30,26 +30,26 @@ impl Stored for StoredGrouping {
 
     #[tactic(auto, unfolding(crate::specs::Shown::IsGroupingRow))]
     fn is_in(row: &Row) -> bool {
-        row.column_count() == 8
-            && is_number(row, 0)
+        row.column_count() == 9
             && is_number(row, 1)
             && is_number(row, 2)
-            && is_blob(row, 3)
-            && is_below(row, 4, 65_536)
-            && is_below(row, 5, 3)
-            && is_below(row, 6, 2)
-            && is_blob(row, 7)
+            && is_number(row, 3)
+            && is_blob(row, 4)
+            && is_below(row, 5, 65_536)
+            && is_below(row, 6, 3)
+            && is_below(row, 7, 2)
+            && is_blob(row, 8)
     }
 
     fn read(alloc: Global, row: &Row) -> Result<StoredGrouping, Error> {
-        let batch = number_at(row, 0);
-        let line = number_at(row, 1);
-        let place = number_at(row, 2);
-        let aid = bytes_at(alloc, row, 3)?;
-        let rank = short_at(row, 4);
-        let enc = enc_at(row, 5);
-        let tol = flag_at(row, 6);
-        let coded = bytes_at(alloc, row, 7)?;
+        let batch = number_at(row, 1);
+        let line = number_at(row, 2);
+        let place = number_at(row, 3);
+        let aid = bytes_at(alloc, row, 4)?;
+        let rank = short_at(row, 5);
+        let enc = enc_at(row, 6);
+        let tol = flag_at(row, 7);
+        let coded = bytes_at(alloc, row, 8)?;
         Ok(StoredGrouping {
             batch,
             line,
@@ -134,16 +134,16 @@ impl Stored for StoredWord {
 
     #[tactic(auto, unfolding(crate::specs::Shown::IsWordRow))]
     fn is_in(row: &Row) -> bool {
-        row.column_count() == 3
-            && is_number(row, 0)
+        row.column_count() == 4
             && is_number(row, 1)
-            && is_below(row, 2, 65_536)
+            && is_number(row, 2)
+            && is_below(row, 3, 65_536)
     }
 
     fn read(_alloc: Global, row: &Row) -> Result<StoredWord, Error> {
-        let session = number_at(row, 0);
-        let place = number_at(row, 1);
-        let sw = short_at(row, 2);
+        let session = number_at(row, 1);
+        let place = number_at(row, 2);
+        let sw = short_at(row, 3);
         Ok(StoredWord { session, place, sw })
     }
 
@@ -189,13 +189,13 @@ impl Stored for StoredRemake {
 
     #[tactic(auto, unfolding(crate::specs::Shown::IsRemakeRow))]
     fn is_in(row: &Row) -> bool {
-        row.column_count() == 3 && is_number(row, 0) && is_number(row, 1) && is_number(row, 2)
+        row.column_count() == 4 && is_number(row, 1) && is_number(row, 2) && is_number(row, 3)
     }
 
     fn read(_alloc: Global, row: &Row) -> Result<StoredRemake, Error> {
-        let batch = number_at(row, 0);
-        let place = number_at(row, 1);
-        let turn = number_at(row, 2);
+        let batch = number_at(row, 1);
+        let place = number_at(row, 2);
+        let turn = number_at(row, 3);
         Ok(StoredRemake { batch, place, turn })
     }
 
@@ -213,20 +213,20 @@ impl Stored for StoredReply {
 
     #[tactic(auto, unfolding(crate::specs::Shown::IsReplyRow))]
     fn is_in(row: &Row) -> bool {
-        row.column_count() == 5
-            && is_text(row, 0)
-            && is_number(row, 1)
-            && is_blob(row, 2)
-            && is_number(row, 3)
-            && is_blob(row, 4)
+        row.column_count() == 6
+            && is_text(row, 1)
+            && is_number(row, 2)
+            && is_blob(row, 3)
+            && is_number(row, 4)
+            && is_blob(row, 5)
     }
 
     fn read(alloc: Global, row: &Row) -> Result<StoredReply, Error> {
-        let client = bytes_at(alloc, row, 0)?;
-        let number = number_at(row, 1);
-        let ask = bytes_at(alloc, row, 2)?;
-        let status = number_at(row, 3);
-        let body = bytes_at(alloc, row, 4)?;
+        let client = bytes_at(alloc, row, 1)?;
+        let number = number_at(row, 2);
+        let ask = bytes_at(alloc, row, 3)?;
+        let status = number_at(row, 4);
+        let body = bytes_at(alloc, row, 5)?;
         Ok(StoredReply {
             client,
             number,
@@ -250,12 +250,12 @@ impl Stored for StoredMark {
 
     #[tactic(auto, unfolding(crate::specs::Shown::IsMarkRow))]
     fn is_in(row: &Row) -> bool {
-        row.column_count() == 2 && is_text(row, 0) && is_number(row, 1)
+        row.column_count() == 3 && is_text(row, 1) && is_number(row, 2)
     }
 
     fn read(alloc: Global, row: &Row) -> Result<StoredMark, Error> {
-        let client = bytes_at(alloc, row, 0)?;
-        let upto = number_at(row, 1);
+        let client = bytes_at(alloc, row, 1)?;
+        let upto = number_at(row, 2);
         Ok(StoredMark { client, upto })
     }
 

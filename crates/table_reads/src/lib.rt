@@ -5,14 +5,15 @@ mod cards;
 pub mod laws;
 mod names;
 mod reads;
+mod replies;
 mod rowids;
 mod stored;
 mod tables;
 mod values;
 mod version;
 
-pub use reads::whole;
-pub use rowids::has_apart_rowids;
+pub use reads::{TableRows, whole};
+pub use replies::with_reply_bytes;
 pub use stored::Stored;
-pub use tables::read_all;
+pub use tables::{HeldRows, read_all, read_for_audit};
 pub use version::says;

@@ -25,18 +25,18 @@ impl Stored for StoredProduct {
 
     #[tactic(auto, unfolding(crate::specs::Shown::IsProductRow))]
     fn is_in(row: &Row) -> bool {
-        row.column_count() == 4
-            && is_text(row, 0)
-            && is_below(row, 1, 256)
+        row.column_count() == 5
+            && is_text(row, 1)
             && is_below(row, 2, 256)
-            && is_below(row, 3, 2)
+            && is_below(row, 3, 256)
+            && is_below(row, 4, 2)
     }
 
     fn read(alloc: Global, row: &Row) -> Result<StoredProduct, Error> {
-        let name = bytes_at(alloc, row, 0)?;
-        let max = byte_at(row, 1);
-        let low = byte_at(row, 2);
-        let checked = flag_at(row, 3);
+        let name = bytes_at(alloc, row, 1)?;
+        let max = byte_at(row, 2);
+        let low = byte_at(row, 3);
+        let checked = flag_at(row, 4);
         Ok(StoredProduct {
             name,
             max,
@@ -59,20 +59,20 @@ impl Stored for StoredLot {
 
     #[tactic(auto, unfolding(crate::specs::Shown::IsLotRow))]
     fn is_in(row: &Row) -> bool {
-        row.column_count() == 5
-            && is_text(row, 0)
+        row.column_count() == 6
             && is_text(row, 1)
-            && is_number(row, 2)
-            && is_below(row, 3, 4_294_967_296)
-            && is_number(row, 4)
+            && is_text(row, 2)
+            && is_number(row, 3)
+            && is_below(row, 4, 4_294_967_296)
+            && is_number(row, 5)
     }
 
     fn read(alloc: Global, row: &Row) -> Result<StoredLot, Error> {
-        let name = bytes_at(alloc, row, 0)?;
-        let product = bytes_at(alloc, row, 1)?;
-        let low_serial = number_at(row, 2);
-        let amount = long_at(row, 3);
-        let discarded = number_at(row, 4);
+        let name = bytes_at(alloc, row, 1)?;
+        let product = bytes_at(alloc, row, 2)?;
+        let low_serial = number_at(row, 3);
+        let amount = long_at(row, 4);
+        let discarded = number_at(row, 5);
         Ok(StoredLot {
             name,
             product,
@@ -154,22 +154,22 @@ impl Stored for StoredRecord {
 
     #[tactic(auto, unfolding(crate::specs::Shown::IsRecordRow))]
     fn is_in(row: &Row) -> bool {
-        row.column_count() == 6
-            && is_number(row, 0)
+        row.column_count() == 7
             && is_number(row, 1)
-            && is_text(row, 2)
-            && is_below(row, 3, 5)
-            && is_number(row, 4)
+            && is_number(row, 2)
+            && is_text(row, 3)
+            && is_below(row, 4, 5)
             && is_number(row, 5)
+            && is_number(row, 6)
     }
 
     fn read(alloc: Global, row: &Row) -> Result<StoredRecord, Error> {
-        let batch = number_at(row, 0);
-        let place = number_at(row, 1);
-        let name = bytes_at(alloc, row, 2)?;
-        let state = record_state_at(row, 3);
-        let spoiled = number_at(row, 4);
-        let remakes = number_at(row, 5);
+        let batch = number_at(row, 1);
+        let place = number_at(row, 2);
+        let name = bytes_at(alloc, row, 3)?;
+        let state = record_state_at(row, 4);
+        let spoiled = number_at(row, 5);
+        let remakes = number_at(row, 6);
         Ok(StoredRecord {
             batch,
             place,

@@ -1,42 +1,65 @@
 //! A table is read whole, whatever its order and its number are.
-ghost use Rattle.std.specs.Prelude.{◌≡◌, ℕ, false, map, Bool, IfOk, IsPermutation, IsTrue};
-ghost use Rattle.std.specs.Prelude.{MatchOption};
+ghost use Rattle.std.specs.Prelude.{◌≡◌, ◌↔◌, ℕ, false, map, List, IfErr, IfOk, IsPermutation};
+ghost use Rattle.std.specs.Prelude.{IsTrue, MatchOption};
+ghost use Rattle.sqlite.specs.Effect.{IsDatabase};
 ghost use Rattle.sqlite.specs.Held.{state};
 ghost use Rattle.sqlite.specs.State.{HasCleanDisk, Survives};
 ghost use Rattle.sqlite.specs.Table.{Table};
+ghost use Rattle.sqlite.specs.Term.{Term};
+ghost use Rattle.sql_base.specs.Causes.{HadCause};
 ghost use Rattle.sql_base.specs.Ends.{IsKept};
+ghost use Rattle.sql_base.specs.Rowids.{AreApart};
 ghost use Rattle.sql_tables.specs.Finds.{Finds};
 ghost use Rattle.sql_rows.specs.Image.{given_rows};
-ghost use Rattle.table_reads.specs.Whole.{IsWhole, NoneStandSo, as_stored};
+ghost use Rattle.table_reads.specs.Whole.{AreShown, Asks, IsWhole, NoneStandSo, with_rowid};
 
+use crate::rowids::{are_rising, sort_rowids};
 use crate::stored::{Stored, all_in};
 use sql_base::{laws, rows_of};
 use sqlite::{Alter, Connection, Error, Row};
 
-// The rows that a text shows. Where it asks for a table whole, they are just those of the table.
-pub(crate) fn whole_rows<S: Alter>(conn: &mut Connection<S>, sql: &str) -> Result<Vec<Row>, Error>
+/// The rows of a table.
+#[derive(Drop)]
+pub struct TableRows<T> {
+    pub rows: Vec<T>,
+    /// Whether no two of them have one rowid.
+    pub apart: bool,
+}
+
+// What a text that asks for rowids, and for more beside them, shows of a tree, and whether the
+// rowids are apart: whether they rise once the rows are sorted by them.
+pub(crate) fn shown_rows<S: Alter>(
+    conn: &mut Connection<S>,
+    sql: &str,
+) -> Result<TableRows<Row>, Error>
     requires { conn.old.in_transaction ≡ false }
     ensures value { HasCleanDisk (state S.Store conn.new) → IfOk result
-        (λ rows. IsTrue (state S.Store conn.old).is_open × ((table : ℕ → Table) (by_rowid : Bool)
-        → IsWhole sql.now table by_rowid → (tree : ℕ)
-        → Finds (state S.Store conn.old).now.schema (table tree)
-        → IsPermutation (map (as_stored by_rowid) rows.items)
-        (given_rows by_rowid ((state S.Store conn.old).now.trees tree)))) }
+        (λ shown. IsTrue (state S.Store conn.old).is_open
+        × IsDatabase (state S.Store conn.old).now × ((tree : ℕ) (columns : List Term)
+        → Asks (state S.Store conn.old).now.schema sql.now tree (with_rowid columns)
+        → AreShown (with_rowid columns) ((state S.Store conn.old).now.trees tree)
+        shown.rows.items shown.apart)) }
     ensures kept { HasCleanDisk (state S.Store conn.new)
         → IsKept (state S.Store conn.old) (state S.Store conn.new) }
     ensures idle { conn.new.in_transaction ≡ false }
     ensures survives { Survives (state S.Store conn.old) (state S.Store conn.new) (λ _. ⊥) }
+    ensures cause { HasCleanDisk (state S.Store conn.new) → IfErr result
+        (HadCause S.Store (state S.Store conn.old) (state S.Store conn.new)) }
 {
     laws::is_live(conn);
-    rows_of(conn, sql, &[])
+    let mut rows = rows_of(conn, sql, &[])?;
+    sort_rowids(&mut rows)?;
+    let apart = are_rising(rows.as_slice());
+    Ok(TableRows { rows, apart })
 }
 
-/// All rows of the table that a text asks for whole, in any order; none where some row is not such
-/// a one. Nothing is changed, and a crash leaves what it could leave before.
+/// All rows of the table that a text asks for whole, in any order, and whether no two of them have
+/// one rowid; none where some row is not such a one. Nothing is changed, and a crash leaves what it
+/// could leave before.
 pub fn whole<T: Stored, S: Alter>(
     conn: &mut Connection<S>,
     sql: &str,
-) -> Result<Option<Vec<T>>, Error>
+) -> Result<Option<TableRows<T>>, Error>
     requires { conn.old.in_transaction ≡ false }
     ensures value { HasCleanDisk (state S.Store conn.new) → IfOk result
         (λ found. IsTrue (state S.Store conn.old).is_open × ((table : ℕ → Table)
@@ -44,14 +67,23 @@ pub fn whole<T: Stored, S: Alter>(
         → Finds (state S.Store conn.old).now.schema (table tree) → MatchOption found
         (NoneStandSo T.encode T.fits
         (given_rows T.by_rowid ((state S.Store conn.old).now.trees tree)))
-        (λ all. IsPermutation (map T.encode all.items)
-        (given_rows T.by_rowid ((state S.Store conn.old).now.trees tree))))) }
+        (λ all. IsPermutation (map T.encode all.rows.items)
+        (given_rows T.by_rowid ((state S.Store conn.old).now.trees tree))
+        × (IsTrue all.apart ↔ AreApart ((state S.Store conn.old).now.trees tree))))) }
     ensures kept { HasCleanDisk (state S.Store conn.new)
         → IsKept (state S.Store conn.old) (state S.Store conn.new) }
     ensures idle { conn.new.in_transaction ≡ false }
     ensures survives { Survives (state S.Store conn.old) (state S.Store conn.new) (λ _. ⊥) }
+    ensures cause { HasCleanDisk (state S.Store conn.new) → IfErr result
+        (HadCause S.Store (state S.Store conn.old) (state S.Store conn.new)) }
 {
-    let rows = whole_rows(conn, sql)?;
-    let alloc = *rows.allocator();
-    all_in(alloc, rows)
+    let shown = shown_rows(conn, sql)?;
+    let alloc = *shown.rows.allocator();
+    let Some(rows) = all_in(alloc, shown.rows)? else {
+        return Ok(None);
+    };
+    Ok(Some(TableRows {
+        rows,
+        apart: shown.apart,
+    }))
 }

@@ -1,5 +1,6 @@
 //! A row of a table that is read whole.
-ghost use Rattle.std.specs.Prelude.{◌≡◌, map, All, IfOk, MatchOption};
+ghost use Rattle.std.specs.Prelude.{◌≡◌, false, map, All, MatchOption, MatchResult};
+ghost use Rattle.sqlite.specs.State.{is_disk_error};
 ghost use Rattle.table_reads.specs.Whole.{as_stored};
 
 use sqlite::{Error, Row};
@@ -7,8 +8,9 @@ use std::alloc::Global;
 
 /// A row of a table that is read whole.
 pub trait Stored: Sized + Drop {
-    ghost use Rattle.std.specs.Prelude.{◌≡◌, ◌↔◌, Bool, IfOk, IsTrue};
+    ghost use Rattle.std.specs.Prelude.{◌≡◌, ◌↔◌, false, Bool, IsTrue, MatchResult};
     ghost use Rattle.sqlite.specs.Order.{Row as RowValue};
+    ghost use Rattle.sqlite.specs.State.{is_disk_error};
     ghost use Rattle.table_reads.specs.Whole.{as_stored};
 
     /// How it stands in its table.
@@ -27,9 +29,10 @@ pub trait Stored: Sized + Drop {
     fn is_in(row: &Row) -> bool
         ensures { IsTrue result ↔ is_row row.now };
 
-    /// The one that a shown row gives.
+    /// The one that a shown row gives. No error is one of the disk.
     fn read(alloc: Global, row: &Row) -> Result<Self, Error>
-        ensures { IfOk result (λ it. is_row row.now → encode it ≡ as_stored by_rowid row.now) };
+        ensures { MatchResult result (λ it. is_row row.now
+            → encode it ≡ as_stored by_rowid row.now) (λ e. is_disk_error e ≡ false) };
 
     /// A row that is in the ranges is shown in that shape.
     ghost shaped: { (x : Self) → fits x → (row : RowValue) → as_stored by_rowid row ≡ encode x
@@ -38,8 +41,8 @@ pub trait Stored: Sized + Drop {
 
 // What a shown row gives, where it gives one.
 fn one_in<T: Stored>(alloc: Global, row: &Row) -> Result<Option<T>, Error>
-    ensures { IfOk result (λ found. MatchOption found (T.is_row row.now → ⊥)
-        (λ it. T.encode it ≡ as_stored T.by_rowid row.now)) }
+    ensures { MatchResult result (λ found. MatchOption found (T.is_row row.now → ⊥)
+        (λ it. T.encode it ≡ as_stored T.by_rowid row.now)) (λ e. is_disk_error e ≡ false) }
 {
     if T::is_in(row) {
         Ok(Some(T::read(alloc, row)?))
@@ -51,8 +54,9 @@ fn one_in<T: Stored>(alloc: Global, row: &Row) -> Result<Option<T>, Error>
 // What the rows of a whole table give, where each row gives one. A row is let go once it is given,
 // so that memory holds a table once.
 pub(crate) fn all_in<T: Stored>(alloc: Global, rows: Vec<Row>) -> Result<Option<Vec<T>>, Error>
-    ensures { IfOk result (λ found. MatchOption found (All T.is_row rows.items → ⊥)
-        (λ all. map T.encode all.items ≡ map (as_stored T.by_rowid) rows.items)) }
+    ensures { MatchResult result (λ found. MatchOption found (All T.is_row rows.items → ⊥)
+        (λ all. map T.encode all.items ≡ map (as_stored T.by_rowid) rows.items))
+        (λ e. is_disk_error e ≡ false) }
 {
     let mut all = Vec::with_capacity(alloc, rows.len())?;
     for row in rows {

@@ -1,77 +1,94 @@
-//! All tables are read whole, one after the other.
-ghost use Rattle.std.specs.Prelude.{◌≡◌, false, option_map, IfOk, MatchOption};
+//! All tables are read, one after the other.
+ghost use Rattle.std.specs.Prelude.{◌≡◌, ◌&&◌, false, IfErr, IfOk, MatchOption};
 ghost use Rattle.sqlite.specs.Held.{state};
 ghost use Rattle.sqlite.specs.State.{HasCleanDisk, Survives};
+ghost use Rattle.sql_base.specs.Causes.{HadCause};
 ghost use Rattle.sql_base.specs.Ends.{IsKept};
-ghost use Rattle.table_reads.specs.Reading.{HasGroupings, HasMarks, HasRows, HoldsNoneOf};
-ghost use Rattle.table_reads.specs.Reading.{Reads, items, tables_of};
+ghost use Rattle.table_reads.specs.Reading.{HasForAudit, HasGroupings, HasMarks, HasMost};
+ghost use Rattle.table_reads.specs.Reading.{HasRows, HoldsNoneOf, Reads, held_of};
 
-use crate::reads::whole;
+use crate::reads::{TableRows, whole};
+use crate::replies::brief_replies;
 use sql_tables::Version;
 use sqlite::{Alter, Connection, Error};
 use std::alloc::Global;
 use table_rows::{
     StoredBatch, StoredBlank, StoredGrouping, StoredLot, StoredMark, StoredProduct, StoredRecord,
-    StoredRemake, StoredReply, StoredSession, StoredWord, Tables,
+    StoredRemake, StoredSession, StoredWord, Tables,
 };
 
-// What was read of each table; none where some row is none of its table's.
+/// The rows of all tables but `version`.
 #[derive(Drop)]
-struct Found {
-    products: Option<Vec<StoredProduct>>,
-    lots: Option<Vec<StoredLot>>,
-    batches: Option<Vec<StoredBatch>>,
-    records: Option<Vec<StoredRecord>>,
-    groupings: Option<Vec<StoredGrouping>>,
-    sessions: Option<Vec<StoredSession>>,
-    words: Option<Vec<StoredWord>>,
-    blanks: Option<Vec<StoredBlank>>,
-    remakes: Option<Vec<StoredRemake>>,
-    replies: Option<Vec<StoredReply>>,
-    marks: Option<Vec<StoredMark>>,
+pub struct HeldRows {
+    pub tables: Tables,
+    /// Whether no two rows of a table have one rowid.
+    pub apart: bool,
 }
 
-// All tables, where each was read.
-fn gathered(found: Found) -> Option<Tables>
-    ensures { result ≡ tables_of (option_map items found.products) (option_map items found.lots)
-        (option_map items found.batches) (option_map items found.records)
-        (option_map items found.groupings) (option_map items found.sessions)
-        (option_map items found.words) (option_map items found.blanks)
-        (option_map items found.remakes) (option_map items found.replies)
-        (option_map items found.marks) }
+// What was read of each table but `reply`; none where some row is none of its table's.
+#[derive(Drop)]
+struct Found {
+    products: Option<TableRows<StoredProduct>>,
+    lots: Option<TableRows<StoredLot>>,
+    batches: Option<TableRows<StoredBatch>>,
+    records: Option<TableRows<StoredRecord>>,
+    groupings: Option<TableRows<StoredGrouping>>,
+    sessions: Option<TableRows<StoredSession>>,
+    words: Option<TableRows<StoredWord>>,
+    blanks: Option<TableRows<StoredBlank>>,
+    remakes: Option<TableRows<StoredRemake>>,
+    marks: Option<TableRows<StoredMark>>,
+}
+
+// The rows of one more table, beside others whose rowids are apart or not.
+fn rows_beside<T: Drop>(table: TableRows<T>, apart: &mut bool) -> Vec<T>
+    ensures rows { result ≡ table.rows }
+    ensures apart { apart.new ≡ apart.old && table.apart }
 {
-    Some(Tables {
-        products: found.products?,
-        lots: found.lots?,
-        batches: found.batches?,
-        records: found.records?,
-        groupings: found.groupings?,
-        sessions: found.sessions?,
-        words: found.words?,
-        blanks: found.blanks?,
-        remakes: found.remakes?,
-        replies: found.replies?,
-        marks: found.marks?,
-    })
+    *apart = *apart && table.apart;
+    table.rows
+}
+
+// All tables but `reply`, where each was read.
+fn gathered(alloc: Global, found: Found) -> Option<HeldRows>
+    ensures { result ≡ held_of found.products found.lots found.batches found.records
+        found.groupings found.sessions found.words found.blanks found.remakes found.marks }
+{
+    let mut apart = true;
+    let tables = Tables {
+        products: rows_beside(found.products?, &mut apart),
+        lots: rows_beside(found.lots?, &mut apart),
+        batches: rows_beside(found.batches?, &mut apart),
+        records: rows_beside(found.records?, &mut apart),
+        groupings: rows_beside(found.groupings?, &mut apart),
+        sessions: rows_beside(found.sessions?, &mut apart),
+        words: rows_beside(found.words?, &mut apart),
+        blanks: rows_beside(found.blanks?, &mut apart),
+        remakes: rows_beside(found.remakes?, &mut apart),
+        replies: Vec::new(alloc),
+        marks: rows_beside(found.marks?, &mut apart),
+    };
+    Some(HeldRows { tables, apart })
 }
 
 // The groupings, which each version keeps in a table of its own.
 fn groupings<S: Alter>(
     conn: &mut Connection<S>,
     version: Version,
-) -> Result<Option<Vec<StoredGrouping>>, Error>
+) -> Result<Option<TableRows<StoredGrouping>>, Error>
     requires { conn.old.in_transaction ≡ false }
     ensures value { HasCleanDisk (state S.Store conn.new) → IfOk result
-        (Reads (HoldsNoneOf version) (λ db all. HasGroupings version all.items db)
-        (state S.Store conn.old)) }
+        (Reads (HoldsNoneOf version) (HasGroupings version) (state S.Store conn.old)) }
     ensures kept { HasCleanDisk (state S.Store conn.new)
         → IsKept (state S.Store conn.old) (state S.Store conn.new) }
     ensures idle { conn.new.in_transaction ≡ false }
     ensures survives { Survives (state S.Store conn.old) (state S.Store conn.new) (λ _. ⊥) }
+    ensures cause { HasCleanDisk (state S.Store conn.new) → IfErr result
+        (HadCause S.Store (state S.Store conn.old) (state S.Store conn.new)) }
 {
     match version {
-        Version::One | Version::Two => whole(conn, "SELECT * FROM grouping"),
-        Version::Three => whole(conn, "SELECT * FROM grouping2"),
+        Version::One | Version::Two => whole(conn, "SELECT rowid, * FROM grouping"),
+        Version::Three => whole(conn, "SELECT rowid, * FROM grouping2"),
     }
 }
 
@@ -80,20 +97,98 @@ fn marks<S: Alter>(
     alloc: Global,
     conn: &mut Connection<S>,
     version: Version,
-) -> Result<Option<Vec<StoredMark>>, Error>
+) -> Result<Option<TableRows<StoredMark>>, Error>
     requires { conn.old.in_transaction ≡ false }
     ensures value { HasCleanDisk (state S.Store conn.new) → IfOk result (λ found.
         MatchOption found (HoldsNoneOf version (state S.Store conn.old).now)
-        (λ all. HasMarks version all.items (state S.Store conn.old).now)) }
+        (HasMarks version (state S.Store conn.old).now)) }
     ensures kept { HasCleanDisk (state S.Store conn.new)
         → IsKept (state S.Store conn.old) (state S.Store conn.new) }
     ensures idle { conn.new.in_transaction ≡ false }
     ensures survives { Survives (state S.Store conn.old) (state S.Store conn.new) (λ _. ⊥) }
+    ensures cause { HasCleanDisk (state S.Store conn.new) → IfErr result
+        (HadCause S.Store (state S.Store conn.old) (state S.Store conn.new)) }
 {
     match version {
-        Version::One => Ok(Some(Vec::new(alloc))),
-        Version::Two | Version::Three => whole(conn, "SELECT * FROM mark"),
+        Version::One => Ok(Some(TableRows {
+            rows: Vec::new(alloc),
+            apart: true,
+        })),
+        Version::Two | Version::Three => whole(conn, "SELECT rowid, * FROM mark"),
     }
+}
+
+// The rows of all tables but `version` and `reply`.
+fn read_most<S: Alter>(
+    alloc: Global,
+    conn: &mut Connection<S>,
+    version: Version,
+) -> Result<Option<HeldRows>, Error>
+    requires { conn.old.in_transaction ≡ false }
+    ensures value { HasCleanDisk (state S.Store conn.new) → IfOk result
+        (Reads (HoldsNoneOf version) (HasMost version) (state S.Store conn.old)) }
+    ensures kept { HasCleanDisk (state S.Store conn.new)
+        → IsKept (state S.Store conn.old) (state S.Store conn.new) }
+    ensures idle { conn.new.in_transaction ≡ false }
+    ensures survives { Survives (state S.Store conn.old) (state S.Store conn.new) (λ _. ⊥) }
+    ensures cause { HasCleanDisk (state S.Store conn.new) → IfErr result
+        (HadCause S.Store (state S.Store conn.old) (state S.Store conn.new)) }
+{
+    let marks = marks(alloc, conn, version)?;
+    let products = whole(conn, "SELECT rowid, * FROM product")?;
+    let lots = whole(conn, "SELECT rowid, * FROM lot")?;
+    let batches = whole(conn, "SELECT * FROM batch")?;
+    let records = whole(conn, "SELECT rowid, * FROM record")?;
+    let groupings = groupings(conn, version)?;
+    let sessions = whole(conn, "SELECT * FROM session")?;
+    let words = whole(conn, "SELECT rowid, * FROM word")?;
+    let blanks = whole(conn, "SELECT * FROM blank")?;
+    let remakes = whole(conn, "SELECT rowid, * FROM remake")?;
+    Ok(gathered(
+        alloc,
+        Found {
+            products,
+            lots,
+            batches,
+            records,
+            groupings,
+            sessions,
+            words,
+            blanks,
+            remakes,
+            marks,
+        },
+    ))
+}
+
+/// What the audit needs of all tables but `version`, where the tables are those of this version:
+/// their rows, in any order and with replies without what was asked and what was answered, and
+/// whether no two rows of a table have one rowid. None where they are not rows of sound contents,
+/// since some row is none of its table's. Nothing is changed, and a crash leaves what it could leave
+/// before.
+pub fn read_for_audit<S: Alter>(
+    alloc: Global,
+    conn: &mut Connection<S>,
+    version: Version,
+) -> Result<Option<HeldRows>, Error>
+    requires { conn.old.in_transaction ≡ false }
+    ensures value { HasCleanDisk (state S.Store conn.new) → IfOk result
+        (Reads (HoldsNoneOf version) (HasForAudit version) (state S.Store conn.old)) }
+    ensures kept { HasCleanDisk (state S.Store conn.new)
+        → IsKept (state S.Store conn.old) (state S.Store conn.new) }
+    ensures idle { conn.new.in_transaction ≡ false }
+    ensures survives { Survives (state S.Store conn.old) (state S.Store conn.new) (λ _. ⊥) }
+    ensures cause { HasCleanDisk (state S.Store conn.new) → IfErr result
+        (HadCause S.Store (state S.Store conn.old) (state S.Store conn.new)) }
+{
+    let Some(mut held) = read_most(alloc, conn, version)? else {
+        return Ok(None);
+    };
+    let Some(replies) = brief_replies(conn)? else {
+        return Ok(None);
+    };
+    held.tables.replies = rows_beside(replies, &mut held.apart);
+    Ok(Some(held))
 }
 
 /// The rows of all tables but `version`, in any order, where the tables are those of this version;
@@ -112,29 +207,16 @@ pub fn read_all<S: Alter>(
         → IsKept (state S.Store conn.old) (state S.Store conn.new) }
     ensures idle { conn.new.in_transaction ≡ false }
     ensures survives { Survives (state S.Store conn.old) (state S.Store conn.new) (λ _. ⊥) }
+    ensures cause { HasCleanDisk (state S.Store conn.new) → IfErr result
+        (HadCause S.Store (state S.Store conn.old) (state S.Store conn.new)) }
 {
-    let marks = marks(alloc, conn, version)?;
-    let products = whole(conn, "SELECT * FROM product")?;
-    let lots = whole(conn, "SELECT * FROM lot")?;
-    let batches = whole(conn, "SELECT * FROM batch")?;
-    let records = whole(conn, "SELECT * FROM record")?;
-    let groupings = groupings(conn, version)?;
-    let sessions = whole(conn, "SELECT * FROM session")?;
-    let words = whole(conn, "SELECT * FROM word")?;
-    let blanks = whole(conn, "SELECT * FROM blank")?;
-    let remakes = whole(conn, "SELECT * FROM remake")?;
-    let replies = whole(conn, "SELECT * FROM reply")?;
-    Ok(gathered(Found {
-        products,
-        lots,
-        batches,
-        records,
-        groupings,
-        sessions,
-        words,
-        blanks,
-        remakes,
-        replies,
-        marks,
-    }))
+    let Some(held) = read_most(alloc, conn, version)? else {
+        return Ok(None);
+    };
+    let Some(replies) = whole(conn, "SELECT rowid, * FROM reply")? else {
+        return Ok(None);
+    };
+    let mut tables = held.tables;
+    tables.replies = replies.rows;
+    Ok(Some(tables))
 }

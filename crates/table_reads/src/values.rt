@@ -1,6 +1,7 @@
 //! The values of a shown row.
-ghost use Rattle.std.specs.Prelude.{◌≡◌, ◌↔◌, ◌<◌, ◌^◌, IfOk, IsTrue};
+ghost use Rattle.std.specs.Prelude.{◌≡◌, ◌↔◌, ◌<◌, ◌^◌, false, IsTrue, MatchResult};
 ghost use Rattle.sqlite.specs.Order.{column};
+ghost use Rattle.sqlite.specs.State.{is_disk_error};
 ghost use Rattle.sqlite.specs.Value.{owned};
 ghost use Rattle.sql_rows.specs.Decoding.{bytes_in, number_in};
 ghost use Rattle.sql_rows.specs.Encoding.{enc_code, flag, record_code, session_code};
@@ -145,7 +146,8 @@ pub(crate) fn enc_at(row: &Row, at: usize) -> Enc
 }
 
 fn bytes_of(alloc: Global, value: ValueRef<'_>) -> Result<Vec<u8>, Error>
-    ensures { IfOk result (λ bytes. bytes.items ≡ bytes_in (owned value.entry)) }
+    ensures { MatchResult result (λ bytes. bytes.items ≡ bytes_in (owned value.entry))
+        (λ e. is_disk_error e ≡ false) }
 {
     match value {
         ValueRef::Text(bytes) => Ok(bytes.to_vec(alloc)?),
@@ -154,9 +156,11 @@ fn bytes_of(alloc: Global, value: ValueRef<'_>) -> Result<Vec<u8>, Error>
     }
 }
 
-// The bytes in this column; none where there is neither a text nor a blob.
+// The bytes in this column; none where there is neither a text nor a blob. No error is one of the
+// disk.
 pub(crate) fn bytes_at(alloc: Global, row: &Row, at: usize) -> Result<Vec<u8>, Error>
-    ensures { IfOk result (λ bytes. bytes.items ≡ bytes_in (column row.now at)) }
+    ensures { MatchResult result (λ bytes. bytes.items ≡ bytes_in (column row.now at))
+        (λ e. is_disk_error e ≡ false) }
 {
     bytes_of(alloc, value_at(row, at))
 }

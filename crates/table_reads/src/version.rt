@@ -1,8 +1,10 @@
 //! The row of `version` is read.
-ghost use Rattle.std.specs.Prelude.{◌≡◌, ◌↔◌, ℕ, [], ◌∷◌, false, true, IfOk, IsPermutation, IsTrue};
+ghost use Rattle.std.specs.Prelude.{◌≡◌, ◌↔◌, ℕ, [], ◌∷◌, false, true, IfErr, IfOk};
+ghost use Rattle.std.specs.Prelude.{IsPermutation, IsTrue};
 ghost use Rattle.sqlite.specs.Held.{state};
 ghost use Rattle.sqlite.specs.Order.{column};
 ghost use Rattle.sqlite.specs.State.{HasCleanDisk, Survives};
+ghost use Rattle.sql_base.specs.Causes.{HadCause};
 ghost use Rattle.sql_base.specs.Ends.{IsKept};
 ghost use Rattle.sql_tables.specs.Finds.{Finds};
 ghost use Rattle.sql_tables.specs.Ours.{AreThere};
@@ -12,7 +14,7 @@ ghost use Rattle.sql_rows.specs.Image.{given_rows};
 ghost use Rattle.table_reads.specs.Holding.{SaysVersion, number_of};
 ghost use Rattle.table_reads.specs.Version.{IsVersionAlone, IsVersionRow, numbered_row};
 
-use crate::reads::whole_rows;
+use crate::reads::shown_rows;
 use crate::values::{is_number, number_at};
 use sql_tables::Version;
 use sqlite::{Alter, Connection, Error, Row};
@@ -51,9 +53,11 @@ fn says_version<S: Alter>(conn: &mut Connection<S>, version: u64) -> Result<bool
         → IsKept (state S.Store conn.old) (state S.Store conn.new) }
     ensures idle { conn.new.in_transaction ≡ false }
     ensures survives { Survives (state S.Store conn.old) (state S.Store conn.new) (λ _. ⊥) }
+    ensures cause { HasCleanDisk (state S.Store conn.new) → IfErr result
+        (HadCause S.Store (state S.Store conn.old) (state S.Store conn.new)) }
 {
-    let rows = whole_rows(conn, "SELECT * FROM version")?;
-    Ok(is_version_alone(rows.as_slice(), version))
+    let shown = shown_rows(conn, "SELECT * FROM version")?;
+    Ok(is_version_alone(shown.rows.as_slice(), version))
 }
 
 fn number(version: Version) -> u64
@@ -78,6 +82,8 @@ pub fn says<S: Alter>(conn: &mut Connection<S>, version: Version) -> Result<bool
         → IsKept (state S.Store conn.old) (state S.Store conn.new) }
     ensures idle { conn.new.in_transaction ≡ false }
     ensures survives { Survives (state S.Store conn.old) (state S.Store conn.new) (λ _. ⊥) }
+    ensures cause { HasCleanDisk (state S.Store conn.new) → IfErr result
+        (HadCause S.Store (state S.Store conn.old) (state S.Store conn.new)) }
 {
     says_version(conn, number(version))
 }

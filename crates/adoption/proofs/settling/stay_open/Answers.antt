@@ -1,6 +1,8 @@
-use Rattle.std.proofs.Common.{[]}
+use Rattle.std.proofs.Common.{[], arith}
 use Rattle.sqlite.specs.Held.{state}
 use Rattle.adoption.proofs.Settled.{not_run_kept, unchanged_kept}
+use Rattle.table_reads.proofs.Causes.{passed_had}
+use Rattle.adoption.proofs.Causes.{unprepared_had}
 use Rattle.adoption.proofs.settling.stay_open.Goals as goal
 
 pub returns-clause-open : goal.returns-clause-open
@@ -12,3 +14,11 @@ returns-clause-kept g c clean = unchanged_kept (state g.S.Store c.args.conn.now)
 pub returns-in_err-prepare-clause-kept : goal.returns-in_err-prepare-clause-kept
 returns-in_err-prepare-clause-kept g c clean =
     not_run_kept (state g.S.Store c.args.conn.now) (state g.S.Store c.prepare.new.self) c.is_committed.ensures _ _ (c.in_err-prepare.ensures.err clean [])
+
+pub returns-in_err-prepare-clause-cause : goal.returns-in_err-prepare-clause-cause
+returns-in_err-prepare-clause-cause g c clean =
+    let old = state g.S.Store c.args.conn.now in
+    let new = state g.S.Store c.prepare.new.self in
+    let e = c.in_err-prepare.field-0.0 in
+    let r = c.from_residual in
+    passed_had g.S.Store old old new (omega arith) r.result e r.ensures.1 (unprepared_had g.S.Store c.args.conn.now c.prepare.new.self _ e (c.in_err-prepare.ensures.err clean []))

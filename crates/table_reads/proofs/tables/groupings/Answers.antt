@@ -15,6 +15,7 @@ returns-in-One g c = record {
   kept = c.whole.ensures.kept;
   idle = c.whole.ensures.idle;
   survives = c.whole.ensures.survives;
+  cause = c.whole.ensures.cause;
 }
 
 pub returns-in-Three-clause-value : goal.returns-in-Three-clause-value

@@ -15,4 +15,5 @@ returns-in-Two g c = record {
   kept = c.whole.ensures.kept;
   idle = c.whole.ensures.idle;
   survives = c.whole.ensures.survives;
+  cause = c.whole.ensures.cause;
 }

@@ -1,88 +1,40 @@
-use Rattle.std.proofs.Common.{MatchOption, subst, sym}
+use Rattle.std.proofs.Common.{MatchOption, false, subst, sym}
 use Rattle.sqlite.specs.Held.{state}
 use Rattle.sqlite.specs.State.{HasCleanDisk}
-use Rattle.table_reads.specs.Shown.{FitsLot, FitsProduct, FitsWord, IsAny}
-use Rattle.table_reads.proofs.After.{kept_then}
-use Rattle.table_reads.specs.Reading.{HasGroupings, HasMarks, HasRows, HoldsNoneOf}
-use Rattle.table_reads.proofs.RowsHeld.{all_read}
+use Rattle.sql_rows.specs.Encoding.{reply_row}
+use Rattle.sql_tables.specs.Tables.{reply_at}
+use Rattle.table_reads.specs.Reading.{HasMost, HasRows, HasWhole, HoldsNoneOf}
+use Rattle.table_reads.specs.Shown.{IsAny}
 use Rattle.table_reads.proofs.Meanings.{wholes}
+use Rattle.table_reads.proofs.RowsHeld.{all_held}
 use Rattle.table_reads.proofs.TableReads.{read_of}
-use Rattle.table_reads.proofs.Together.{carried, early, listed, outlives, outlives_four}
+use Rattle.table_reads.proofs.Together.{early}
+use Rattle.table_reads.proofs.Causes.{passed_had}
 use Rattle.table_reads.proofs.tables.read_all.Goals as goal
 
-pub returns-in_err-words-clause-survives : goal.returns-in_err-words-clause-survives
-returns-in_err-words-clause-survives g c =
-    outlives (outlives_four c.marks.ensures.survives c.whole.ensures.survives c.whole-2.ensures.survives c.whole-3.ensures.survives)
-    (outlives_four c.whole-4.ensures.survives c.groupings.ensures.survives c.whole-5.ensures.survives c.whole-6.ensures.survives)
-
-pub returns-in_err-blanks-clause-survives : goal.returns-in_err-blanks-clause-survives
-returns-in_err-blanks-clause-survives g c =
-    outlives (outlives (outlives_four c.marks.ensures.survives c.whole.ensures.survives c.whole-2.ensures.survives c.whole-3.ensures.survives)
-    (outlives_four c.whole-4.ensures.survives c.groupings.ensures.survives c.whole-5.ensures.survives c.whole-6.ensures.survives)) c.whole-7.ensures.survives
-
-pub returns-in_err-remakes-clause-survives : goal.returns-in_err-remakes-clause-survives
-returns-in_err-remakes-clause-survives g c =
-    outlives (outlives (outlives_four c.marks.ensures.survives c.whole.ensures.survives c.whole-2.ensures.survives c.whole-3.ensures.survives)
-    (outlives_four c.whole-4.ensures.survives c.groupings.ensures.survives c.whole-5.ensures.survives c.whole-6.ensures.survives)) (outlives c.whole-7.ensures.survives c.whole-8.ensures.survives)
-
-pub returns-in_err-replies-clause-survives : goal.returns-in_err-replies-clause-survives
-returns-in_err-replies-clause-survives g c =
-    outlives (outlives (outlives_four c.marks.ensures.survives c.whole.ensures.survives c.whole-2.ensures.survives c.whole-3.ensures.survives)
-    (outlives_four c.whole-4.ensures.survives c.groupings.ensures.survives c.whole-5.ensures.survives c.whole-6.ensures.survives)) (outlives (outlives c.whole-7.ensures.survives c.whole-8.ensures.survives) c.whole-9.ensures.survives)
-
-pub returns-clause-survives : goal.returns-clause-survives
-returns-clause-survives g c =
-    outlives (outlives (outlives_four c.marks.ensures.survives c.whole.ensures.survives c.whole-2.ensures.survives c.whole-3.ensures.survives)
-    (outlives_four c.whole-4.ensures.survives c.groupings.ensures.survives c.whole-5.ensures.survives c.whole-6.ensures.survives)) (outlives (outlives c.whole-7.ensures.survives c.whole-8.ensures.survives) c.whole-9.ensures.survives)
+pub returns-in_default-2-clause-value : goal.returns-in_default-2-clause-value
+returns-in_default-2-clause-value g c clean =
+    let v = c.args.version in
+    let s0 = state g.S.Store c.args.conn.now in
+    let s1 = state g.S.Store c.read_most.new.conn in
+    let before : HasCleanDisk s1 = early s1 (state g.S.Store c.whole.new.conn) c.whole.ensures.survives clean in
+    let read = read_of _ IsAny _ _ v (λ t. t.replies) (λ t fit k d low. tt) (λ t db held. held.replies) _ wholes.replies s0 s1 (c.read_most.ensures.kept before) c.in_ok-replies.field-0 (c.in_ok-replies.ensures.value clean) in
+    ((c.in_ok-held.ensures.value before).0, subst (λ found. MatchOption found (HoldsNoneOf v s0.now) (HasWhole reply_at false reply_row s0.now)) c.in_default-2.is read)
 
 pub returns-clause-value : goal.returns-clause-value
 returns-clause-value g c clean =
     let v = c.args.version in
     let s0 = state g.S.Store c.args.conn.now in
-    let s1 = state g.S.Store c.marks.new.conn in
-    let s2 = state g.S.Store c.whole.new.conn in
-    let s3 = state g.S.Store c.whole-2.new.conn in
-    let s4 = state g.S.Store c.whole-3.new.conn in
-    let s5 = state g.S.Store c.whole-4.new.conn in
-    let s6 = state g.S.Store c.groupings.new.conn in
-    let s7 = state g.S.Store c.whole-5.new.conn in
-    let s8 = state g.S.Store c.whole-6.new.conn in
-    let s9 = state g.S.Store c.whole-7.new.conn in
-    let s10 = state g.S.Store c.whole-8.new.conn in
-    let s11 = state g.S.Store c.whole-9.new.conn in
-    let clean10 : HasCleanDisk s10 = early s10 s11 c.whole-9.ensures.survives clean in
-    let clean9 : HasCleanDisk s9 = early s9 s10 c.whole-8.ensures.survives clean10 in
-    let clean8 : HasCleanDisk s8 = early s8 s9 c.whole-7.ensures.survives clean9 in
-    let clean7 : HasCleanDisk s7 = early s7 s8 c.whole-6.ensures.survives clean8 in
-    let clean6 : HasCleanDisk s6 = early s6 s7 c.whole-5.ensures.survives clean7 in
-    let clean5 : HasCleanDisk s5 = early s5 s6 c.groupings.ensures.survives clean6 in
-    let clean4 : HasCleanDisk s4 = early s4 s5 c.whole-4.ensures.survives clean5 in
-    let clean3 : HasCleanDisk s3 = early s3 s4 c.whole-3.ensures.survives clean4 in
-    let clean2 : HasCleanDisk s2 = early s2 s3 c.whole-2.ensures.survives clean3 in
-    let clean1 : HasCleanDisk s1 = early s1 s2 c.whole.ensures.survives clean2 in
-    let kept1 = c.marks.ensures.kept clean1 in
-    let kept2 = kept_then s0 s1 s2 kept1 (c.whole.ensures.kept clean2) in
-    let kept3 = kept_then s0 s2 s3 kept2 (c.whole-2.ensures.kept clean3) in
-    let kept4 = kept_then s0 s3 s4 kept3 (c.whole-3.ensures.kept clean4) in
-    let kept5 = kept_then s0 s4 s5 kept4 (c.whole-4.ensures.kept clean5) in
-    let kept6 = kept_then s0 s5 s6 kept5 (c.groupings.ensures.kept clean6) in
-    let kept7 = kept_then s0 s6 s7 kept6 (c.whole-5.ensures.kept clean7) in
-    let kept8 = kept_then s0 s7 s8 kept7 (c.whole-6.ensures.kept clean8) in
-    let kept9 = kept_then s0 s8 s9 kept8 (c.whole-7.ensures.kept clean9) in
-    let kept10 = kept_then s0 s9 s10 kept9 (c.whole-8.ensures.kept clean10) in
-    let first = c.in_ok-products.ensures.value clean2 in (
-      kept1.was_open first.0,
-      subst (λ all. MatchOption all (HoldsNoneOf v s0.now) (HasRows v s0.now)) (sym c.gathered.ensures)
-          (all_read v s0.now c.in_ok-products.products c.in_ok-lots.lots c.in_ok-batches.batches c.in_ok-records.records c.in_ok-groupings.groupings c.in_ok-sessions.sessions c.in_ok-words.words c.in_ok-blanks.blanks c.in_ok-remakes.remakes c.in_ok-replies.replies c.in_ok-marks.marks
-          (read_of _ FitsProduct _ _ v (λ t. t.products) (λ t fit. fit.products) (λ t db held. held.products) _ wholes.products s0 s1 kept1 c.in_ok-products.products (c.in_ok-products.ensures.value clean2))
-          (read_of _ FitsLot _ _ v (λ t. t.lots) (λ t fit. fit.lots) (λ t db held. held.lots) _ wholes.lots s0 s2 kept2 c.in_ok-lots.lots (c.in_ok-lots.ensures.value clean3))
-          (read_of _ IsAny _ _ v (λ t. t.batches) (λ t fit k d low. tt) (λ t db held. held.batches) _ wholes.batches s0 s3 kept3 c.in_ok-batches.batches (c.in_ok-batches.ensures.value clean4))
-          (read_of _ IsAny _ _ v (λ t. t.records) (λ t fit k d low. tt) (λ t db held. held.records) _ wholes.records s0 s4 kept4 c.in_ok-records.records (c.in_ok-records.ensures.value clean5))
-          (carried (HoldsNoneOf v) (λ db all. HasGroupings v all db) s0 s5 kept5 c.in_ok-groupings.groupings (c.in_ok-groupings.ensures.value clean6))
-          (read_of _ IsAny _ _ v (λ t. t.sessions) (λ t fit k d low. tt) (λ t db held. held.sessions) _ wholes.sessions s0 s6 kept6 c.in_ok-sessions.sessions (c.in_ok-sessions.ensures.value clean7))
-          (read_of _ FitsWord _ _ v (λ t. t.words) (λ t fit. fit.words) (λ t db held. held.words) _ wholes.words s0 s7 kept7 c.in_ok-words.words (c.in_ok-words.ensures.value clean8))
-          (read_of _ IsAny _ _ v (λ t. t.blanks) (λ t fit k d low. tt) (λ t db held. held.blanks) _ wholes.blanks s0 s8 kept8 c.in_ok-blanks.blanks (c.in_ok-blanks.ensures.value clean9))
-          (read_of _ IsAny _ _ v (λ t. t.remakes) (λ t fit k d low. tt) (λ t db held. held.remakes) _ wholes.remakes s0 s9 kept9 c.in_ok-remakes.remakes (c.in_ok-remakes.ensures.value clean10))
-          (read_of _ IsAny _ _ v (λ t. t.replies) (λ t fit k d low. tt) (λ t db held. held.replies) _ wholes.replies s0 s10 kept10 c.in_ok-replies.replies (c.in_ok-replies.ensures.value clean))
-          (listed (HoldsNoneOf v s0.now) (λ all. HasMarks v all s0.now) c.in_ok-marks.marks (c.in_ok-marks.ensures.value clean1))),
-    )
+    let s1 = state g.S.Store c.read_most.new.conn in
+    let before : HasCleanDisk s1 = early s1 (state g.S.Store c.whole.new.conn) c.whole.ensures.survives clean in
+    let read = read_of _ IsAny _ _ v (λ t. t.replies) (λ t fit k d low. tt) (λ t db held. held.replies) _ wholes.replies s0 s1 (c.read_most.ensures.kept before) c.in_ok-replies.field-0 (c.in_ok-replies.ensures.value clean) in
+    let has = subst (λ found. MatchOption found (HoldsNoneOf v s0.now) (HasWhole reply_at false reply_row s0.now)) c.in-Some-2.is read in
+    let most = c.in_ok-held.ensures.value before in
+    let others = subst (λ found. MatchOption found (HoldsNoneOf v s0.now) (HasMost v s0.now)) c.in-Some.is most.1 in
+    let rows = c.in-Some-2.replies.rows.items in
+    (most.0, subst (λ t. HasRows v s0.now (record t { replies = rows })) (sym c.tables.view_is) (all_held v s0.now c.in-Some.held others rows (λ tree finds. (has tree finds).0)))
+
+pub returns-in_err-replies-clause-cause : goal.returns-in_err-replies-clause-cause
+returns-in_err-replies-clause-cause g c clean =
+    let r = c.from_residual-in_err-replies in
+    passed_had g.S.Store (state g.S.Store c.args.conn.now) (state g.S.Store c.read_most.new.conn) (state g.S.Store c.whole.new.conn) c.read_most.ensures.survives.counts r.result c.in_err-replies.field-0.0 r.ensures.1 (c.in_err-replies.ensures.cause clean)

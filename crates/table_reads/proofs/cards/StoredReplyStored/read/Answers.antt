@@ -1,7 +1,8 @@
-use Rattle.std.proofs.Common.{◌∷◌, refl, sym, ap, ap₂, ◌∙◌}
+use Rattle.std.proofs.Common.{◌∷◌, false, refl, sym, ap, ap₂, ◌∙◌}
 use Rattle.sqlite.specs.declared.types.Value.TheVariants.{Blob, Text}
 use Rattle.sql_rows.specs.Encoding.{number}
 use Rattle.table_reads.specs.Shown.{IsReplyRow}
+use Rattle.table_reads.specs.Whole.{as_stored}
 use Rattle.table_reads.proofs.Shapes.{rebuilt}
 use Rattle.table_reads.proofs.cards.StoredReplyStored.read.Goals as goal
 
@@ -13,4 +14,4 @@ returns c is =
     (ap₂ ◌∷◌ (ap Blob c.in_ok-ask.ensures ∙ is.3)
     (ap₂ ◌∷◌ (ap number c.number_at-status.ensures ∙ is.4)
     (ap₂ ◌∷◌ (ap Blob c.in_ok-body.ensures ∙ is.5) refl))))
-    ∙ sym (rebuilt 5 c.args.row.now is.0)
+    ∙ ap (as_stored false) (sym (rebuilt 6 c.args.row.now is.0))

@@ -1,0 +1,126 @@
+//! Replies are read without what was asked and what was answered, for which the audit has no use;
+//! and those bytes are read anew.
+ghost use Rattle.std.specs.Prelude.{◌≡◌, ◌↔◌, ℕ, false, map, All, IfErr, IfOk, IsTrue};
+ghost use Rattle.std.specs.Prelude.{MatchOption, MatchResult};
+ghost use Rattle.sqlite.specs.Held.{state};
+ghost use Rattle.sqlite.specs.State.{HasCleanDisk, Survives, is_disk_error};
+ghost use Rattle.sql_base.specs.Causes.{HadCause};
+ghost use Rattle.sql_base.specs.Ends.{IsKept};
+ghost use Rattle.sql_base.specs.Rowids.{AreApart};
+ghost use Rattle.sql_rows.specs.Encoding.{reply_row};
+ghost use Rattle.sql_rows.specs.Image.{given_rows};
+ghost use Rattle.sql_tables.specs.Finds.{Finds};
+ghost use Rattle.sql_tables.specs.Tables.{reply_at};
+ghost use Rattle.sql_tables.specs.declared.versions.Version.{Version};
+ghost use Rattle.table_rows.specs.Tables.{HaveSameRows, Tables as TablesValue};
+ghost use Rattle.table_reads.specs.Holding.{HoldsRows};
+ghost use Rattle.table_reads.specs.Replies.{StandWithoutBytes, brief_of};
+ghost use Rattle.table_reads.specs.Shown.{IsAny, IsBriefRow};
+ghost use Rattle.table_reads.specs.Unread.{without_reply_bytes};
+ghost use Rattle.table_reads.specs.Whole.{NoneStandSo};
+
+use crate::reads::{TableRows, shown_rows, whole};
+use crate::values::{bytes_at, is_number, is_text, number_at};
+use sqlite::{Alter, Connection, Error, Row};
+use std::alloc::Global;
+use table_rows::{StoredReply, Tables};
+
+#[tactic(auto, unfolding(crate::specs::Shown::IsBriefRow))]
+fn is_brief(row: &Row) -> bool
+    ensures { IsTrue result ↔ IsBriefRow row.now }
+{
+    row.column_count() == 4 && is_text(row, 1) && is_number(row, 2) && is_number(row, 3)
+}
+
+// The reply that a shown row gives, where it gives one. No error is one of the disk.
+fn brief_in(alloc: Global, row: &Row) -> Result<Option<StoredReply>, Error>
+    ensures { MatchResult result (λ found. MatchOption found (IsBriefRow row.now → ⊥)
+        (λ reply. IsBriefRow row.now × (reply ≡ brief_of row.now)))
+        (λ e. is_disk_error e ≡ false) }
+{
+    if !is_brief(row) {
+        return Ok(None);
+    }
+    let client = bytes_at(alloc, row, 1)?;
+    Ok(Some(StoredReply {
+        client,
+        number: number_at(row, 2),
+        ask: Vec::new(alloc),
+        status: number_at(row, 3),
+        body: Vec::new(alloc),
+    }))
+}
+
+// The replies that shown rows give, where each row gives one. No error is one of the disk.
+fn all_brief_in(alloc: Global, rows: Vec<Row>) -> Result<Option<Vec<StoredReply>>, Error>
+    ensures { MatchResult result (λ found. MatchOption found (All IsBriefRow rows.items → ⊥)
+        (λ all. All IsBriefRow rows.items × (all.items ≡ map brief_of rows.items)))
+        (λ e. is_disk_error e ≡ false) }
+{
+    let mut all = Vec::with_capacity(alloc, rows.len())?;
+    for row in rows {
+        let Some(reply) = brief_in(alloc, &row)? else {
+            return Ok(None);
+        };
+        all.push(reply)?;
+    }
+    Ok(Some(all))
+}
+
+// All replies without what was asked and what was answered, and whether no two have one rowid; none
+// where some row is no reply.
+pub(crate) fn brief_replies<S: Alter>(
+    conn: &mut Connection<S>,
+) -> Result<Option<TableRows<StoredReply>>, Error>
+    requires { conn.old.in_transaction ≡ false }
+    ensures value { HasCleanDisk (state S.Store conn.new) → IfOk result
+        (λ found. IsTrue (state S.Store conn.old).is_open × ((tree : ℕ)
+        → Finds (state S.Store conn.old).now.schema (reply_at tree) → MatchOption found
+        (NoneStandSo reply_row IsAny
+        (given_rows false ((state S.Store conn.old).now.trees tree)))
+        (λ all. StandWithoutBytes all.rows.items
+        (given_rows false ((state S.Store conn.old).now.trees tree))
+        × (IsTrue all.apart ↔ AreApart ((state S.Store conn.old).now.trees tree))))) }
+    ensures kept { HasCleanDisk (state S.Store conn.new)
+        → IsKept (state S.Store conn.old) (state S.Store conn.new) }
+    ensures idle { conn.new.in_transaction ≡ false }
+    ensures survives { Survives (state S.Store conn.old) (state S.Store conn.new) (λ _. ⊥) }
+    ensures cause { HasCleanDisk (state S.Store conn.new) → IfErr result
+        (HadCause S.Store (state S.Store conn.old) (state S.Store conn.new)) }
+{
+    let shown = shown_rows(conn, "SELECT rowid, client, number, status FROM reply")?;
+    let alloc = *shown.rows.allocator();
+    let Some(rows) = all_brief_in(alloc, shown.rows)? else {
+        return Ok(None);
+    };
+    Ok(Some(TableRows {
+        rows,
+        apart: shown.apart,
+    }))
+}
+
+/// The same rows with what was asked and what was answered, which is read anew; none where the
+/// tables hold other rows. Nothing is changed, and a crash leaves what it could leave before.
+pub fn with_reply_bytes<S: Alter>(
+    conn: &mut Connection<S>,
+    mut tables: Tables,
+) -> Result<Option<Tables>, Error>
+    requires { conn.old.in_transaction ≡ false }
+    ensures value { HasCleanDisk (state S.Store conn.new) → IfOk result
+        (λ found. IsTrue (state S.Store conn.old).is_open × ((v : Version) (t : TablesValue)
+        → HoldsRows v t (state S.Store conn.old).now
+        → HaveSameRows tables (without_reply_bytes t)
+        → MatchOption found ⊥ (λ all. HaveSameRows all t))) }
+    ensures kept { HasCleanDisk (state S.Store conn.new)
+        → IsKept (state S.Store conn.old) (state S.Store conn.new) }
+    ensures idle { conn.new.in_transaction ≡ false }
+    ensures survives { Survives (state S.Store conn.old) (state S.Store conn.new) (λ _. ⊥) }
+    ensures cause { HasCleanDisk (state S.Store conn.new) → IfErr result
+        (HadCause S.Store (state S.Store conn.old) (state S.Store conn.new)) }
+{
+    let Some(replies) = whole(conn, "SELECT rowid, * FROM reply")? else {
+        return Ok(None);
+    };
+    tables.replies = replies.rows;
+    Ok(Some(tables))
+}
