@@ -147,6 +147,9 @@ impl<S: Alter> SqlStore<S> {
             → (v : Version) (c : Contents) → AreSound c
             → HoldsRows v (image c) (state S.Store conn).now
             → LeavesOnly (link (state S.Store e.0) 0 0) c) }
+        ensures cause { IfErr result (λ e. HasCleanDisk (state S.Store e.0) → (own : StoreFault)
+            → e.1 ≡ OpenFault.Store own
+            → IsCaused S.Store (state S.Store conn) (state S.Store e.0) own) }
     {
         image_laws::same_rows_same_contents();
         table_reads::laws::held_rows_are_one();

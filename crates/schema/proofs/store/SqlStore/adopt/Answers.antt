@@ -36,3 +36,6 @@ pub returns-in-Err-clause-leaves : goal.returns-in-Err-clause-leaves
 returns-in-Err-clause-leaves g c clean is_open =
     failed_adopt g.S.Store g.met.S.Store.settled c.args.conn is_open c.is_committed.ensures c.is_live.ensures c.same_rows_same_contents.ensures c.held_rows_are_one.ensures
     c.rows_are_held_in_any_order.ensures (state g.S.Store c.adopt.new.conn) c.adopt.ensures.crash clean
+
+pub returns-in-Err-clause-cause : goal.returns-in-Err-clause-cause
+returns-in-Err-clause-cause g c clean own reported = c.in-Err.ensures.cause clean own reported
