@@ -4,6 +4,7 @@ use Rattle.sqlite.specs.Effect.{Database}
 use Rattle.sqlite.specs.State as sqlite
 use Rattle.sqlite.specs.State.{HasCleanDisk, Survives}
 use Rattle.job_facts.specs.Contents.{AreSound, Contents, no_contents}
+use Rattle.job_facts.specs.Reopening.{LeavesOnly, OpensWith}
 use Rattle.job_facts.specs.Store.{IsFound, State}
 use Rattle.image_laws.specs.Image.{image}
 use Rattle.sql_base.specs.Columns.{no_schema}
@@ -23,12 +24,11 @@ pub empty : (wanted : Wanted) (db : Database) → Begins wanted db → db.schema
 empty Any db begins = begins
 empty Ours db begins = absurd begins
 
-pub opened_new : (wanted : Wanted) (db : Database) (store : State) → Begins wanted db → store.holds no_contents → ((d : Option Contents) → store.may_leave d → IsFound d no_contents)
+pub opened_new : (wanted : Wanted) (db : Database) (store : State) → Begins wanted db → store.holds no_contents → LeavesOnly store no_contents
     → IsOpened wanted db store
 opened_new wanted db store begins holds crash = record {
   some = (no_contents, inl (begins, refl));
-  holds = λ c how. elim how [ inl it ↦ subst store.holds (sym it.1) holds | inr it ↦ absurd (it.0 begins) ];
-  crash = λ c d how left. elim how [ inl it ↦ subst (IsFound d) (sym it.1) (crash d left) | inr it ↦ absurd (it.0 begins) ];
+  opens = λ c how. elim how [ inl it ↦ subst (OpensWith store) (sym it.1) (record { holds = holds; crash = crash }) | inr it ↦ absurd (it.0 begins) ];
 }
 
 pub opened_over : (wanted : Wanted) (db : Database) (store : State) → ¬ Begins wanted db → (v : Version) × HoldsSoundRows v db
@@ -37,8 +37,10 @@ pub opened_over : (wanted : Wanted) (db : Database) (store : State) → ¬ Begin
     → IsOpened wanted db store
 opened_over wanted db store stands taken holds crash = record {
   some = (taken.1.0, inr (stands, (taken.1.1, (taken.0, taken.1.2))));
-  holds = λ c how. elim how [ inl it ↦ absurd (stands it.0) | inr it ↦ holds it.1.1.0 c it.1.0 it.1.1.1 ];
-  crash = λ c d how left. elim how [ inl it ↦ absurd (stands it.0) | inr it ↦ crash it.1.1.0 c d it.1.0 it.1.1.1 left ];
+  opens = λ c how. elim how [
+    | inl it ↦ absurd (stands it.0)
+    | inr it ↦ record { holds = holds it.1.1.0 c it.1.0 it.1.1.1; crash = λ d. crash it.1.1.0 c d it.1.0 it.1.1.1 }
+  ];
 }
 
 kept_then : (a b c : sqlite.State) → IsKept a b → IsKept b c → IsKept a c

@@ -1,8 +1,9 @@
 -- When a new store begins, and what a store is opened with (this project's profile).
-use Rattle.std.specs.Prelude.{◌≡◌, ◌⊎◌, Option}
+use Rattle.std.specs.Prelude.{◌≡◌, ◌⊎◌}
 use Rattle.sqlite.specs.Effect.{Database}
 use Rattle.job_facts.specs.Contents.{AreSound, Contents, no_contents}
-use Rattle.job_facts.specs.Store.{IsFound, State}
+use Rattle.job_facts.specs.Reopening.{OpensWith}
+use Rattle.job_facts.specs.Store.{State}
 use Rattle.image_laws.specs.Image.{image}
 use Rattle.sql_base.specs.Columns.{no_schema}
 use Rattle.sql_tables.specs.declared.versions.Version.{Version}
@@ -23,8 +24,7 @@ StandsIn db c = AreSound c × ((v : Version) × HoldsRows v (image c) db)
 abbrev pub IsOpenedWith : Wanted → Database → Contents → Type 0
 IsOpenedWith wanted db c = (Begins wanted db × (c ≡ no_contents)) ⊎ ((¬ Begins wanted db) × StandsIn db c)
 
--- the store stands for these contents, and a crash leaves these and nothing else
+-- the store is opened with these contents
 pub record IsOpened (wanted : Wanted) (db : Database) (store : State) : Type 0 where
   pub some : (c : Contents) × IsOpenedWith wanted db c
-  pub holds : (c : Contents) → IsOpenedWith wanted db c → store.holds c
-  pub crash : (c : Contents) (d : Option Contents) → IsOpenedWith wanted db c → store.may_leave d → IsFound d c
+  pub opens : (c : Contents) → IsOpenedWith wanted db c → OpensWith store c

@@ -5,6 +5,7 @@
 mod cause;
 mod drilling;
 mod fault;
+pub mod laws;
 mod opening;
 mod refusing;
 mod serving;
