@@ -1,0 +1,9 @@
+pub mod Lines
+pub mod Views
+pub mod Lists
+pub mod Book
+pub mod Keyed
+pub mod Blanks
+pub mod Counts
+pub mod Cards
+pub mod Machines

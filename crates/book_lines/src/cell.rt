@@ -1,0 +1,89 @@
+//! A cell of a line: its key, and what it shows.
+ghost use Rattle.std.specs.Prelude.{◌≡◌, option_map};
+ghost use Rattle.book_lines.specs.Lines.{Nothing, name_cell, number_cell, optional_cell};
+ghost use Rattle.book_lines.specs.Lines.{status_cell, word_cell};
+
+use crate::shown::Shown;
+use std::marker::Model;
+
+/// A cell of a line.
+#[derive(Drop)]
+pub struct Cell<'a> {
+    pub key: &'a str,
+    pub shown: Shown<'a>,
+}
+
+impl<'a> Model for Cell<'a> {
+    ghost use Rattle.book_lines.specs.Lines.{Cell as CellValue};
+    ghost use Rattle.book_lines.specs.Views.{shown_of};
+
+    ghost Value = { CellValue };
+
+    ghost view = { λ c. record { key = c.key.now; shown = shown_of c.shown } };
+}
+
+/// A cell with a number.
+pub(crate) fn number(key: &str, number: u64) -> Cell<'_>
+    ensures { result ≡ number_cell key.now number }
+{
+    Cell {
+        key,
+        shown: Shown::Number(number),
+    }
+}
+
+/// A cell with a word.
+pub(crate) fn word<'a>(key: &'a str, word: &'a [u8]) -> Cell<'a>
+    ensures { result ≡ word_cell key.now word.now }
+{
+    Cell {
+        key,
+        shown: Shown::Word(word),
+    }
+}
+
+/// A cell with a name, or with nothing where there is none.
+pub(crate) fn name<'a>(key: &'a str, name: Option<&'a [u8]>) -> Cell<'a>
+    ensures { result ≡ name_cell key.now (option_map (λ n. n.now) name.entry) }
+{
+    match name {
+        None => nothing(key),
+        Some(name) => word(key, name),
+    }
+}
+
+/// A cell with a number, or with nothing where there is none.
+pub(crate) fn optional(key: &str, number: Option<u64>) -> Cell<'_>
+    ensures { result ≡ optional_cell key.now number }
+{
+    match number {
+        None => nothing(key),
+        Some(number) => Cell {
+            key,
+            shown: Shown::Number(number),
+        },
+    }
+}
+
+/// A cell with a status word of a card, or with nothing where there is none.
+pub(crate) fn status(key: &str, sw: Option<u16>) -> Cell<'_>
+    ensures { result ≡ status_cell key.now sw }
+{
+    match sw {
+        None => nothing(key),
+        Some(sw) => Cell {
+            key,
+            shown: Shown::Status(sw),
+        },
+    }
+}
+
+// A cell with nothing.
+fn nothing(key: &str) -> Cell<'_>
+    ensures { result ≡ record { key = key.now; shown = Nothing } }
+{
+    Cell {
+        key,
+        shown: Shown::Nothing,
+    }
+}

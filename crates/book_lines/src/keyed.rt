@@ -1,0 +1,131 @@
+//! Sessions under a number by which they are looked up.
+ghost use Rattle.std.specs.Prelude.{◌≡◌, ◌∷◌, [], ℕ, IfOk, List, filter, map, option_map};
+ghost use Rattle.std.specs.Prelude.{slice_get};
+ghost use Rattle.audit_laws.specs.Audited.{is_session_of};
+ghost use Rattle.std.specs.List.Sorted.{IsNonDecreasingBy};
+ghost use Rattle.table_rows.specs.Tables.{StoredSession as SessionValue};
+ghost use Rattle.book_lines.specs.Blanks.{session_on};
+ghost use Rattle.book_lines.specs.Keyed.{AreKeyed};
+
+use audit_order::{InOrder, Ranged, range_of, sort_rows};
+use std::alloc::{AllocError, Global};
+use std::marker::Model;
+use table_rows::StoredSession;
+
+/// A session under a number.
+#[derive(Drop)]
+pub(crate) struct Keyed<'a> {
+    pub(crate) number: u64,
+    pub(crate) row: &'a StoredSession,
+}
+
+impl<'a> Model for Keyed<'a> {
+    ghost use Rattle.std.specs.Prelude.{ℕ};
+    ghost use Rattle.table_rows.specs.Tables.{StoredSession as SessionValue};
+
+    ghost Value = { ℕ × SessionValue };
+
+    ghost view = { λ k. (k.number, k.row.now) };
+}
+
+/// Sessions are sorted by their numbers.
+impl<'a> InOrder for Keyed<'a> {
+    ghost key = { λ k. k.0 ∷ 0 ∷ 0 ∷ [] };
+
+    fn key(&self) -> [u64; 3] {
+        [self.number, 0, 0]
+    }
+}
+
+/// Sessions are found by their numbers.
+impl<'a> Ranged for Keyed<'a> {
+    ghost number = { λ k. k.0 };
+
+    fn number(&self) -> u64 {
+        self.number
+    }
+}
+
+// The sessions under their serials, in their order.
+fn serials(alloc: Global, sessions: &[StoredSession]) -> Result<Vec<Keyed<'_>>, AllocError>
+    ensures { IfOk result
+        (λ keyed. keyed.items ≡ map (λ (s : SessionValue). (s.serial, s)) sessions.now) }
+{
+    let mut keyed = Vec::with_capacity(alloc, sessions.len())?;
+    for row in sessions {
+        keyed.push(Keyed {
+            number: row.serial,
+            row,
+        })?;
+    }
+    Ok(keyed)
+}
+
+/// The sessions by their serials.
+pub(crate) fn by_serial(
+    alloc: Global,
+    sessions: &[StoredSession],
+) -> Result<Vec<Keyed<'_>>, AllocError>
+    ensures { IfOk result
+        (λ keyed. AreKeyed (λ (s : SessionValue). s.serial) sessions.now keyed.items) }
+{
+    let mut keyed = serials(alloc, sessions)?;
+    sort_rows(&mut keyed)?;
+    Ok(keyed)
+}
+
+// The sessions of a batch under their places, in their order.
+fn places(
+    alloc: Global,
+    sessions: &[StoredSession],
+    batch: u64,
+) -> Result<Vec<Keyed<'_>>, AllocError>
+    ensures { IfOk result (λ keyed. keyed.items
+        ≡ map (λ (s : SessionValue). (s.place, s)) (filter (is_session_of batch) sessions.now)) }
+{
+    let mut keyed = Vec::new(alloc);
+    for row in sessions {
+        if row.batch == batch {
+            keyed.push(Keyed {
+                number: row.place,
+                row,
+            })?;
+        }
+    }
+    Ok(keyed)
+}
+
+/// The sessions of a batch by the places of their records.
+pub(crate) fn by_place(
+    alloc: Global,
+    sessions: &[StoredSession],
+    batch: u64,
+) -> Result<Vec<Keyed<'_>>, AllocError>
+    ensures { IfOk result (λ keyed. AreKeyed (λ (s : SessionValue). s.place)
+        (filter (is_session_of batch) sessions.now) keyed.items) }
+{
+    let mut keyed = places(alloc, sessions, batch)?;
+    sort_rows(&mut keyed)?;
+    Ok(keyed)
+}
+
+/// The first session on this serial.
+pub(crate) fn session_on<'a>(by_serial: &[Keyed<'a>], serial: u64) -> Option<&'a StoredSession>
+    requires { IsNonDecreasingBy (λ (k : ℕ × SessionValue). k.0) by_serial.now }
+    ensures { (sessions : List SessionValue)
+        → AreKeyed (λ (s : SessionValue). s.serial) sessions by_serial.now
+        → option_map (λ s. s.now) result ≡ session_on sessions serial }
+{
+    first_row(range_of(by_serial, serial))
+}
+
+// The row of the first of these.
+fn first_row<'a>(keyed: &[Keyed<'a>]) -> Option<&'a StoredSession>
+    ensures { option_map (λ s. s.now) result
+        ≡ option_map (λ (k : ℕ × SessionValue). k.1) (slice_get keyed.now 0) }
+{
+    match keyed.first() {
+        None => None,
+        Some(first) => Some(first.row),
+    }
+}

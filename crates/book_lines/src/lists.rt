@@ -1,0 +1,212 @@
+//! The lines of products, lots and batches.
+ghost use Rattle.std.specs.Prelude.{◌≡◌, ◌++◌, ◌+◌, ◌-◌, ◌≤◌, ◌^◌, IfOk, OnOk, All, filter, length};
+ghost use Rattle.std.specs.Prelude.{◌&&◌, nat_le, nat_lt};
+ghost use Rattle.std.specs.List.Sorted.{IsNonDecreasingBy};
+ghost use Rattle.table_rows.specs.Keys.{is_record_of};
+ghost use Rattle.table_rows.specs.Tables.{StoredBlank as BlankValue, StoredLot as LotValue};
+ghost use Rattle.audit_laws.specs.Audited.{opened_rows};
+ghost use Rattle.audit_order.specs.Order.{AreReady, AreSorted};
+ghost use Rattle.book_lines.specs.Lines.{line_text, lines_by};
+ghost use Rattle.book_lines.specs.Lists.{batch_line, charged_in, list_text, lot_line};
+ghost use Rattle.book_lines.specs.Lists.{open_or_closed, product_line, yes_or_no};
+
+use crate::cell::{Cell, number, word};
+use crate::form::Form;
+use crate::line::push_line;
+use audit_order::range_of;
+use std::alloc::{AllocError, Global};
+use table_rows::{StoredBatch, StoredBlank, StoredLot, StoredProduct, Tables};
+
+/// The lines of products, lots and batches, in the order of their rows. Time is the number of all
+/// three, and of the charged blanks.
+pub fn list_text(alloc: Global, form: Form, tables: &Tables) -> Result<Vec<u8>, AllocError>
+    requires ready { AreReady tables.now }
+    requires sorted { AreSorted tables.now }
+    ensures { IfOk result (λ text. text.items ≡ list_text form tables.now) }
+{
+    let mut text = Vec::new(alloc);
+    push_products(&mut text, form, &tables.products)?;
+    push_lots(&mut text, form, &tables.blanks, &tables.lots)?;
+    push_batches(&mut text, form, tables, &tables.batches)?;
+    Ok(text)
+}
+
+// ---- products
+
+fn push_products(
+    text: &mut Vec<u8>,
+    form: Form,
+    products: &[StoredProduct],
+) -> Result<(), AllocError>
+    ensures { OnOk result
+        (text.new.items ≡ text.old.items ++ lines_by form product_line products.now) }
+{
+    for product in products {
+        push_product(text, form, product)?;
+    }
+    Ok(())
+}
+
+fn push_product(text: &mut Vec<u8>, form: Form, product: &StoredProduct) -> Result<(), AllocError>
+    ensures { OnOk result
+        (text.new.items ≡ text.old.items ++ line_text form (product_line product.now)) }
+{
+    let cells = [
+        word("name", &product.name),
+        number("max", u64::from(product.max)),
+        number("low", u64::from(product.low)),
+        word("check", yes_or_no(product.checked).as_bytes()),
+    ];
+    push_line(text, form, "product", &cells)
+}
+
+fn yes_or_no(is_so: bool) -> &'static str
+    ensures { result.now ≡ yes_or_no is_so }
+{
+    if is_so { "yes" } else { "no" }
+}
+
+// ---- lots
+
+fn push_lots(
+    text: &mut Vec<u8>,
+    form: Form,
+    blanks: &[StoredBlank],
+    lots: &[StoredLot],
+) -> Result<(), AllocError>
+    requires rising { IsNonDecreasingBy (λ (b : BlankValue). b.serial) blanks.now }
+    requires ranges { All (λ (l : LotValue). l.lot.first + l.lot.count ≤ 10 ^ 18) lots.now }
+    ensures { OnOk result
+        (text.new.items ≡ text.old.items ++ lines_by form (lot_line blanks.now) lots.now) }
+{
+    for lot in lots {
+        push_lot(text, form, blanks, lot)?;
+    }
+    Ok(())
+}
+
+fn push_lot(
+    text: &mut Vec<u8>,
+    form: Form,
+    blanks: &[StoredBlank],
+    lot: &StoredLot,
+) -> Result<(), AllocError>
+    requires rising { IsNonDecreasingBy (λ (b : BlankValue). b.serial) blanks.now }
+    requires range { lot.now.lot.first + lot.now.lot.count ≤ 10 ^ 18 }
+    ensures { OnOk result
+        (text.new.items ≡ text.old.items ++ line_text form (lot_line blanks.now lot.now)) }
+{
+    let charged = charged_in(blanks, lot);
+    let cells = [
+        word("name", &lot.name),
+        word("product", &lot.product),
+        number("first", lot.low_serial),
+        number("count", u64::from(lot.amount)),
+        number("free", free(lot, charged)),
+        number("used", used(charged)),
+        number("discarded", lot.discarded),
+    ];
+    push_line(text, form, "lot", &cells)
+}
+
+// How many blanks of a lot are not charged.
+fn free(lot: &StoredLot, charged: &[StoredBlank]) -> u64
+    ensures { result ≡ lot.now.lot.count - length charged.now }
+{
+    u64::from(lot.amount).saturating_sub(charged.len() as u64)
+}
+
+// How many of these blanks sessions opened.
+fn used(charged: &[StoredBlank]) -> u64
+    ensures { result ≡ length (opened_rows charged.now) }
+{
+    charged.iter().filter(|blank| !blank.discarded).count() as u64
+}
+
+// The charged blanks of a lot, in the order of their serials.
+fn charged_in<'a>(blanks: &'a [StoredBlank], lot: &StoredLot) -> &'a [StoredBlank]
+    requires rising { IsNonDecreasingBy (λ (b : BlankValue). b.serial) blanks.now }
+    requires range { lot.now.lot.first + lot.now.lot.count ≤ 10 ^ 18 }
+    ensures { result.now ≡ charged_in lot.now blanks.now }
+{
+    let low = lot.low_serial;
+    between(blanks, low, low + u64::from(lot.amount))
+}
+
+// The blanks whose serials are at least the one number, and below the other.
+fn between(blanks: &[StoredBlank], low: u64, end: u64) -> &[StoredBlank]
+    requires { IsNonDecreasingBy (λ (b : BlankValue). b.serial) blanks.now }
+    ensures { result.now
+        ≡ filter (λ (b : BlankValue). nat_le low b.serial && nat_lt b.serial end) blanks.now }
+{
+    let first = blanks.partition_point(|blank| blank.serial < low);
+    let rest = &blanks[first..];
+    let count = rest.partition_point(|blank| blank.serial < end);
+    &rest[..count]
+}
+
+// ---- batches
+
+fn push_batches(
+    text: &mut Vec<u8>,
+    form: Form,
+    tables: &Tables,
+    batches: &[StoredBatch],
+) -> Result<(), AllocError>
+    requires { AreReady tables.now }
+    ensures { OnOk result
+        (text.new.items ≡ text.old.items ++ lines_by form (batch_line tables.now) batches.now) }
+{
+    for batch in batches {
+        push_batch(text, form, tables, batch)?;
+    }
+    Ok(())
+}
+
+fn push_batch(
+    text: &mut Vec<u8>,
+    form: Form,
+    tables: &Tables,
+    batch: &StoredBatch,
+) -> Result<(), AllocError>
+    requires { AreReady tables.now }
+    ensures { OnOk result
+        (text.new.items ≡ text.old.items ++ line_text form (batch_line tables.now batch.now)) }
+{
+    push_line(text, form, "batch", &batch_cells(tables, batch))
+}
+
+/// The cells of a batch's line.
+pub fn batch_cells<'a>(tables: &Tables, batch: &'a StoredBatch) -> [Cell<'a>; 11]
+    requires { AreReady tables.now }
+    ensures { result ≡ (batch_line tables.now batch.now).cells }
+{
+    [
+        word("name", &batch.name),
+        word("product", &batch.product),
+        word("state", open_or_closed(batch.closed).as_bytes()),
+        number("records", records(tables, batch)),
+        number("waiting", batch.waiting),
+        number("running", batch.running),
+        number("failed", batch.failed),
+        number("withdrawn", batch.withdrawn),
+        number("good", batch.good),
+        number("sessions", batch.sessions),
+        number("spoiled", batch.spoiled),
+    ]
+}
+
+// How many records a batch has.
+fn records(tables: &Tables, batch: &StoredBatch) -> u64
+    requires { AreReady tables.now }
+    ensures { result ≡ length (filter (is_record_of batch.now.id) tables.now.records) }
+{
+    range_of(&tables.records, batch.id).len() as u64
+}
+
+/// Whether a batch is closed, as people read it.
+pub fn open_or_closed(is_closed: bool) -> &'static str
+    ensures { result.now ≡ open_or_closed is_closed }
+{
+    if is_closed { "closed" } else { "open" }
+}

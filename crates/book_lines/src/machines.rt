@@ -1,0 +1,271 @@
+//! The lines of machines, and of whoever else asked under a client name.
+ghost use Rattle.std.specs.Prelude.{◌≡◌, ◌++◌, ℕ, IfOk, List, OnOk, bytes_eq, filter, find};
+ghost use Rattle.std.specs.Prelude.{fold, length, map, max, option_map};
+ghost use Rattle.std.specs.List.{list_any};
+ghost use Rattle.store_data.specs.Groups.{with_key};
+ghost use Rattle.job_facts.specs.Contents.{AreSound, Contents, Entry, Mark, has_mark};
+ghost use Rattle.table_rows.specs.Keys.{is_running_on};
+ghost use Rattle.table_rows.specs.Tables.{HaveSameRows, StoredSession as SessionValue};
+ghost use Rattle.table_rows.specs.Tables.{Tables as TablesValue};
+ghost use Rattle.image_laws.specs.Image.{image};
+ghost use Rattle.book_lines.specs.Lines.{line_text, lines_by};
+ghost use Rattle.book_lines.specs.Machines.{IsMachine, boot_by, boot_of, clients_of, is_kept_for};
+ghost use Rattle.book_lines.specs.Machines.{last_boot, machine_line, machines_text, next_boot};
+
+use crate::cell::{number, optional, word};
+use crate::client::Client;
+use crate::form::Form;
+use crate::line::push_line;
+use job_facts::SessionState;
+use std::alloc::{AllocError, Global};
+use table_rows::{StoredMark, StoredReply, StoredSession, Tables};
+
+/// The numbers of a boot: the k-th of boot 1 is 10,000,000 + k.
+const BOOT: u64 = 10_000_000;
+
+/// The greatest boot.
+const LAST_BOOT: u64 = 9_999_999_999;
+
+/// The lines of whoever asked, the machines of sessions first: the session that runs, the release
+/// mark, how many replies are kept, and the next boot. All are those of the contents that the rows
+/// are an image of, and no number of the next boot or of a later one is kept or released. Time is
+/// the number of who asked, times that of sessions, kept replies and marks.
+pub fn machines_text(alloc: Global, form: Form, tables: &Tables) -> Result<Vec<u8>, AllocError>
+    ensures text { IfOk result (λ text. text.items ≡ machines_text form tables.now) }
+    ensures machines { (c : Contents) (client : List ℕ) → AreSound c
+        → HaveSameRows tables.now (image c) → IsMachine tables.now c client }
+{
+    lines_are_of_machines();
+    let clients = clients_of(alloc, tables)?;
+    let mut text = Vec::new(alloc);
+    push_machines(&mut text, form, tables, &clients)?;
+    Ok(text)
+}
+
+// By the contents that the rows are an image of, each has its line.
+fn lines_are_of_machines()
+    ensures { (t : TablesValue) (c : Contents) (client : List ℕ) → AreSound c
+        → HaveSameRows t (image c) → IsMachine t c client }
+{}
+
+// ---- who asked
+
+// Whoever asked, each once.
+fn clients_of(alloc: Global, tables: &Tables) -> Result<Vec<Client<'_>>, AllocError>
+    ensures { IfOk result (λ clients. clients.items ≡ clients_of tables.now) }
+{
+    let mut clients = Vec::new(alloc);
+    add_machines(&mut clients, &tables.sessions)?;
+    add_askers(&mut clients, &tables.replies)?;
+    add_releasers(&mut clients, &tables.marks)?;
+    Ok(clients)
+}
+
+// Adds the machines of sessions.
+fn add_machines<'a>(
+    clients: &mut Vec<Client<'a>>,
+    sessions: &'a [StoredSession],
+) -> Result<(), AllocError>
+    ensures { OnOk result (clients.new.items ≡ fold with_key clients.old.items
+        (map (λ (s : SessionValue). s.machine) sessions.now)) }
+{
+    for session in sessions {
+        add_client(clients, &session.machine)?;
+    }
+    Ok(())
+}
+
+// Adds the clients of kept replies.
+fn add_askers<'a>(
+    clients: &mut Vec<Client<'a>>,
+    replies: &'a [StoredReply],
+) -> Result<(), AllocError>
+    ensures { OnOk result (clients.new.items ≡ fold with_key clients.old.items
+        (map (λ (e : Entry). e.client) replies.now)) }
+{
+    for reply in replies {
+        add_client(clients, &reply.client)?;
+    }
+    Ok(())
+}
+
+// Adds the clients of marks.
+fn add_releasers<'a>(
+    clients: &mut Vec<Client<'a>>,
+    marks: &'a [StoredMark],
+) -> Result<(), AllocError>
+    ensures { OnOk result (clients.new.items ≡ fold with_key clients.old.items
+        (map (λ (m : Mark). m.client) marks.now)) }
+{
+    for mark in marks {
+        add_client(clients, &mark.client)?;
+    }
+    Ok(())
+}
+
+// Adds a client, unless it is there.
+fn add_client<'a>(clients: &mut Vec<Client<'a>>, name: &'a [u8]) -> Result<(), AllocError>
+    ensures { OnOk result (clients.new.items ≡ with_key clients.old.items name.now) }
+{
+    if !is_among(clients, name) {
+        clients.push(Client { name })?;
+    }
+    Ok(())
+}
+
+// Whether a client is one of these.
+fn is_among(clients: &[Client<'_>], name: &[u8]) -> bool
+    ensures { result ≡ list_any (bytes_eq name.now) clients.now }
+{
+    clients.iter().any(|client| name == client.name)
+}
+
+// ---- their lines
+
+fn push_machines(
+    text: &mut Vec<u8>,
+    form: Form,
+    tables: &Tables,
+    clients: &[Client<'_>],
+) -> Result<(), AllocError>
+    ensures { OnOk result
+        (text.new.items ≡ text.old.items ++ lines_by form (machine_line tables.now) clients.now) }
+{
+    for client in clients {
+        push_machine(text, form, tables, client.name)?;
+    }
+    Ok(())
+}
+
+fn push_machine(
+    text: &mut Vec<u8>,
+    form: Form,
+    tables: &Tables,
+    client: &[u8],
+) -> Result<(), AllocError>
+    ensures { OnOk result
+        (text.new.items ≡ text.old.items ++ line_text form (machine_line tables.now client.now)) }
+{
+    let cells = [
+        word("name", client),
+        optional("running", running_on(&tables.sessions, client)),
+        optional("mark", upto_of(&tables.marks, client)),
+        number("kept", kept_for(&tables.replies, client)),
+        optional("boot", next_boot(tables, client)),
+    ];
+    push_line(text, form, "machine", &cells)
+}
+
+// The session of a machine that runs.
+fn running_on(sessions: &[StoredSession], client: &[u8]) -> Option<u64>
+    ensures { result ≡ option_map (λ (s : SessionValue). s.id)
+        (find (is_running_on client.now) sessions.now) }
+{
+    let session = running_row(sessions, client)?;
+    Some(session.id)
+}
+
+fn running_row<'a>(sessions: &'a [StoredSession], client: &[u8]) -> Option<&'a StoredSession>
+    ensures { option_map (λ s. s.now) result ≡ find (is_running_on client.now) sessions.now }
+{
+    sessions
+        .iter()
+        .find(|session| is_running_on(session, client))
+}
+
+// Whether a session is the machine's, and runs.
+fn is_running_on(session: &StoredSession, client: &[u8]) -> bool
+    ensures { result ≡ is_running_on client.now session.now }
+{
+    session.machine.as_slice() == client && matches!(session.state, SessionState::Running)
+}
+
+// How far a client has released its numbers.
+fn upto_of(marks: &[StoredMark], client: &[u8]) -> Option<u64>
+    ensures { result ≡ option_map (λ (m : Mark). m.upto) (find (has_mark client.now) marks.now) }
+{
+    let mark = mark_for(marks, client)?;
+    Some(mark.upto)
+}
+
+fn mark_for<'a>(marks: &'a [StoredMark], client: &[u8]) -> Option<&'a StoredMark>
+    ensures { option_map (λ m. m.now) result ≡ find (has_mark client.now) marks.now }
+{
+    marks.iter().find(|mark| has_mark(mark, client))
+}
+
+// Whether a mark is the client's.
+fn has_mark(mark: &StoredMark, client: &[u8]) -> bool
+    ensures { result ≡ has_mark client.now mark.now }
+{
+    mark.client.as_slice() == client
+}
+
+// How many replies are kept for a client.
+fn kept_for(replies: &[StoredReply], client: &[u8]) -> u64
+    ensures { result ≡ length (filter (is_kept_for client.now) replies.now) }
+{
+    replies
+        .iter()
+        .filter(|reply| is_kept_for(reply, client))
+        .count() as u64
+}
+
+// Whether a reply is kept for a client.
+fn is_kept_for(reply: &StoredReply, client: &[u8]) -> bool
+    ensures { result ≡ is_kept_for client.now reply.now }
+{
+    reply.client.as_slice() == client
+}
+
+// ---- boots
+
+// One above the greatest boot that a client's numbers name, if it is a boot.
+fn next_boot(tables: &Tables, client: &[u8]) -> Option<u64>
+    ensures { result ≡ next_boot tables.now client.now }
+{
+    let last = last_boot(tables, client);
+    if last < LAST_BOOT {
+        Some(last + 1)
+    } else {
+        None
+    }
+}
+
+// The greatest boot that a client's numbers name.
+fn last_boot(tables: &Tables, client: &[u8]) -> u64
+    ensures { result ≡ last_boot tables.now client.now }
+{
+    let released = upto_of(&tables.marks, client).unwrap_or(0);
+    greatest(boot_of(released), &tables.replies, client)
+}
+
+// The greatest boot that a client's kept replies name, or this one.
+fn greatest(boot: u64, replies: &[StoredReply], client: &[u8]) -> u64
+    ensures { result
+        ≡ fold (λ last (e : Entry). max last (boot_by client.now e)) boot replies.now }
+{
+    let mut last = boot;
+    for reply in replies {
+        last = last.max(boot_by(reply, client));
+    }
+    last
+}
+
+// The boot that a reply names for a client; 0 where it is another's.
+fn boot_by(reply: &StoredReply, client: &[u8]) -> u64
+    ensures { result ≡ boot_by client.now reply.now }
+{
+    if is_kept_for(reply, client) {
+        boot_of(reply.number)
+    } else {
+        0
+    }
+}
+
+// The boot with which a number begins.
+fn boot_of(number: u64) -> u64
+    ensures { result ≡ boot_of number }
+{
+    number / BOOT
+}

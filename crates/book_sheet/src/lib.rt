@@ -1,0 +1,7 @@
+//! The sheet of a batch: one HTML page for the file of the job.
+#![tactic(auto)]
+
+mod html;
+mod sheet;
+
+pub use sheet::sheet_of;

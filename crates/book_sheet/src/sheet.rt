@@ -1,0 +1,325 @@
+//! The sheet of a batch.
+ghost use Rattle.std.specs.Prelude.{◌≡◌, ◌++◌, ℕ, IfOk, IsTrue, List, OnOk, flat_map, option_map};
+ghost use Rattle.sha2.specs.Sha256.{sha256};
+ghost use Rattle.audit_order.specs.Order.{AreReady};
+ghost use Rattle.book_sheet.specs.Html.{escaped, is_text};
+ghost use Rattle.book_sheet.specs.Sheet.{account_heads, account_html, bar_html, blank_heads};
+ghost use Rattle.book_sheet.specs.Sheet.{blanks_html, card_heads, card_html, cards_html};
+ghost use Rattle.book_sheet.specs.Sheet.{charge_html, counts_html, ended_html, file_html};
+ghost use Rattle.book_sheet.specs.Sheet.{going_html, head_html, part_html, parts_html, sheet_of};
+ghost use Rattle.book_sheet.specs.Sheet.{sheet_text, start, style, title_html, top_html};
+
+use crate::html::{push_between, push_escaped, push_named, push_plain, push_row};
+use book_lines::{
+    Card, Charge, batch_cards, batch_cells, batch_charges, batch_named, blank_cells, card_cells,
+    open_or_closed, push_number, stands_by,
+};
+use sha2::{Digest, Sha256};
+use std::alloc::{AllocError, Global};
+use store_data::Name;
+use table_rows::{StoredBatch, Tables};
+
+/// Its beginning, up to its title.
+const START: &str = "<!DOCTYPE html>\n<html lang=\"en\">\n<head>\n\
+<meta charset=\"utf-8\">\n<title>Batch ";
+
+/// How it looks, on paper too.
+const STYLE: &str = "</title>\n<style>body{font-family:sans-serif}table{border-collapse:collapse}\
+th,td{border:1px solid;padding:2px 8px;text-align:left}\
+.bar{display:flex;border:1px solid;height:20px;print-color-adjust:exact}\
+.waiting{background:#eee}.running{background:#9cf}\
+.failed,.spoiled{background:#f99;font-weight:bold}\
+.withdrawn{background:#aaa}.good{background:#9d9}</style>\n</head>\n<body>\n";
+
+/// The heads of the account's columns.
+const ACCOUNT: &str = "<table>\n<tr><th>records</th><th class=\"waiting\">waiting</th>\
+<th class=\"running\">running</th><th class=\"failed\">failed</th>\
+<th class=\"withdrawn\">withdrawn</th><th class=\"good\">good</th>\
+<th>sessions</th><th>spoiled</th></tr>\n";
+
+/// The heads of a card's columns.
+const CARDS: &str = "<h2>Cards</h2>\n<table>\n<tr><th>record</th><th>session</th>\
+<th>machine</th><th>serial</th><th>state</th><th>words</th><th>last</th></tr>\n";
+
+/// The heads of a blank's columns.
+const BLANKS: &str = "<h2>Blanks</h2>\n<table>\n<tr><th>serial</th><th>lot</th>\
+<th>state</th><th>record</th></tr>\n";
+
+/// The sheet of a batch: its head, its records by state as a bar and in numbers, its cards, the
+/// blanks charged to it, and the SHA-256 of its file. None where there is no such batch. Time is
+/// the length of its file, and the number of sessions, blanks, words and the batch's records, times
+/// their logarithms. What is put in from the rows is no markup.
+pub fn sheet_of(alloc: Global, tables: &Tables, batch: &Name) -> Result<Option<Vec<u8>>, AllocError>
+    requires { AreReady tables.now }
+    ensures page { IfOk result (λ found. option_map (λ page. page.items) found
+        ≡ sheet_of tables.now batch.now) }
+    ensures names { (text : List ℕ) → IsTrue (is_text (escaped text)) }
+{
+    escaped_is_text();
+    match batch_named(&tables.batches, batch) {
+        None => Ok(None),
+        Some(row) => {
+            let page = sheet_text(alloc, tables, row)?;
+            Ok(Some(page))
+        }
+    }
+}
+
+// No character of escaped text begins or ends markup.
+fn escaped_is_text()
+    ensures { (text : List ℕ) → IsTrue (is_text (escaped text)) }
+{}
+
+// The sheet of a batch that is there.
+fn sheet_text(alloc: Global, tables: &Tables, batch: &StoredBatch) -> Result<Vec<u8>, AllocError>
+    requires { AreReady tables.now }
+    ensures { IfOk result (λ page. page.items ≡ sheet_text tables.now batch.now) }
+{
+    let cards = batch_cards(alloc, tables, batch)?;
+    let charges = batch_charges(alloc, tables, batch.id)?;
+    let mut page = Vec::new(alloc);
+    push_top(&mut page, tables, batch)?;
+    push_cards(&mut page, &cards)?;
+    push_blanks(&mut page, tables, &charges)?;
+    push_file(&mut page, &batch.raw)?;
+    Ok(page)
+}
+
+fn push_top(page: &mut Vec<u8>, tables: &Tables, batch: &StoredBatch) -> Result<(), AllocError>
+    requires { AreReady tables.now }
+    ensures { OnOk result (page.new.items ≡ page.old.items ++ top_html tables.now batch.now) }
+{
+    push_head(page, &batch.name)?;
+    push_title(
+        page,
+        &batch.name,
+        &batch.product,
+        open_or_closed(batch.closed),
+    )?;
+    push_bar(page, batch)?;
+    push_account(page, tables, batch)
+}
+
+// ---- the head
+
+#[tactic(auto, unfolding(crate::specs::Sheet::head_html))]
+fn push_head(page: &mut Vec<u8>, batch: &[u8]) -> Result<(), AllocError>
+    ensures { OnOk result (page.new.items ≡ page.old.items ++ head_html batch.now) }
+{
+    push_start(page)?;
+    push_escaped(page, batch)?;
+    push_style(page)
+}
+
+#[tactic(auto, unfolding(crate::specs::Sheet::start))]
+fn push_start(page: &mut Vec<u8>) -> Result<(), AllocError>
+    ensures { OnOk result (page.new.items ≡ page.old.items ++ start) }
+{
+    push_plain(page, START)
+}
+
+#[tactic(auto, unfolding(crate::specs::Sheet::style))]
+fn push_style(page: &mut Vec<u8>) -> Result<(), AllocError>
+    ensures { OnOk result (page.new.items ≡ page.old.items ++ style) }
+{
+    push_plain(page, STYLE)
+}
+
+// The batch, its product, and whether it is open.
+#[tactic(auto, unfolding(crate::specs::Sheet::title_html))]
+fn push_title(
+    page: &mut Vec<u8>,
+    batch: &[u8],
+    product: &[u8],
+    state: &str,
+) -> Result<(), AllocError>
+    ensures { OnOk result
+        (page.new.items ≡ page.old.items ++ title_html batch.now product.now state.now) }
+{
+    push_named(page, "<h1>Batch ", batch, "</h1>\n")?;
+    push_named(page, "<p>Product ", product, ", ")?;
+    push_plain(page, state)?;
+    push_plain(page, "</p>\n")
+}
+
+// ---- the records by state
+
+#[tactic(auto, unfolding(crate::specs::Sheet::bar_html))]
+fn push_bar(page: &mut Vec<u8>, batch: &StoredBatch) -> Result<(), AllocError>
+    ensures { OnOk result (page.new.items ≡ page.old.items ++ bar_html batch.now) }
+{
+    push_plain(page, "<div class=\"bar\">")?;
+    push_parts(page, batch)?;
+    push_plain(page, "</div>\n")
+}
+
+#[tactic(auto, unfolding(crate::specs::Sheet::parts_html))]
+fn push_parts(page: &mut Vec<u8>, batch: &StoredBatch) -> Result<(), AllocError>
+    ensures { OnOk result (page.new.items ≡ page.old.items ++ parts_html batch.now) }
+{
+    push_going(page, batch)?;
+    push_ended(page, batch)
+}
+
+#[tactic(auto, unfolding(crate::specs::Sheet::going_html))]
+fn push_going(page: &mut Vec<u8>, batch: &StoredBatch) -> Result<(), AllocError>
+    ensures { OnOk result (page.new.items ≡ page.old.items ++ going_html batch.now) }
+{
+    push_part(page, "waiting", batch.waiting)?;
+    push_part(page, "running", batch.running)?;
+    push_part(page, "failed", batch.failed)
+}
+
+#[tactic(auto, unfolding(crate::specs::Sheet::ended_html))]
+fn push_ended(page: &mut Vec<u8>, batch: &StoredBatch) -> Result<(), AllocError>
+    ensures { OnOk result (page.new.items ≡ page.old.items ++ ended_html batch.now) }
+{
+    push_part(page, "withdrawn", batch.withdrawn)?;
+    push_part(page, "good", batch.good)
+}
+
+// A part of the bar, as wide as this number says beside those of the others.
+#[tactic(auto, unfolding(crate::specs::Sheet::part_html))]
+fn push_part(page: &mut Vec<u8>, state: &str, count: u64) -> Result<(), AllocError>
+    ensures { OnOk result (page.new.items ≡ page.old.items ++ part_html state.now count) }
+{
+    push_between(page, "<div class=\"", state, "\" style=\"flex:")?;
+    push_number(page, count)?;
+    push_plain(page, " 0 0\"></div>")
+}
+
+// ---- tables
+
+#[tactic(auto, unfolding(crate::specs::Sheet::table_html))]
+fn push_account(page: &mut Vec<u8>, tables: &Tables, batch: &StoredBatch) -> Result<(), AllocError>
+    requires { AreReady tables.now }
+    ensures { OnOk result (page.new.items ≡ page.old.items ++ account_html tables.now batch.now) }
+{
+    push_account_heads(page)?;
+    push_counts(page, tables, batch)?;
+    push_plain(page, "</table>\n")
+}
+
+// The cells of the batch's line behind its name, its product and its state.
+fn push_counts(page: &mut Vec<u8>, tables: &Tables, batch: &StoredBatch) -> Result<(), AllocError>
+    requires { AreReady tables.now }
+    ensures { OnOk result (page.new.items ≡ page.old.items ++ counts_html tables.now batch.now) }
+{
+    let cells = batch_cells(tables, batch);
+    let all = &cells[..];
+    push_row(page, "sums", &all[3..])
+}
+
+#[tactic(auto, unfolding(crate::specs::Sheet::account_heads))]
+fn push_account_heads(page: &mut Vec<u8>) -> Result<(), AllocError>
+    ensures { OnOk result (page.new.items ≡ page.old.items ++ account_heads) }
+{
+    push_plain(page, ACCOUNT)
+}
+
+#[tactic(auto, unfolding(crate::specs::Sheet::table_html))]
+fn push_cards(page: &mut Vec<u8>, cards: &[Card<'_>]) -> Result<(), AllocError>
+    ensures { OnOk result (page.new.items ≡ page.old.items ++ cards_html cards.now) }
+{
+    push_card_heads(page)?;
+    push_card_rows(page, cards)?;
+    push_plain(page, "</table>\n")
+}
+
+#[tactic(auto, unfolding(crate::specs::Sheet::card_heads))]
+fn push_card_heads(page: &mut Vec<u8>) -> Result<(), AllocError>
+    ensures { OnOk result (page.new.items ≡ page.old.items ++ card_heads) }
+{
+    push_plain(page, CARDS)
+}
+
+fn push_card_rows(page: &mut Vec<u8>, cards: &[Card<'_>]) -> Result<(), AllocError>
+    ensures { OnOk result (page.new.items ≡ page.old.items ++ flat_map card_html cards.now) }
+{
+    for card in cards {
+        push_card(page, card)?;
+    }
+    Ok(())
+}
+
+fn push_card(page: &mut Vec<u8>, card: &Card<'_>) -> Result<(), AllocError>
+    ensures { OnOk result (page.new.items ≡ page.old.items ++ card_html card.now) }
+{
+    let session = card.session;
+    let cells = card_cells(card);
+    push_row(page, stands_by(session.state).word(), &cells)
+}
+
+#[tactic(auto, unfolding(crate::specs::Sheet::table_html))]
+fn push_blanks<'a>(
+    page: &mut Vec<u8>,
+    tables: &'a Tables,
+    charges: &[Charge<'a>],
+) -> Result<(), AllocError>
+    requires { AreReady tables.now }
+    ensures { OnOk result (page.new.items ≡ page.old.items ++ blanks_html tables.now charges.now) }
+{
+    push_blank_heads(page)?;
+    push_blank_rows(page, tables, charges)?;
+    push_plain(page, "</table>\n")
+}
+
+#[tactic(auto, unfolding(crate::specs::Sheet::blank_heads))]
+fn push_blank_heads(page: &mut Vec<u8>) -> Result<(), AllocError>
+    ensures { OnOk result (page.new.items ≡ page.old.items ++ blank_heads) }
+{
+    push_plain(page, BLANKS)
+}
+
+fn push_blank_rows<'a>(
+    page: &mut Vec<u8>,
+    tables: &'a Tables,
+    charges: &[Charge<'a>],
+) -> Result<(), AllocError>
+    requires { AreReady tables.now }
+    ensures { OnOk result
+        (page.new.items ≡ page.old.items ++ flat_map (charge_html tables.now) charges.now) }
+{
+    for charge in charges {
+        push_blank(page, tables, charge)?;
+    }
+    Ok(())
+}
+
+// The row of a blank, with all but the batch's name.
+fn push_blank<'a>(
+    page: &mut Vec<u8>,
+    tables: &'a Tables,
+    charge: &Charge<'a>,
+) -> Result<(), AllocError>
+    requires { AreReady tables.now }
+    ensures { OnOk result
+        (page.new.items ≡ page.old.items ++ charge_html tables.now charge.now) }
+{
+    let cells = blank_cells(tables, charge);
+    push_row(page, charge.stands().word(), &cells[..4])
+}
+
+// ---- the file
+
+#[tactic(auto, unfolding(crate::specs::Sheet::file_html))]
+fn push_file(page: &mut Vec<u8>, raw: &[u8]) -> Result<(), AllocError>
+    ensures { OnOk result (page.new.items ≡ page.old.items ++ file_html raw.now) }
+{
+    let alloc = *page.allocator();
+    let digest = hex::encode(alloc, sha256_of(raw))?;
+    push_between(
+        page,
+        "<p>SHA-256 of the batch file <code>",
+        &digest,
+        "</code></p>\n</body>\n</html>\n",
+    )
+}
+
+fn sha256_of(bytes: &[u8]) -> [u8; 32]
+    ensures { result ≡ sha256 bytes.now }
+{
+    let mut hasher = Sha256::new();
+    hasher.update(bytes);
+    hasher.finalize()
+}
