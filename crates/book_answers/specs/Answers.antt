@@ -1,0 +1,96 @@
+-- What the words of `shopbook` ask of a file, answered: what is printed, and how the run ends.
+use Rattle.std.specs.Prelude.{◌≡◌, ◌⊎◌, ℕ, Bool, true, false, List, [], Option, Some, None, Result, Ok, Err}
+use Rattle.text_io.specs.Written.{Writes}
+use Rattle.text_io.specs.declared.writing.WriteFailed.{WriteFailed}
+use Rattle.job_facts.specs.declared.refusal.Refusal.{Refusal}
+use Rattle.job_facts.specs.declared.refusal.Refusal.TheVariants.{BatchUnknown, ProductUnknown}
+use Rattle.table_rows.specs.Tables.{Tables}
+use Rattle.audit_rows.specs.declared.rule.Rule.{Rule}
+use Rattle.sql_tables.specs.declared.versions.Version.{Version}
+use Rattle.table_reads.specs.Holding.{number_of}
+use Rattle.subcommands.specs.declared.end.End.{End}
+use Rattle.subcommands.specs.declared.end.End.TheVariants.{Damaged, Done, Memory, NotReported, WriteFailed as Unwritten}
+use Rattle.book_lines.specs.declared.form.Form.{Form}
+use Rattle.book_lines.specs.declared.form.Form.TheVariants.{Columns, Json}
+use Rattle.book_lines.specs.Blanks.{blanks_of}
+use Rattle.book_lines.specs.Cards.{cards_of}
+use Rattle.book_lines.specs.Counts.{check_text}
+use Rattle.book_lines.specs.Lists.{list_text}
+use Rattle.book_lines.specs.Machines.{machines_text}
+use Rattle.book_sheet.specs.Sheet.{sheet_of}
+use Rattle.book_arguments.specs.declared.words.Ask.{Ask}
+use Rattle.book_arguments.specs.declared.words.Ask.TheVariants.{Check, Lists, Cards, Blanks, Machines, Sheet}
+use Rattle.book_arguments.specs.declared.words.BookWords.{BookWords}
+use Rattle.book_file.specs.declared.book.Book.{Book}
+use Rattle.book_answers.specs.declared.answer.Answer.{Answer}
+
+abbrev pub form_of : Bool → Form
+form_of true = Json
+form_of false = Columns
+
+-- ---- of rows of sound contents
+
+-- a text that is there; else this is missing
+abbrev pub text_or : Refusal → Option (List ℕ) → Result (List ℕ) Refusal
+text_or missing (Some text) = Ok text
+text_or missing None = Err missing
+
+-- a product or a batch may be missing
+abbrev pub sound_text : Form → Version → Tables → Ask → Result (List ℕ) Refusal
+sound_text form version t Check = Ok (check_text form (number_of version) None t)
+sound_text form version t Lists = Ok (list_text form t)
+sound_text form version t (Cards batch) = text_or BatchUnknown (cards_of form t batch)
+sound_text form version t (Blanks product state) = text_or ProductUnknown (blanks_of form t product state)
+sound_text form version t Machines = Ok (machines_text form t)
+sound_text form version t (Sheet batch) = text_or BatchUnknown (sheet_of t batch)
+
+abbrev pub text_or_none : Result (List ℕ) Refusal → List ℕ
+text_or_none (Ok text) = text
+text_or_none (Err missing) = []
+
+abbrev pub end_of_text : Result (List ℕ) Refusal → End
+end_of_text (Ok text) = Done
+end_of_text (Err missing) = NotReported missing
+
+-- the answer is this text, or says what is missing
+abbrev pub Gives : Result (List ℕ) Refusal → Answer → Type 0
+Gives found a = (a.text.items ≡ text_or_none found) × (a.end ≡ end_of_text found)
+
+-- ---- of other rows
+
+abbrev pub damaged_text : Form → Book → Ask → Rule → List ℕ
+damaged_text form book Check rule = check_text form (number_of book.version) (Some rule) book.tables
+damaged_text form book _ rule = []
+
+-- ---- of both
+
+abbrev pub text_by : Form → Book → Ask → Option Rule → List ℕ
+text_by form book ask None = text_or_none (sound_text form book.version book.tables ask)
+text_by form book ask (Some rule) = damaged_text form book ask rule
+
+abbrev pub end_by : Form → Book → Ask → Option Rule → End
+end_by form book ask None = end_of_text (sound_text form book.version book.tables ask)
+end_by form book ask (Some rule) = Damaged
+
+-- the text, and how the run ends where it is written
+abbrev pub text_of : BookWords → Book → List ℕ
+text_of w book = text_by (form_of w.json) book w.ask book.failing
+
+abbrev pub end_of : BookWords → Book → End
+end_of w book = end_by (form_of w.json) book w.ask book.failing
+
+abbrev pub IsAnswer : BookWords → Book → Answer → Type 0
+IsAnswer w book a = (a.text.items ≡ text_of w book) × (a.end ≡ end_of w book)
+
+-- ---- printed
+
+-- a write that fails is the end
+abbrev pub end_written : End → Result (Unit {0}) WriteFailed → End
+end_written end (Ok u) = end
+end_written end (Err e) = Unwritten
+
+-- memory was refused and nothing was written, or the answer was
+abbrev pub Prints : BookWords → Book → Option (List ℕ) → Option (List ℕ) → End → Type 0
+Prints w book before after end =
+    ((end ≡ Memory) × (after ≡ before))
+    ⊎ ((written : Result (Unit {0}) WriteFailed) × Writes before after (text_of w book) written × (end ≡ end_written (end_of w book) written))

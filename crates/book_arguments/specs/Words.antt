@@ -1,0 +1,150 @@
+-- What the words of the program mean: this project's profile, as a command of `clap`.
+use Rattle.std.specs.Prelude.{◌≡◌, ◌≢◌, ◌⊎◌, ⊤, Bool, List, [], codes, Option, None, Some, true, false, string_bytes}
+use Rattle.clap.specs.Words.{App, Row, Rule, Text, fault_of, first_of, new_app, new_rule, subcommand_of, with_rule, with_subcommand}
+use Rattle.clap.specs.Words.{app_of, rule_of}
+use Rattle.clap.specs.declared.builder.command.Command.TheViews.{out-Command as fields_of}
+use Rattle.clap.specs.declared.builder.arg.Arg.{Arg}
+use Rattle.clap.specs.declared.builder.command.Command.{Command}
+use Rattle.arguments.specs.Words.{HasBadName, HasName, IsFlag, IsRefusedBy, flag, versioned}
+use Rattle.arguments.specs.declared.words.WordsFault.{WordsFault}
+use Rattle.arguments.specs.declared.words.WordsFault.TheVariants.{Help, Version, Usage, NotText, BadName, Memory}
+use Rattle.book_lines.specs.Blanks.{state_word}
+use Rattle.book_lines.specs.declared.blank_state.BlankState.{BlankState}
+use Rattle.book_arguments.specs.declared.words.Ask.{Ask}
+use Rattle.book_arguments.specs.declared.words.Ask.TheVariants.{Check, Lists, Cards, Blanks, Machines, Sheet}
+use Rattle.book_arguments.specs.declared.words.BookWords.{BookWords}
+use Rattle.book_arguments.specs.declared.words.Unread.{Unread}
+use Rattle.book_arguments.specs.declared.words.Unread.TheVariants as lacks
+
+-- ---- the command
+
+-- it is this command, and its arguments are its own
+abbrev pub IsSo : App → Command → Type 0
+IsSo app c = (app_of c ≡ app) × ((fields_of c).has_globals ≡ false)
+
+-- it is this argument, and its command's own
+abbrev pub IsOwn : Rule → Arg → Type 0
+IsOwn rule a = (rule_of a ≡ rule) × (a.global ≡ false)
+
+-- `--name WORD`, which has to be given, or may be
+abbrev pub text_rule : Text → Bool → Rule
+text_rule name needed = record (new_rule name) { long = Some name; value_names = 1; required = needed }
+
+-- `NAME --db PATH`
+abbrev pub file_command : Text → App
+file_command name = with_rule (new_app name) (text_rule (codes "db") true)
+
+-- `NAME --db PATH [--json]`
+abbrev pub book_command : Text → App
+book_command name = with_rule (file_command name) (flag (codes "json"))
+
+-- `cards --db PATH [--json] --batch NAME`
+abbrev pub cards_command : App
+cards_command = with_rule (book_command (codes "cards")) (text_rule (codes "batch") true)
+
+-- `blanks --db PATH [--json] --product NAME [--state STATE]`
+abbrev pub blanks_command : App
+blanks_command = with_rule (with_rule (book_command (codes "blanks")) (text_rule (codes "product") true)) (text_rule (codes "state") false)
+
+-- `sheet --db PATH --batch NAME`
+abbrev pub sheet_command : App
+sheet_command = with_rule (file_command (codes "sheet")) (text_rule (codes "batch") true)
+
+-- its words are refused by `fault_of`, and else have `subcommand_of`
+abbrev pub program : App
+program =
+    with_subcommand (with_subcommand (with_subcommand (with_subcommand (with_subcommand (with_subcommand (versioned (new_app (codes "shopbook")))
+    (book_command (codes "check")).top) (book_command (codes "list")).top) cards_command.top) blanks_command.top)
+    (book_command (codes "machines")).top) sheet_command.top
+
+-- ---- the answers
+
+-- the option names this state, or isn't there
+abbrev pub HasState : List Row → Option BlankState → Type 0
+HasState rows None = first_of (codes "state") rows ≡ None
+HasState rows (Some state) = first_of (codes "state") rows ≡ Some (state_word state)
+
+-- the subcommand for it
+abbrev pub word_for : Ask → Text
+word_for Check = codes "check"
+word_for Lists = codes "list"
+word_for (Cards batch) = codes "cards"
+word_for (Blanks product state) = codes "blanks"
+word_for Machines = codes "machines"
+word_for (Sheet batch) = codes "sheet"
+
+-- the options have what it is about
+abbrev pub AreOptionsOf : Ask → List Row → Type 0
+AreOptionsOf (Cards batch) rows = HasName (codes "batch") rows batch
+AreOptionsOf (Blanks product state) rows = HasName (codes "product") rows product × HasState rows state
+AreOptionsOf (Sheet batch) rows = HasName (codes "batch") rows batch
+AreOptionsOf _ rows = ⊤
+
+-- the subcommand of this name with its options asks for this
+abbrev pub Asks : Text → List Row → Ask → Type 0
+Asks name rows ask = (name ≡ word_for ask) × AreOptionsOf ask rows
+
+-- `sheet` has no JSON
+abbrev pub IsForm : Text → List Row → Bool → Type 0
+IsForm name rows json = ((name ≡ codes "sheet") × (json ≡ false)) ⊎ ((name ≢ codes "sheet") × IsFlag (codes "json") rows json)
+
+-- over this file, in this form
+abbrev pub Reads : Text → List Row → BookWords → Type 0
+Reads name rows w = Asks name rows w.ask × (first_of (codes "db") rows ≡ Some (string_bytes w.db)) × IsForm name rows w.json
+
+-- a subcommand with its options is read as this answer
+abbrev pub ReadsAs : Option (Text × List Row) → BookWords → Type 0
+ReadsAs sub w = (name : Text) × ((rows : List Row) × (sub ≡ Some (name, rows)) × Reads name rows w)
+
+-- the words ask for this: it is how clap's subcommand of the words reads
+abbrev pub Means : List Text → BookWords → Type 0
+Means words = ReadsAs (subcommand_of program words)
+
+-- ---- the refusals
+
+-- an option has no name
+abbrev pub LacksName : Text → List Row → Unread → Type 0
+LacksName option rows lacks.Nothing = (t : Text) → ¬ (first_of option rows ≡ Some t)
+LacksName option rows lacks.BadName = HasBadName option rows
+LacksName option rows lacks.Memory = ⊥
+
+-- it names no state, and it is there
+abbrev pub LacksState : List Row → Unread → Type 0
+LacksState rows lacks.Nothing = (state : Option BlankState) → ¬ HasState rows state
+LacksState rows lacks.BadName = ⊥
+LacksState rows lacks.Memory = ⊥
+
+-- the subcommand is about a batch
+abbrev pub IsOfBatch : Text → Type 0
+IsOfBatch name = (name ≡ codes "cards") ⊎ (name ≡ codes "sheet")
+
+-- its product or its batch is named by what isn't a name
+abbrev pub NamesBadly : Text → List Row → Type 0
+NamesBadly name rows = ((name ≡ codes "blanks") × HasBadName (codes "product") rows) ⊎ (IsOfBatch name × HasBadName (codes "batch") rows)
+
+-- the subcommand doesn't ask for anything
+abbrev pub AsksNot : Text → List Row → Unread → Type 0
+AsksNot name rows lacks.Nothing = (ask : Ask) → ¬ Asks name rows ask
+AsksNot name rows lacks.BadName = NamesBadly name rows
+AsksNot name rows lacks.Memory = ⊥
+
+-- the subcommand isn't read
+abbrev pub IsUnread : Text → List Row → Unread → Type 0
+IsUnread name rows lacks.Nothing = (w : BookWords) → ¬ Reads name rows w
+IsUnread name rows lacks.BadName = NamesBadly name rows
+IsUnread name rows lacks.Memory = ⊤
+
+-- nor is any
+abbrev pub ReadsNot : Option (Text × List Row) → Unread → Type 0
+ReadsNot sub lacks.Nothing = (w : BookWords) → ¬ ReadsAs sub w
+ReadsNot sub lacks.BadName = (name : Text) × ((rows : List Row) × (sub ≡ Some (name, rows)) × IsUnread name rows lacks.BadName)
+ReadsNot sub lacks.Memory = ⊤
+
+-- clap refuses the words so, or it takes them, and they ask for nothing or name what isn't a name
+abbrev pub IsRefusal : List Text → WordsFault → Type 0
+IsRefusal words (Help text) = IsRefusedBy (fault_of program words) (Help text)
+IsRefusal words (Version text) = IsRefusedBy (fault_of program words) (Version text)
+IsRefusal words (Usage text) = IsRefusedBy (fault_of program words) (Usage text) ⊎ ((fault_of program words ≡ []) × ReadsNot (subcommand_of program words) lacks.Nothing)
+IsRefusal words NotText = ⊥
+IsRefusal words BadName = (fault_of program words ≡ []) × ReadsNot (subcommand_of program words) lacks.BadName
+IsRefusal words Memory = ⊤

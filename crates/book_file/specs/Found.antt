@@ -1,0 +1,43 @@
+-- What is found in a database whose tables are read and audited.
+use Rattle.std.specs.Prelude.{◌≡◌, Option, Some, None}
+use Rattle.sqlite.specs.Effect.{Database}
+use Rattle.table_rows.specs.Tables.{HaveSameRows, Tables}
+use Rattle.audit_order.specs.Order.{AreSorted}
+use Rattle.audit_rows.specs.Rules.{FailsFirst, rules}
+use Rattle.audit_rows.specs.declared.rule.Rule.{Rule}
+use Rattle.sql_tables.specs.declared.versions.Version.{Version}
+use Rattle.table_reads.specs.Holding.{HoldsRows}
+use Rattle.file_causes.specs.Causes.{SaysHow, SaysWhat}
+use Rattle.file_causes.specs.declared.damage.Damage.TheVariants.{UnreadableRow}
+use Rattle.book_lines.specs.Book.{IsBook}
+use Rattle.book_file.specs.declared.book.Book.{Book}
+use Rattle.book_file.specs.declared.finding.Finding.{Finding}
+use Rattle.book_file.specs.declared.finding.Finding.TheVariants.{NotOurs, Unreadable, Read}
+
+-- rows in order are those of sound contents, or this rule is the first that they break
+abbrev pub HasVerdict : Tables → Option Rule → Type 0
+HasVerdict t None = IsBook t
+HasVerdict t (Some rule) = FailsFirst rules t rule
+
+-- the rows of the database, in order, with their verdict
+pub record IsFound (db : Database) (book : Book) : Type 0 where
+  pub held : HoldsRows book.version book.tables db
+  pub sorted : AreSorted book.tables
+  pub verdict : HasVerdict book.tables book.failing
+
+-- the same rows in order, with their verdict
+pub record IsJudged (version : Version) (t : Tables) (book : Book) : Type 0 where
+  pub version_is : book.version ≡ version
+  pub same : HaveSameRows book.tables t
+  pub sorted : AreSorted book.tables
+  pub verdict : HasVerdict book.tables book.failing
+
+-- rows that were read have their verdict, whatever the device gave
+abbrev pub IsWhole : Finding → Type 0
+IsWhole (Read book) = HasVerdict book.tables book.failing
+IsWhole _ = Unit {0}
+
+abbrev pub Agrees : Database → Finding → Type 0
+Agrees db (NotOurs difference) = SaysHow db difference
+Agrees db Unreadable = SaysWhat db UnreadableRow
+Agrees db (Read book) = IsFound db book

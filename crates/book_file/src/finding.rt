@@ -1,0 +1,111 @@
+//! What is found in a database.
+ghost use Rattle.std.specs.Prelude.{◌≡◌, false, IfOk, IsTrue};
+ghost use Rattle.sqlite.specs.Held.{state};
+ghost use Rattle.sqlite.specs.State.{HasCleanDisk, Survives};
+ghost use Rattle.sql_base.specs.Ends.{IsKept};
+ghost use Rattle.sql_tables.specs.Ours.{AreThere};
+ghost use Rattle.sql_tables.specs.Versions.{schema_of};
+ghost use Rattle.table_reads.specs.Holding.{IsOfVersion};
+ghost use Rattle.book_file.specs.Found.{IsJudged, IsWhole, Agrees};
+
+use crate::book::Book;
+use audit_rows::first_failing;
+use file_causes::{Difference, find_difference};
+use sql_tables::{Version, version_in};
+use sqlite::{Alter, Connection, Error, ErrorCode};
+use std::alloc::Global;
+use table_reads::{read_all, says};
+use table_rows::Tables;
+
+/// What is found in a database.
+#[derive(Drop)]
+pub(crate) enum Finding {
+    /// The tables are those of no version of ours.
+    NotOurs { difference: Difference },
+    /// They are ours, and a row has a value that no row of ours has.
+    Unreadable,
+    /// Their rows were read.
+    Read { book: Book },
+}
+
+// The rows in order, with the first rule that they break.
+fn judged(alloc: Global, version: Version, mut tables: Tables) -> Result<Book, Error>
+    ensures { IfOk result (IsJudged version tables) }
+{
+    audit_laws::sound_rows_are_audited();
+    let failing = first_failing(alloc, &mut tables)?;
+    Ok(Book {
+        version,
+        failing,
+        tables,
+    })
+}
+
+// What is found in tables of this version.
+fn read<S: Alter>(
+    alloc: Global,
+    conn: &mut Connection<S>,
+    version: Version,
+) -> Result<Finding, Error>
+    requires { conn.old.in_transaction ≡ false }
+    ensures value { HasCleanDisk (state S.Store conn.new) → IfOk result
+        (λ found. IsTrue (state S.Store conn.old).is_open
+        × (IsOfVersion version (state S.Store conn.old).now
+        → AreThere (state S.Store conn.old).now.schema (schema_of version).tables
+        → Agrees (state S.Store conn.old).now found)) }
+    ensures whole { IfOk result IsWhole }
+    ensures kept { HasCleanDisk (state S.Store conn.new)
+        → IsKept (state S.Store conn.old) (state S.Store conn.new) }
+    ensures idle { conn.new.in_transaction ≡ false }
+    ensures survives { Survives (state S.Store conn.old) (state S.Store conn.new) (λ _. ⊥) }
+{
+    let Some(tables) = read_all(alloc, conn, version)? else {
+        return Ok(Finding::Unreadable);
+    };
+    let book = judged(alloc, version, tables)?;
+    Ok(Finding::Read { book })
+}
+
+// What is found in tables that are ours.
+fn read_ours<S: Alter>(alloc: Global, conn: &mut Connection<S>) -> Result<Finding, Error>
+    requires { conn.old.in_transaction ≡ false }
+    ensures value { HasCleanDisk (state S.Store conn.new) → IfOk result
+        (λ found. IsTrue (state S.Store conn.old).is_open × Agrees (state S.Store conn.old).now found) }
+    ensures whole { IfOk result IsWhole }
+    ensures kept { HasCleanDisk (state S.Store conn.new)
+        → IsKept (state S.Store conn.old) (state S.Store conn.new) }
+    ensures idle { conn.new.in_transaction ≡ false }
+    ensures survives { Survives (state S.Store conn.old) (state S.Store conn.new) (λ _. ⊥) }
+{
+    let Some(version) = version_in(alloc, conn)? else {
+        return Err(changed());
+    };
+    if says(conn, version)? {
+        read(alloc, conn, version)
+    } else {
+        Err(changed())
+    }
+}
+
+// A device that gave tables of ours gives others now.
+fn changed() -> Error {
+    Error::SqliteFailure(ErrorCode::SystemIoFailure)
+}
+
+/// What is found in a database. It reads each table whole into memory. Nothing is changed, and a
+/// crash leaves what it could leave before.
+pub(crate) fn find<S: Alter>(alloc: Global, conn: &mut Connection<S>) -> Result<Finding, Error>
+    requires { conn.old.in_transaction ≡ false }
+    ensures value { HasCleanDisk (state S.Store conn.new)
+        → IfOk result (Agrees (state S.Store conn.old).now) }
+    ensures whole { IfOk result IsWhole }
+    ensures kept { HasCleanDisk (state S.Store conn.new)
+        → IsKept (state S.Store conn.old) (state S.Store conn.new) }
+    ensures idle { conn.new.in_transaction ≡ false }
+    ensures survives { Survives (state S.Store conn.old) (state S.Store conn.new) (λ _. ⊥) }
+{
+    match find_difference(alloc, conn)? {
+        None => read_ours(alloc, conn),
+        Some(difference) => Ok(Finding::NotOurs { difference }),
+    }
+}

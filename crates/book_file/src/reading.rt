@@ -1,0 +1,45 @@
+//! A database of our tables, read and audited.
+ghost use Rattle.std.specs.Prelude.{◌≡◌, false, IfErr, IfOk};
+ghost use Rattle.sqlite.specs.Held.{state};
+ghost use Rattle.sqlite.specs.State.{HasCleanDisk, Survives};
+ghost use Rattle.sql_base.specs.Ends.{IsKept};
+ghost use Rattle.over_tables.specs.Refusals.{Explains};
+ghost use Rattle.book_file.specs.Found.{HasVerdict, IsFound};
+
+use crate::book::Book;
+use crate::finding::{Finding, find};
+use adoption::fault_of;
+use file_causes::Damage;
+use over_tables::{Cause, FileFault};
+use sqlite::{Alter, Connection};
+use std::alloc::Global;
+
+/// The rows of a database whose tables are ours, of any version, in order, with the first rule that
+/// they break. It reads each table whole into memory. Nothing is changed, and a crash leaves what
+/// it could leave before. Errors: tables that aren't ours, a row that has a value that no row of
+/// ours has, refused memory, and a device that fails.
+pub fn read_book<S: Alter>(alloc: Global, conn: &mut Connection<S>) -> Result<Book, FileFault>
+    requires { conn.old.in_transaction ≡ false }
+    ensures value { HasCleanDisk (state S.Store conn.new)
+        → IfOk result (IsFound (state S.Store conn.old).now) }
+    ensures verdict { IfOk result (λ book. HasVerdict book.tables book.failing) }
+    ensures why { HasCleanDisk (state S.Store conn.new)
+        → IfErr result (Explains (state S.Store conn.old).now) }
+    ensures kept { HasCleanDisk (state S.Store conn.new)
+        → IsKept (state S.Store conn.old) (state S.Store conn.new) }
+    ensures idle { conn.new.in_transaction ≡ false }
+    ensures survives { Survives (state S.Store conn.old) (state S.Store conn.new) (λ _. ⊥) }
+{
+    match find(alloc, conn) {
+        Ok(Finding::Read { book }) => Ok(book),
+        Ok(Finding::NotOurs { difference }) => {
+            let cause = Cause::Tables { difference };
+            Err(FileFault::NotOurs { cause })
+        }
+        Ok(Finding::Unreadable) => {
+            let cause = Damage::UnreadableRow;
+            Err(FileFault::Damaged { cause })
+        }
+        Err(error) => Err(FileFault::from(fault_of(error))),
+    }
+}
