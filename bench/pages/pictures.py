@@ -61,16 +61,16 @@ def sections() -> dict[str, list[str]]:
 
 # A section: its place, its width and height, how many columns of crates it has, and what it is.
 ROOMS = {
-    "Programs": (20, 96, 1060, 74, 4, "words, streams, files, sockets, exit statuses"),
+    "Programs": (20, 96, 1060, 74, 7, "words, streams, files, sockets, exit statuses"),
     "Planning": (20, 208, 300, 180, 1, "CSV bytes to rows, a plan of commands, printed"),
-    "Over tables, and in a file": (370, 208, 360, 74, 2, "the store over a database, and in a file"),
+    "Over tables, and in a file": (370, 208, 360, 74, 3, "the store over a database, and in a file"),
     "The machine's side": (780, 208, 300, 152, 1, "feeder, feed, drill, and sockets"),
     "The server": (370, 314, 360, 74, 1, "one connection; a list of them"),
     "Messages": (370, 420, 360, 92, 2, "bytes to a request and back"),
     "Repeated requests": (370, 544, 360, 92, 2, "each request number acts once"),
     "The plain machine": (370, 668, 360, 92, 2, "a request to a reply and a change"),
     "Other stores": (780, 668, 300, 92, 1, "lists; a device that fails"),
-    "Rows": (20, 792, 300, 192, 1, "contents to rows of tables; the audit"),
+    "Rows": (20, 792, 300, 192, 2, "contents to rows of tables; the audit"),
     "SQL": (370, 792, 360, 192, 2, "rows to a database and back"),
     "Tests": (780, 792, 300, 192, 1, "worked examples, and tests of faults"),
 }

@@ -1,0 +1,64 @@
+"""The sheet of a batch as its reader sees it: what an HTML page shows, in lines, and what it is to show by plain SQL."""
+import hashlib
+import html.parser
+import sqlite3
+
+TAGS = {"html", "head", "meta", "title", "style", "body", "h1", "h2", "p", "div", "table", "tr", "th", "td", "code"}
+SHOWN = "title", "h1", "h2", "p", "code"
+STATES = "waiting", "running", "failed", "withdrawn", "good"
+ACCOUNT = "records", *STATES, "sessions", "spoiled"
+CARD = "record", "session", "machine", "serial", "state", "words", "last"
+BLANK = "serial", "lot", "state", "record"
+CHARGED = """SELECT blank.serial, blank.lot, CASE session.state WHEN 0 THEN 'running' WHEN 1 THEN 'good' ELSE 'spoiled' END, record.name FROM blank
+    JOIN session ON session.serial = blank.serial AND blank.kind = 0 JOIN batch ON batch.id = session.batch
+    JOIN record ON record.batch = session.batch AND record.place = session.place WHERE batch.name = ? ORDER BY blank.serial"""
+
+
+class Page(html.parser.HTMLParser):
+    """What a page shows: its heads and paragraphs, the parts of its bar, and the rows of its tables, each row behind its class."""
+
+    def __init__(self, text: str) -> None:
+        super().__init__()
+        self.lines: list[str] = []
+        self.cells: list[str] = []
+        self.text = ""
+        self.feed(text)
+        self.close()
+
+    def handle_starttag(self, tag: str, attrs: list[tuple[str, str | None]]) -> None:
+        its = dict(attrs)
+        if tag not in TAGS or not its.keys() <= {"lang", "charset", "class", "style"}:
+            self.lines.append(f"<{tag} {its}>")
+        if tag == "tr":
+            self.cells = [str(its.get("class", "heads"))]
+        if tag == "div" and "style" in its:
+            self.lines.append(f"{its['class']} {its['style']}")
+        self.text = ""
+
+    def handle_data(self, data: str) -> None:
+        self.text += data
+
+    def handle_endtag(self, tag: str) -> None:
+        if tag in ("th", "td"):
+            self.cells.append(self.text)
+        if tag == "tr":
+            self.lines.append(" ".join(self.cells))
+        if tag in SHOWN:
+            self.lines.append(f"{tag} {self.text}")
+        self.text = ""
+
+
+def page_lines(conn: sqlite3.Connection, batch: tuple, cards: list[tuple]) -> list[str]:
+    """What the sheet of a batch shows, by its line in `list` and its lines in `cards`."""
+    _, name, product, state, *account = batch
+    raw, = conn.execute("SELECT raw FROM batch WHERE name = ?", (name,)).fetchone()
+    bar = [f"{part} flex:{number} 0 0" for part, number in zip(STATES, account[1:6])]
+    return [f"title Batch {name}", f"h1 Batch {name}", f"p Product {product}, {state}", *bar,
+            row("heads", ACCOUNT), row("sums", account),
+            "h2 Cards", row("heads", CARD), *(row(its[5], its[1:]) for its in cards),
+            "h2 Blanks", row("heads", BLANK), *(row(its[2], its) for its in conn.execute(CHARGED, (name,))),
+            f"code {hashlib.sha256(raw).hexdigest()}", "p "]
+
+
+def row(kind: str, cells: tuple | list) -> str:
+    return " ".join([kind, *("-" if cell is None else str(cell) for cell in cells)])
