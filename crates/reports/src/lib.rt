@@ -21,7 +21,7 @@ mod report;
 use accounts::{batch_text, blank_text};
 pub use fault::AccountFault;
 use job_facts::{JobStore, Refusal};
-use report::report_text;
+pub use report::report_text;
 use std::alloc::Global;
 use std::io::Write;
 use store_data::{Bytes, Name};

@@ -8,8 +8,8 @@ use job_facts::{BatchRow, BatchTotals, RecordLine};
 use std::alloc::{AllocError, Global};
 use store_data::Name;
 
-/// The report of a batch with these records, in file order.
-pub(crate) fn report_text(
+/// The report of a batch with these records, in file order. Errors: refused memory.
+pub fn report_text(
     alloc: Global,
     batch: &Name,
     row: &BatchRow,
