@@ -5,3 +5,4 @@ pub mod LotLemmas
 pub mod CardLemmas
 pub mod BootLemmas
 pub mod ClientLemmas
+pub mod ReportLemmas

@@ -7,3 +7,4 @@ pub mod Blanks
 pub mod Counts
 pub mod Cards
 pub mod Machines
+pub mod Report

@@ -14,6 +14,7 @@ mod keyed;
 mod line;
 mod lists;
 mod machines;
+mod report;
 mod shown;
 
 pub use blank_state::{BlankState, stands_by};
@@ -27,4 +28,5 @@ pub use form::Form;
 pub use line::{push_number, push_status};
 pub use lists::{batch_cells, list_text, open_or_closed};
 pub use machines::machines_text;
+pub use report::{batch_report, reports_by_rows};
 pub use shown::Shown;

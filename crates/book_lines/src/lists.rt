@@ -196,8 +196,8 @@ pub fn batch_cells<'a>(tables: &Tables, batch: &'a StoredBatch) -> [Cell<'a>; 11
     ]
 }
 
-// How many records a batch has.
-fn records(tables: &Tables, batch: &StoredBatch) -> u64
+/// How many records a batch has.
+pub(crate) fn records(tables: &Tables, batch: &StoredBatch) -> u64
     requires { AreReady tables.now }
     ensures { result ≡ length (filter (is_record_of batch.now.id) tables.now.records) }
 {

@@ -8,6 +8,7 @@ use Rattle.table_rows.specs.Tables.{StoredBatch, Tables}
 use Rattle.book_lines.specs.Blanks.{Charge, batch_charges, blank_line, stands_by, stands_on, state_word}
 use Rattle.book_lines.specs.Cards.{Card, batch_cards, card_line}
 use Rattle.book_lines.specs.Lists.{batch_line, open_or_closed}
+use Rattle.book_lines.specs.Report.{batch_report}
 use Rattle.book_sheet.specs.Html.{between, escaped, row_html}
 
 -- ---- the head
@@ -84,10 +85,16 @@ charge_html t c = row_html (state_word (stands_on c.on)) (take 4 (blank_line t c
 abbrev pub blanks_html : Tables → List Charge → List ℕ
 blanks_html t charges = table_html blank_heads (flat_map (charge_html t) charges)
 
--- ---- the file
+-- ---- the file, and the close report
 
-unfoldable pub file_html : List ℕ → List ℕ
-file_html raw = between (codes "<p>SHA-256 of the batch file <code>") (encode_lower (sha256 raw)) (codes "</code></p>\n</body>\n</html>\n")
+-- bytes by their SHA-256
+unfoldable pub digest_html : List ℕ → List ℕ → List ℕ
+digest_html before bytes = between before (encode_lower (sha256 bytes)) (codes "</code></p>\n")
+
+unfoldable pub digests_html : List ℕ → List ℕ → List ℕ
+digests_html raw report =
+    digest_html (codes "<p>SHA-256 of the batch file <code>") raw
+    ++ digest_html (codes "<p>SHA-256 of the close report, as it would be written now <code>") report ++ codes "</body>\n</html>\n"
 
 -- ---- all of it
 
@@ -95,7 +102,7 @@ abbrev pub top_html : Tables → StoredBatch → List ℕ
 top_html t b = head_html b.name ++ title_html b.name b.product (open_or_closed b.closed) ++ bar_html b ++ account_html t b
 
 abbrev pub sheet_text : Tables → StoredBatch → List ℕ
-sheet_text t b = top_html t b ++ cards_html (batch_cards t b) ++ blanks_html t (batch_charges t b.id) ++ file_html b.raw
+sheet_text t b = top_html t b ++ cards_html (batch_cards t b) ++ blanks_html t (batch_charges t b.id) ++ digests_html b.raw (batch_report t b)
 
 -- of a batch that is there
 abbrev pub sheet_of : Tables → List ℕ → Option (List ℕ)

@@ -1,18 +1,26 @@
 //! The sheet of a batch.
-ghost use Rattle.std.specs.Prelude.{◌≡◌, ◌++◌, ℕ, IfOk, IsTrue, List, OnOk, flat_map, option_map};
+ghost use Rattle.std.specs.Prelude.{◌≡◌, ◌++◌, ℕ, Contains, IfOk, IsTrue, List, OnOk, flat_map};
+ghost use Rattle.std.specs.Prelude.{option_map};
 ghost use Rattle.sha2.specs.Sha256.{sha256};
+ghost use Rattle.job_facts.specs.Contents.{AreSound, Contents};
+ghost use Rattle.table_rows.specs.Tables.{HaveSameRows};
+ghost use Rattle.image_laws.specs.Image.{image};
 ghost use Rattle.audit_order.specs.Order.{AreReady};
+ghost use Rattle.reports.specs.Report.{report_text};
+ghost use Rattle.book_lines.specs.Book.{IsBook};
+ghost use Rattle.book_lines.specs.Report.{report_of};
 ghost use Rattle.book_sheet.specs.Html.{escaped, is_text};
 ghost use Rattle.book_sheet.specs.Sheet.{account_heads, account_html, bar_html, blank_heads};
 ghost use Rattle.book_sheet.specs.Sheet.{blanks_html, card_heads, card_html, cards_html};
-ghost use Rattle.book_sheet.specs.Sheet.{charge_html, counts_html, ended_html, file_html};
-ghost use Rattle.book_sheet.specs.Sheet.{going_html, head_html, part_html, parts_html, sheet_of};
+ghost use Rattle.book_sheet.specs.Sheet.{charge_html, counts_html, digest_html, digests_html};
+ghost use Rattle.book_sheet.specs.Sheet.{ended_html, going_html, head_html, part_html, parts_html};
+ghost use Rattle.book_sheet.specs.Sheet.{sheet_of};
 ghost use Rattle.book_sheet.specs.Sheet.{sheet_text, start, style, title_html, top_html};
 
 use crate::html::{push_between, push_escaped, push_named, push_plain, push_row};
 use book_lines::{
-    Card, Charge, batch_cards, batch_cells, batch_charges, batch_named, blank_cells, card_cells,
-    open_or_closed, push_number, stands_by,
+    Card, Charge, batch_cards, batch_cells, batch_charges, batch_named, batch_report, blank_cells,
+    card_cells, open_or_closed, push_number, reports_by_rows, stands_by,
 };
 use sha2::{Digest, Sha256};
 use std::alloc::{AllocError, Global};
@@ -45,17 +53,28 @@ const CARDS: &str = "<h2>Cards</h2>\n<table>\n<tr><th>record</th><th>session</th
 const BLANKS: &str = "<h2>Blanks</h2>\n<table>\n<tr><th>serial</th><th>lot</th>\
 <th>state</th><th>record</th></tr>\n";
 
+/// What stands before the SHA-256 of the batch's file.
+const FILE: &str = "<p>SHA-256 of the batch file <code>";
+
+/// What stands before that of its close report.
+const REPORT: &str = "<p>SHA-256 of the close report, as it would be written now <code>";
+
 /// The sheet of a batch: its head, its records by state as a bar and in numbers, its cards, the
-/// blanks charged to it, and the SHA-256 of its file. None where there is no such batch. Time is
-/// the length of its file, and the number of sessions, blanks, words and the batch's records, times
-/// their logarithms. What is put in from the rows is no markup.
+/// blanks charged to it, and the SHA-256 of its file and of its close report, as it would be
+/// written now. None where there is no such batch. Time is the length of its file, and the number
+/// of sessions, blanks, words and the batch's records, times their logarithms. What is put in from
+/// the rows is no markup. By the facts that the rows are an image of, the report is what `persod
+/// report` writes.
 pub fn sheet_of(alloc: Global, tables: &Tables, batch: &Name) -> Result<Option<Vec<u8>>, AllocError>
-    requires { AreReady tables.now }
+    requires { IsBook tables.now }
     ensures page { IfOk result (λ found. option_map (λ page. page.items) found
         ≡ sheet_of tables.now batch.now) }
     ensures names { (text : List ℕ) → IsTrue (is_text (escaped text)) }
+    ensures report { (c : Contents) → AreSound c → HaveSameRows tables.now (image c)
+        → report_of tables.now batch.now ≡ report_text c.facts batch.now }
 {
     escaped_is_text();
+    reports_by_rows();
     match batch_named(&tables.batches, batch) {
         None => Ok(None),
         Some(row) => {
@@ -72,16 +91,18 @@ fn escaped_is_text()
 
 // The sheet of a batch that is there.
 fn sheet_text(alloc: Global, tables: &Tables, batch: &StoredBatch) -> Result<Vec<u8>, AllocError>
-    requires { AreReady tables.now }
+    requires book { IsBook tables.now }
+    requires there { Contains tables.now.batches batch.now }
     ensures { IfOk result (λ page. page.items ≡ sheet_text tables.now batch.now) }
 {
     let cards = batch_cards(alloc, tables, batch)?;
     let charges = batch_charges(alloc, tables, batch.id)?;
+    let report = batch_report(alloc, tables, batch)?;
     let mut page = Vec::new(alloc);
     push_top(&mut page, tables, batch)?;
     push_cards(&mut page, &cards)?;
     push_blanks(&mut page, tables, &charges)?;
-    push_file(&mut page, &batch.raw)?;
+    push_digests(&mut page, &batch.raw, &report)?;
     Ok(page)
 }
 
@@ -300,20 +321,24 @@ fn push_blank<'a>(
     push_row(page, charge.stands().word(), &cells[..4])
 }
 
-// ---- the file
+// ---- the file, and the close report
 
-#[tactic(auto, unfolding(crate::specs::Sheet::file_html))]
-fn push_file(page: &mut Vec<u8>, raw: &[u8]) -> Result<(), AllocError>
-    ensures { OnOk result (page.new.items ≡ page.old.items ++ file_html raw.now) }
+#[tactic(auto, unfolding(crate::specs::Sheet::digests_html))]
+fn push_digests(page: &mut Vec<u8>, raw: &[u8], report: &[u8]) -> Result<(), AllocError>
+    ensures { OnOk result (page.new.items ≡ page.old.items ++ digests_html raw.now report.now) }
+{
+    push_digest(page, FILE, raw)?;
+    push_digest(page, REPORT, report)?;
+    push_plain(page, "</body>\n</html>\n")
+}
+
+#[tactic(auto, unfolding(crate::specs::Sheet::digest_html))]
+fn push_digest(page: &mut Vec<u8>, before: &str, bytes: &[u8]) -> Result<(), AllocError>
+    ensures { OnOk result (page.new.items ≡ page.old.items ++ digest_html before.now bytes.now) }
 {
     let alloc = *page.allocator();
-    let digest = hex::encode(alloc, sha256_of(raw))?;
-    push_between(
-        page,
-        "<p>SHA-256 of the batch file <code>",
-        &digest,
-        "</code></p>\n</body>\n</html>\n",
-    )
+    let digest = hex::encode(alloc, sha256_of(bytes))?;
+    push_between(page, before, &digest, "</code></p>\n")
 }
 
 fn sha256_of(bytes: &[u8]) -> [u8; 32]

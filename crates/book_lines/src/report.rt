@@ -1,0 +1,158 @@
+//! The close report of a batch, made of rows.
+ghost use Rattle.std.specs.Prelude.{◌≡◌, ◌==◌, ℕ, Contains, IfOk, List, Some, filter, find};
+ghost use Rattle.std.specs.Prelude.{option_map};
+ghost use Rattle.std.specs.List.Sorted.{IsNonDecreasingBy};
+ghost use Rattle.job_facts.specs.Contents.{AreSound, Contents};
+ghost use Rattle.job_facts.specs.Sound.{IsName};
+ghost use Rattle.job_facts.specs.States.{is_good};
+ghost use Rattle.table_rows.specs.Keys.{is_good_of};
+ghost use Rattle.table_rows.specs.Tables.{HaveSameRows, StoredSession as SessionValue};
+ghost use Rattle.table_rows.specs.Tables.{Tables as TablesValue, totals_of};
+ghost use Rattle.image_laws.specs.Image.{image};
+ghost use Rattle.row_laws.specs.RowValues.{batch_of_row, line_of, lines_at};
+ghost use Rattle.audit_laws.specs.Audited.{IsAuditedBatch, IsAuditedRecord, is_session_of};
+ghost use Rattle.audit_order.specs.Order.{AreReady};
+ghost use Rattle.reports.specs.Report.{report_text};
+ghost use Rattle.book_lines.specs.Book.{IsBook};
+ghost use Rattle.book_lines.specs.Keyed.{AreKeyed};
+ghost use Rattle.book_lines.specs.Report.{batch_report, report_of};
+
+use crate::keyed::{Keyed, by_place};
+use crate::lists::records;
+use audit_order::range_of;
+use job_facts::{BatchRow, BatchTotals, RecordLine, SessionState};
+use reports::report_text;
+use std::alloc::{AllocError, Global};
+use store_data::Name;
+use table_rows::{StoredBatch, StoredRecord, StoredSession, Tables};
+
+/// The close report of a batch of the tables, as it would be written now. A batch that is open has
+/// one too. Time is the number of sessions and of the batch's records, times its logarithm.
+#[tactic(auto, unfolding(crate::specs::Report::batch_report))]
+pub fn batch_report(
+    alloc: Global,
+    tables: &Tables,
+    batch: &StoredBatch,
+) -> Result<Vec<u8>, AllocError>
+    requires book { IsBook tables.now }
+    requires there { Contains tables.now.batches batch.now }
+    ensures { IfOk result (λ text. text.items ≡ batch_report tables.now batch.now) }
+{
+    let lines = lines_of(alloc, tables, batch)?;
+    let name = name_of(&batch.name);
+    let row = row_of(batch);
+    let totals = totals_of(tables, batch);
+    let text = report_text(alloc, &name, &row, &lines, &totals)?;
+    Ok(text.into_bytes())
+}
+
+/// By the contents that the rows are an image of, the report of a batch is that of its facts: what
+/// `persod report` writes.
+pub fn reports_by_rows()
+    ensures { (t : TablesValue) (c : Contents) (name : List ℕ) → IsBook t → AreSound c
+        → HaveSameRows t (image c) → report_of t name ≡ report_text c.facts name }
+{}
+
+// The name of these characters.
+fn name_of(text: &[u8]) -> Name
+    requires { IsName text.now }
+    ensures { result ≡ text.now }
+{
+    Name::new(text).unwrap()
+}
+
+// A batch's product, and whether it is closed.
+fn row_of(batch: &StoredBatch) -> BatchRow
+    requires { IsName batch.now.product }
+    ensures { result ≡ batch_of_row batch.now }
+{
+    BatchRow {
+        product: name_of(&batch.product),
+        is_closed: batch.closed,
+    }
+}
+
+// How a batch stands. Each of its records is counted once.
+fn totals_of(tables: &Tables, batch: &StoredBatch) -> BatchTotals
+    requires ready { AreReady tables.now }
+    requires audited { IsAuditedBatch tables.now batch.now }
+    ensures { result ≡ totals_of batch.now }
+{
+    BatchTotals {
+        records: records(tables, batch),
+        waiting: batch.waiting,
+        running: batch.running,
+        failed: batch.failed,
+        withdrawn: batch.withdrawn,
+        good: batch.good,
+        sessions: batch.sessions,
+        spoiled: batch.spoiled,
+    }
+}
+
+// ---- its records
+
+// The lines of a batch's records, in file order.
+fn lines_of(
+    alloc: Global,
+    tables: &Tables,
+    batch: &StoredBatch,
+) -> Result<Vec<RecordLine>, AllocError>
+    requires { IsBook tables.now }
+    ensures { IfOk result (λ lines. lines.items
+        ≡ lines_at tables.now.records tables.now.sessions (Some batch.now)) }
+{
+    let by_place = by_place(alloc, &tables.sessions, batch.id)?;
+    let records = range_of(&tables.records, batch.id);
+    let mut lines = Vec::new(alloc);
+    for rec in records {
+        lines.push(line_of(rec, &by_place))?;
+    }
+    Ok(lines)
+}
+
+// The line of a record, by its batch's sessions under their places.
+fn line_of(rec: &StoredRecord, by_place: &[Keyed<'_>]) -> RecordLine
+    requires name { IsName rec.now.name }
+    requires rising { IsNonDecreasingBy (λ (k : ℕ × SessionValue). k.0) by_place.now }
+    ensures { (t : TablesValue) → IsAuditedRecord t rec.now
+        → AreKeyed (λ (s : SessionValue). s.place)
+        (filter (is_session_of rec.now.batch) t.sessions) by_place.now
+        → result ≡ line_of (filter (is_good_of rec.now.batch) t.sessions) rec.now }
+{
+    let sessions = range_of(by_place, rec.place);
+    RecordLine {
+        rec: name_of(&rec.name),
+        stands: rec.state,
+        sessions: sessions.len() as u64,
+        blank: good_serial(sessions),
+    }
+}
+
+// The serial of the good card among these sessions.
+fn good_serial(sessions: &[Keyed<'_>]) -> Option<u64>
+    ensures { result ≡ option_map (λ (k : ℕ × SessionValue). k.1.serial)
+        (find (λ (k : ℕ × SessionValue). is_good k.1.state) sessions.now) }
+{
+    let session = good_one(sessions)?;
+    Some(session.serial)
+}
+
+// The good one of these sessions.
+fn good_one<'a>(sessions: &[Keyed<'a>]) -> Option<&'a StoredSession>
+    ensures { option_map (λ s. s.now) result ≡ option_map (λ (k : ℕ × SessionValue). k.1)
+        (find (λ (k : ℕ × SessionValue). is_good k.1.state) sessions.now) }
+{
+    match sessions.iter().find(|session| is_good(session)) {
+        None => None,
+        Some(session) => Some(session.row),
+    }
+}
+
+// Whether a session is good.
+fn is_good(session: &Keyed<'_>) -> bool
+    ensures { result ≡ is_good session.now.1.state }
+{
+    let row = session.row;
+    matches!(row.state, SessionState::Good)
+}
