@@ -211,7 +211,8 @@ first_fresh f marks cards client number (Job (request.Open b blank)) sound fine 
     opens_fresh f cards blank o.1 (fine blank) (opens_free f o.0 client b blank o.1 (step_may f client (request.Open b blank)) (step_says f client (request.Open b blank) sound))
 first_fresh f marks cards client number _ sound fine = tt
 
-release_fits : (marks : List Mark) (client : List ℕ) (number upto : ℕ) → status_of (if nat_le number upto then reply.Refused ReleaseTooFar else reply.Released (mark_by marks client upto)) ≡ 200 → upto ≤ mark_of (marks_by marks client number (Release upto)) client
+-- after an accepted release its client's mark has reached it
+pub release_fits : (marks : List Mark) (client : List ℕ) (number upto : ℕ) → status_of (if nat_le number upto then reply.Refused ReleaseTooFar else reply.Released (mark_by marks client upto)) ≡ 200 → upto ≤ mark_of (marks_by marks client number (Release upto)) client
 release_fits marks client number upto = at (nat_le number upto)
   where
     at : (far : Bool) → status_of (cond far (reply.Refused ReleaseTooFar) (reply.Released (mark_by marks client upto))) ≡ 200 → upto ≤ mark_of (cond far marks (with_mark marks client (mark_by marks client upto))) client

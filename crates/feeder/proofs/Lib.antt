@@ -8,5 +8,6 @@ pub mod Calls
 pub mod Arriving
 pub mod Events
 pub mod Lines
+pub mod Releases
 pub mod Recorded
 pub mod Whole

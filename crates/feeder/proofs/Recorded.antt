@@ -1,4 +1,5 @@
--- What is recorded of arrivals: their meaning, what each got, and that repeats get it again.
+-- What is recorded of arrivals: their meaning, what each got, that repeats get it again, and
+-- releases.
 use Rattle.std.proofs.Common.{◌≡◌, ◌⊎◌, ◌||◌, ℕ, zero, suc, true, false, List, [], ◌∷◌, ◌++◌, length, take, All, Option, Some, None, Result, Ok, Err, refl, sym, ap, ◌∙◌, inl, inr, arith}
 use Rattle.std.specs.Prelude.{slice_get}
 use Rattle.std.proofs.Math.Seq.{take-append_seam}
@@ -24,6 +25,7 @@ use Rattle.feeder.specs.Table.{FeederState, after_insert, asked}
 use Rattle.feeder.specs.World.{Answered, Machine, Packet, World, arrival_of, arrived, arrived_as, arrives, decides, delivered, happens, inserted, is_name_of, is_of_machines, is_used, powered, put_in, reached, run, sent, sent_by, worded, worded_in}
 use Rattle.feeder.specs.ShopFloor.{RepeatsGetTheirReply, arrivals_of}
 use Rattle.feeder.proofs.Events.{last_at}
+use Rattle.feeder.proofs.Releases.{ReleasesStand, decides_stand, none_stand}
 
 pub record Recorded (c : Contents) (decided replies : List Answered) : Type 0 where
   pub above : AreAbove c
@@ -31,6 +33,7 @@ pub record Recorded (c : Contents) (decided replies : List Answered) : Type 0 wh
   pub http_reply : (i : ℕ) (g : Answered) → slice_get decided i ≡ Some g → g.http_reply ≡ http_reply_on (contents_after no_contents (arrivals_of (take i decided))) g.arrival
   pub acknowledged : All (λ (g : Answered). (i : ℕ) × (slice_get decided i ≡ Some g)) replies
   pub still : All (λ (g : Answered). IsKeptFor c g.arrival g.http_reply) decided
+  pub releases : ReleasesStand c decided
 
 none_above : AreAbove no_contents
 none_above = All-nil (λ (e : Entry). is_above no_contents.marks e ≡ true)
@@ -42,6 +45,7 @@ start_recorded = record {
   http_reply = λ i g is. absurd (none_at i g is);
   acknowledged = All-nil (λ (g : Answered). (i : ℕ) × (slice_get [] i ≡ Some g));
   still = All-nil (λ (g : Answered). IsKeptFor no_contents g.arrival g.http_reply);
+  releases = none_stand;
 }
   where
     none_at : {X : Type 0} (i : ℕ) (x : X) → slice_get [] i ≡ Some x → ⊥
@@ -73,6 +77,7 @@ decides_recorded w a is =
           (All-weaker (λ (b : Answered). IsKeptFor w.contents b.arrival b.http_reply) (λ (b : Answered). IsKeptFor (contents_after w.contents (a ∷ [])) b.arrival b.http_reply)
           (λ b still. reply_still_kept w.contents a b.arrival b.http_reply is.above still) w.decided is.still)
           (own_reply_kept w.contents a is.above);
+      releases = decides_stand w.contents a w.decided is.releases is.above;
     }
   where
     at_where : {X : Type 0} (xs : List X) (y : X) (i : ℕ) (z : X) → slice_get (xs ++ y ∷ []) i ≡ Some z → (slice_get xs i ≡ Some z) ⊎ ((y ≡ z) × (i ≡ length xs))
@@ -99,6 +104,7 @@ arrives_recorded w a No is =
       meant = now.meant;
       http_reply = now.http_reply;
       still = now.still;
+      releases = now.releases;
       acknowledged = All-push (λ (b : Answered). (i : ℕ) × (slice_get (decides w a).decided i ≡ Some b)) w.replies g now.acknowledged (length w.decided, last_at w.decided g);
     }
 

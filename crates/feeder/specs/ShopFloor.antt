@@ -130,6 +130,17 @@ abbrev pub ReleasesAreKept : World → Type 0
 ReleasesAreKept w = All (λ (g : Answered). (x : Machine) (upto : ℕ) → w.machines g.arrival.client ≡ Some x
     → g.arrival.request ≡ Release upto → g.http_reply.status ≡ 200 → upto ≤ mark_of w.contents.marks g.arrival.client) w.replies
 
+-- the arrival's ask is that of one request: whatever was decided with its client, number and ask
+-- asked for the same
+abbrev pub IsOneRequest : List Answered → Arrived → Type 0
+IsOneRequest decided a = All (λ (h : Answered). h.arrival.client ≡ a.client → h.arrival.number ≡ a.number → h.arrival.ask ≡ a.ask → h.arrival.request ≡ a.request) decided
+
+-- a client's mark, an office's too, has reached each of its releases that was accepted and whose
+-- ask is that of one request
+abbrev pub MarksReachReleases : World → Type 0
+MarksReachReleases w = All (λ (g : Answered). (upto : ℕ) → g.arrival.request ≡ Release upto → g.http_reply.status ≡ 200
+    → IsOneRequest w.decided g.arrival → upto ≤ mark_of w.contents.marks g.arrival.client) w.decided
+
 -- ---- what callers owe
 
 -- its names are names, and its numbers lie in their ranges

@@ -5,8 +5,8 @@ ghost use Rattle.arrivals.specs.HttpReplies.{HttpReply};
 ghost use Rattle.feeder.specs.Reading.{IsReadable, ReadsBack};
 ghost use Rattle.feeder.specs.ShopFloor.{AcknowledgedIsDecided, CardsAreCharged, DecidedIsMeant};
 ghost use Rattle.feeder.specs.ShopFloor.{DecidedIsAnswered, GoodCardsAreWhole, InFlight, IsEvent};
-ghost use Rattle.feeder.specs.ShopFloor.{OldBootsAreOver, PutOutIsCounted, RecordsHaveOneCard};
-ghost use Rattle.feeder.specs.ShopFloor.{ReleasesAreKept, RepeatsGetTheirReply};
+ghost use Rattle.feeder.specs.ShopFloor.{MarksReachReleases, OldBootsAreOver, PutOutIsCounted};
+ghost use Rattle.feeder.specs.ShopFloor.{RecordsHaveOneCard, ReleasesAreKept, RepeatsGetTheirReply};
 ghost use Rattle.feeder.specs.World.{world_after};
 
 use job_facts::Arrival;
@@ -106,6 +106,10 @@ pub fn every_world(events: &[Event])
     // An acknowledged release of a machine is kept.
     ensures releases { (reads : HttpReply → Option Reply) → ReadsBack reads
         → ReleasesAreKept (world_after reads events.now) }
+    // The mark of any client, an office too, has reached each of its releases that was accepted, if
+    // whatever was decided with that release's client, number and ask was the same request.
+    ensures marks { (reads : HttpReply → Option Reply)
+        → MarksReachReleases (world_after reads events.now) }
     // A reading of replies as the clauses want it there is.
     ensures reading { IsReadable }
 {}

@@ -38,5 +38,8 @@ returns-clause-in_flight c = let es = c.args.events.now in λ reads back. in_fli
 pub returns-clause-releases : goal.returns-clause-releases
 returns-clause-releases c = let es = c.args.events.now in λ reads back. releases_kept (machines_of es) (world_after reads es) (world_fine reads es back c.requires)
 
+pub returns-clause-marks : goal.returns-clause-marks
+returns-clause-marks c = let es = c.args.events.now in λ reads. (run_recorded reads (machines_of es) es at_first start_recorded).releases.reached
+
 pub returns-clause-reading : goal.returns-clause-reading
 returns-clause-reading c = readable
