@@ -12,6 +12,9 @@ BLANK = "serial", "lot", "state", "record"
 CHARGED = """SELECT blank.serial, blank.lot, CASE session.state WHEN 0 THEN 'running' WHEN 1 THEN 'good' ELSE 'spoiled' END, record.name FROM blank
     JOIN session ON session.serial = blank.serial AND blank.kind = 0 JOIN batch ON batch.id = session.batch
     JOIN record ON record.batch = session.batch AND record.place = session.place WHERE batch.name = ? ORDER BY blank.serial"""
+ITS = "FROM session WHERE session.batch = record.batch AND session.place = record.place"
+RECORDS = f"""SELECT record.name, record.state, (SELECT count(*) {ITS}), (SELECT serial {ITS} AND session.state = 1) FROM record
+    JOIN batch ON batch.id = record.batch WHERE batch.name = ? ORDER BY record.place"""
 
 
 class Page(html.parser.HTMLParser):
@@ -57,7 +60,16 @@ def page_lines(conn: sqlite3.Connection, batch: tuple, cards: list[tuple]) -> li
             row("heads", ACCOUNT), row("sums", account),
             "h2 Cards", row("heads", CARD), *(row(its[5], its[1:]) for its in cards),
             "h2 Blanks", row("heads", BLANK), *(row(its[2], its) for its in conn.execute(CHARGED, (name,))),
-            f"code {hashlib.sha256(raw).hexdigest()}", "p "]
+            f"code {hashlib.sha256(raw).hexdigest()}", "p ", f"code {hashlib.sha256(report(conn, batch).encode()).hexdigest()}", "p "]
+
+
+def report(conn: sqlite3.Connection, batch: tuple) -> str:
+    """The close report of a batch, by its line in `list` and the rows of its records and sessions."""
+    _, name, product, state, *account = batch
+    records = [f"record {record} {STATES[stands]} {sessions} {'-' if serial is None else serial}"
+               for record, stands, sessions, serial in conn.execute(RECORDS, (name,))]
+    totals = [f"{label:<9} {number:>10}" for label, number in zip(ACCOUNT, account, strict=True)]
+    return "".join(f"{line}\n" for line in (f"batch {name}", f"product {product}", f"state {state}", *records, *totals))
 
 
 def row(kind: str, cells: tuple | list) -> str:

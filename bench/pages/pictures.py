@@ -68,6 +68,7 @@ ROOMS = {
     "The server": (370, 314, 360, 74, 1, "one connection; a list of them"),
     "Messages": (370, 420, 360, 92, 2, "bytes to a request and back"),
     "Repeated requests": (370, 544, 360, 92, 2, "each request number acts once"),
+    "The shop's book": (20, 544, 300, 92, 1, "lines and a sheet, made of rows"),
     "The plain machine": (370, 668, 360, 92, 2, "a request to a reply and a change"),
     "Other stores": (780, 668, 300, 92, 1, "lists; a device that fails"),
     "Rows": (20, 792, 300, 192, 2, "contents to rows of tables; the audit"),

@@ -1,11 +1,13 @@
 #!/usr/bin/env python3
 """Opens the sheet of a batch in a browser, without a window: a batch of 12 records, of which some are good, one is spoiled and made again, one runs, and
-the rest waits. It fails where the page has a script or names another file, or where the browser doesn't show its texts.
+the rest waits. It fails where the page has a script or names another file, where the browser doesn't show its texts, or where the digest of the close
+report is another than that of what `persod report` writes.
 
     bench/run sheet              looks at the page
     bench/run sheet --picture    writes docs/sheet.png too, which a person has to look at
 
 It wants Debian's chromium, and as root runs that without its sandbox."""
+import hashlib
 import os
 import pathlib
 import re
@@ -22,7 +24,7 @@ TOP = pathlib.Path(__file__).resolve().parents[2]
 BROWSER = shutil.which("chromium")
 SIZE = "900,1100"
 CARDS = ["1000", "1001", "1002 9000 6A80", "1003", "1004"]
-WANTED = ["Batch B1", "Product P1, open", "R3", "1002", "6A80", "SHA-256"]
+WANTED = ["Batch B1", "Product P1, open", "R3", "1002", "6A80", "SHA-256 of the batch file", "SHA-256 of the close report"]
 
 
 def looked(*words: str) -> str:
@@ -56,8 +58,10 @@ def main() -> None:
         page.write_bytes(printed)
         found = re.findall(rb"(?i)<script|\bon[a-z]+=|\bsrc=|\bhref=|url\(", printed)
         expect("scripts and other files in the page", found, [])
+        report = subprocess.run([program, "report", "--db", database, "--batch", "B1"], capture_output=True, check=True).stdout
+        wanted = [*WANTED, hashlib.sha256(report).hexdigest()]
         shown = looked("--dump-dom", page.as_uri())
-        expect("what isn't shown", [text for text in WANTED if text not in shown], [])
+        expect("what isn't shown", [text for text in wanted if text not in shown], [])
         picture = TOP / "docs" / "sheet.png" if "--picture" in sys.argv else folder / "sheet.png"
         looked(f"--screenshot={picture}", f"--window-size={SIZE}", page.as_uri())
         expect("whether there is a picture", picture.stat().st_size > 0, True)

@@ -1,0 +1,196 @@
+#!/usr/bin/env python3
+"""Counts the instructions of each kind of request to `persod serve`, by valgrind's callgrind, beside
+those of what the tables need for it by the SQLite that we use (programs/measure_kit.txt), which is
+served the same. A count is nearly the same each time, whatever else the machine does. It takes two
+minutes, and needs valgrind.
+
+    bench/run served_counts [--cards N ..]
+
+One machine makes cards of make_batch.py, N to a batch, each by an opening, ten answers that go on and
+a last one. The second import is counted, and five cards but the first. Of each kind the median is
+printed, since now and then a commit copies the log into the file. The files lie in memory. Below
+each kind stand the crates that take the most, with what they take of the other. Of copies of whole
+blocks, as of a batch's file, callgrind counts an instruction for 32 bytes or so."""
+import argparse
+import json
+import pathlib
+import re
+import shutil
+import subprocess
+import sys
+import tempfile
+import time
+from collections import Counter
+from typing import Callable, NamedTuple
+
+from arrivals import ANSWER, IMPORT, KINDS, LAST, OPENING
+from served import Server, exchange, free_port, parts, post
+from speed import Same, Shop, Translator
+
+ANSWERS = 10
+COUNTED = 5
+SHOWN = 8
+C_LIBRARY = re.compile(r"_*(mem|str)\w*$")
+ALLOCATOR = re.compile(r"(_int_)?(malloc|free|realloc)\w*$|rattle_(de)?alloc$|unlink_chunk|tcache")
+
+
+class Asked(NamedTuple):
+    """A request, and its reply's body."""
+
+    message: bytes
+    body: bytes
+
+
+class Phase(NamedTuple):
+    """Requests of a kind in turn, and whether they are counted."""
+
+    kind: str
+    is_counted: bool
+    asked: list[Asked]
+
+
+def counted(kind: type[Server], counts: pathlib.Path) -> type[Server]:
+    """Such a server under callgrind, which counts nothing yet."""
+
+    class Counted(kind):  # type: ignore[misc, valid-type]
+        def command(self, program: str, database: pathlib.Path) -> list[str]:
+            return ["valgrind", "--tool=callgrind", "--instr-atstart=no", f"--callgrind-out-file={counts}", *super().command(program, database)]
+
+    return Counted
+
+
+def control(server: Server, *words: str) -> None:
+    subprocess.run(["callgrind_control", *words, str(server.process.pid)], check=True, stdout=subprocess.DEVNULL, stderr=subprocess.DEVNULL)
+
+
+def phase(server: Server, kind: str, work: Callable[[], None]) -> None:
+    """Counts what a work takes of the server."""
+    control(server, "--zero")
+    control(server, "--instr=on")
+    work()
+    time.sleep(0.5)
+    control(server, "--instr=off")
+    control(server, f"--dump={kind.replace(' ', '_')}")
+
+
+# ---- the two servers
+
+
+def ours(program: str, folder: pathlib.Path, cards: int) -> tuple[list[Phase], pathlib.Path]:
+    """Makes the cards. Answers what was asked, and the file as it was before the first batch."""
+    database, begun = folder / "ours.db", folder / "kit.db"
+    server = counted(Server, folder / "ours.counts")(program, database, free_port())
+    shop, asked = Shop(server, cards), []
+    shop.stock()
+    for end in ("", "-wal"):
+        if (path := pathlib.Path(f"{database}{end}")).exists():
+            shutil.copyfile(path, f"{begun}{end}")
+    maker, reply = shop.makers[0], None
+
+    def answer() -> Asked:
+        nonlocal reply
+        message = maker.send(reply)
+        whole = parts(exchange(server.port, message))
+        if whole is None or whole[0] != 200:
+            sys.exit(f"{message!r}: {whole}")
+        reply = json.loads(whole[1])
+        return Asked(message, whole[1])
+
+    def go(kind: str, is_counted: bool, one: Callable[[], Asked], times: int = 1) -> None:
+        its: list[Asked] = []
+        work = lambda: its.extend(one() for _ in range(times))
+        phase(server, kind, work) if is_counted else work()
+        asked.append(Phase(kind, is_counted, its))
+
+    for is_counted in (False, True):
+        go(IMPORT, is_counted, lambda: Asked(*shop.bring([])))
+    for number in range(1 + COUNTED):
+        go(OPENING, number > 0, answer)
+        go(ANSWER, number > 0, answer, ANSWERS)
+        go(LAST, number > 0, answer)
+        if reply["result"] != "good":
+            sys.exit(f"a card ended with {reply}")
+    server.kill()
+    return asked, begun
+
+
+def the_kits(program: str, folder: pathlib.Path, begun: pathlib.Path, asked: list[Phase]) -> None:
+    """Asks the kit's statements the same."""
+    translator = Translator(folder / "ours.db")
+    translator.batches = {}
+    server = counted(Same, folder / "kit.counts")(program, begun, free_port())
+    for one in asked:
+        texts = [translator.asked(it.message, it.body).same for it in one.asked]
+
+        def send() -> None:
+            for text in texts:
+                if parts(exchange(server.port, post("same", 0, text))) is None:
+                    sys.exit(f"no reply to a {one.kind}")
+
+        phase(server, one.kind, send) if one.is_counted else send()
+    server.kill()
+
+
+# ---- counts
+
+
+def crate_of(function: str) -> str:
+    if C_LIBRARY.match(function):
+        return "copies of memory"
+    return "malloc" if ALLOCATOR.match(function) else function.split("::")[0]
+
+
+def counts_in(path: pathlib.Path) -> tuple[str, Counter[str]]:
+    """The kind that a dump names, and what each crate took itself."""
+    names: dict[str, str] = {}
+    kind, function, is_call, taken = "", "", False, Counter[str]()
+    for line in path.read_text(errors="replace").splitlines():
+        if trigger := re.match(r"desc: Trigger: dump (\w+)", line):
+            kind = trigger[1].replace("_", " ")
+        elif named := re.match(r"(c?fn)=\((\d+)\)(?: (.*))?$", line):
+            names.setdefault(named[2], named[3])
+            function = named[2] if named[1] == "fn" else function
+        elif line.startswith("calls="):
+            is_call = True
+        elif cost := re.match(r"[-+*\d]\d* (\d+)$", line):
+            if not is_call:
+                taken[crate_of(names[function])] += int(cost[1])
+            is_call = False
+    return kind, taken
+
+
+def medians(folder: pathlib.Path, name: str) -> dict[str, Counter[str]]:
+    """Of each kind the dump in the middle, by what was taken in all."""
+    found: dict[str, list[Counter[str]]] = {kind: [] for kind in KINDS}
+    for path in folder.glob(f"{name}.counts.*"):
+        kind, taken = counts_in(path)
+        found[kind].append(taken)
+    return {kind: sorted(its, key=Counter.total)[len(its) // 2] for kind, its in found.items()}
+
+
+def show(cards: int, one: dict[str, Counter[str]], other: dict[str, Counter[str]]) -> None:
+    thousands = lambda count, kind: count / 1e3 / (ANSWERS if kind == ANSWER else 1)
+    print(f"{cards} cards to a batch, thousand instructions      ours       kit   kit/ours")
+    for kind in KINDS:
+        mine, its = one[kind].total(), other[kind].total()
+        print(f"{kind:46}{thousands(mine, kind):9.0f} {thousands(its, kind):9.0f} {its / mine:10.2f}")
+        for crate, count in one[kind].most_common(SHOWN):
+            print(f"    {crate:42}{thousands(count, kind):9.0f} {thousands(other[kind][crate], kind):9.0f}")
+    mine, its = (sum(counts[kind].total() for kind in KINDS if kind != IMPORT) for counts in (one, other))
+    print(f"{'a whole card':46}{mine / 1e3:9.0f} {its / 1e3:9.0f} {its / mine:10.2f}", flush=True)
+
+
+def main() -> None:
+    program, kit = sys.argv[1:3]
+    parser = argparse.ArgumentParser()
+    parser.add_argument("--cards", type=int, nargs="+", default=[20, 200])
+    for cards in parser.parse_args(sys.argv[3:]).cards:
+        with tempfile.TemporaryDirectory(dir="/dev/shm") as room:
+            folder = pathlib.Path(room)
+            asked, begun = ours(program, folder, cards)
+            the_kits(kit, folder, begun, asked)
+            show(cards, medians(folder, "ours"), medians(folder, "kit"))
+
+
+if __name__ == "__main__":
+    main()
