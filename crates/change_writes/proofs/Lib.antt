@@ -1,3 +1,4 @@
 pub mod FileRows
 pub mod Parts
 pub mod Raw
+mod Totals

@@ -51,6 +51,7 @@ pub fn commit<S: Alter>(
         (state S.Store conn.new)) }
     ensures err { HasCleanDisk (state S.Store conn.new)
         → OnErr result (IsKept (state S.Store conn.old) (state S.Store conn.new)) }
+    ensures writable { OnOk result (IsWritable writing.now) }
     ensures idle { conn.new.in_transaction ≡ false }
     ensures crash { Survives (state S.Store conn.old) (state S.Store conn.new)
         (IsLeft (Moves (rows_written writing.now (kept_reply entry.now)))

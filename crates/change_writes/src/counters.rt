@@ -1,10 +1,15 @@
 //! The counters that a change makes.
-ghost use Rattle.std.specs.Prelude.{◌≡◌, ◌-◌, ◌^◌};
+ghost use Rattle.std.specs.Prelude.{◌≡◌, ◌-◌, ◌<◌, ◌^◌, IfSome, Some};
+ghost use Rattle.job_facts.specs.Contents.{Entry as EntryValue};
 ghost use Rattle.job_facts.specs.declared.facts.RecordState.TheVariants as rec;
 ghost use Rattle.table_rows.specs.After.{less, more, one_opened, one_spoiled};
-ghost use Rattle.change_writes.specs.Writable.{AreBelow};
+ghost use Rattle.table_rows.specs.After.{rows_written, stopped};
+ghost use Rattle.table_rows.specs.Tables.{Tables};
+ghost use Rattle.change_writes.specs.Counters.{HasTotals, summed};
+ghost use Rattle.change_writes.specs.Writable.{AreBelow, HasRoom, IsWritable};
 
-use job_facts::{BatchTotals, RecordState};
+use job_facts::{BatchTotals, RecordState, SessionState};
+use table_rows::{RecordPlace, Writing};
 
 // One record of a batch less stands so.
 fn less(stands: RecordState, totals: &BatchTotals) -> BatchTotals
@@ -83,5 +88,66 @@ pub(crate) fn spoiled(totals: &BatchTotals) -> BatchTotals
     BatchTotals {
         spoiled: totals.spoiled + 1,
         ..passed(RecordState::Running, RecordState::Failed, totals)
+    }
+}
+
+// The counters, with how many records they sum up to, if that is a number.
+fn summed(totals: &BatchTotals) -> Option<BatchTotals>
+    ensures { IfSome result (λ all. all ≡ summed totals.now) }
+{
+    let records = totals
+        .waiting
+        .checked_add(totals.running)?
+        .checked_add(totals.failed)?
+        .checked_add(totals.withdrawn)?
+        .checked_add(totals.good)?;
+    Some(BatchTotals { records, ..*totals })
+}
+
+// The counters behind a word that leaves the session of this record so.
+fn stopped(place: &RecordPlace, stands: SessionState) -> Option<BatchTotals>
+    requires { HasRoom place.now }
+    ensures { IfSome result (λ totals. (t : Tables)
+        → HasTotals place.now.batch totals (stopped place.now stands t)) }
+{
+    match stands {
+        SessionState::Running => None,
+        SessionState::Good => summed(&passed(
+            RecordState::Running,
+            RecordState::Good,
+            &place.totals,
+        )),
+        SessionState::Spoiled => summed(&spoiled(&place.totals)),
+    }
+}
+
+// The id of a record's batch with these counters, where they are some.
+fn of_batch(place: &RecordPlace, totals: Option<BatchTotals>) -> Option<(u64, BatchTotals)>
+    ensures { IfSome result (λ it. (it.0 ≡ place.now.batch) × (totals ≡ Some it.1)) }
+{
+    let totals = totals?;
+    Some((place.batch, totals))
+}
+
+/// The id of the batch whose counters what is written sets, and these counters.
+pub fn counters_after(writing: &Writing<'_>) -> Option<(u64, BatchTotals)>
+    requires { IsWritable writing.now }
+    ensures totals { IfSome result (λ it. (t : Tables) (entry : EntryValue)
+        → HasTotals it.0 it.1 (rows_written writing.now entry t)) }
+    ensures ranged { IfSome result (λ it. it.0 < 2 ^ 63) }
+{
+    match writing {
+        Writing::Opens { place, .. } => of_batch(place, summed(&opened(&place.totals))),
+        Writing::AddsLastWord { stands, place, .. } => of_batch(place, stopped(place, *stands)),
+        Writing::Ends { place, .. } => of_batch(place, summed(&spoiled(&place.totals))),
+        Writing::Remakes { place } => {
+            let remade = passed(RecordState::Failed, RecordState::Waiting, &place.totals);
+            of_batch(place, summed(&remade))
+        }
+        Writing::Withdraws { was, place } => {
+            let withdrawn = passed(*was, RecordState::Withdrawn, &place.totals);
+            of_batch(place, summed(&withdrawn))
+        }
+        _ => None,
     }
 }

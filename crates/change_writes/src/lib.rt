@@ -12,3 +12,4 @@ mod releases;
 mod writable;
 
 pub use commits::commit;
+pub use counters::counters_after;

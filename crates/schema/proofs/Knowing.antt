@@ -19,6 +19,7 @@ use Rattle.sql_tables.specs.Opening.{MakesAll}
 use Rattle.row_reads.specs.Reads.{Looks}
 use Rattle.store_reads.specs.declared.known.Known.{Known}
 use Rattle.store_reads.specs.Fixed.{fixed}
+use Rattle.store_reads.specs.Counted.{AreCountsIn}
 use Rattle.store_reads.specs.Known.{HasKnown, IsAllKnownIn, IsKnownIn, Knows, KnowsNothing, IsStandingIn}
 use Rattle.store_reads.proofs.Knowing.{knows_after}
 use Rattle.adoption.specs.Adopts.{Adopts}
@@ -27,16 +28,23 @@ use Rattle.schema.proofs.Founding.{founded}
 
 -- ---- a commit
 
-module _ (w : Writing) (entry : Entry) (old new : State) (before after : Known) (knows : Knows old before) (early : HasCleanDisk new → HasCleanDisk old)
-    (stays : (t : Tables) → IsAllKnownIn t before → IsAllKnownIn t after)
-    (moves : (t : Tables) → IsAllKnownIn t before → IsAllKnownIn (rows_written w entry t) after) where
-  pub knows_written : {X : Type 0} (r : Result X Error) → (HasCleanDisk new → OnOk r (Ends (Moves (rows_written w entry)) old new)) → (HasCleanDisk new → OnErr r (IsKept old new)) → Knows new after
-  knows_written (Ok x) ok err clean live =
+module _ (w : Writing) (entry : Entry) (old new : State) (before after : Known) (knows : Knows old before) (early : HasCleanDisk new → HasCleanDisk old) where
+  -- it is made
+  pub knows_made : ((t : Tables) → IsAllKnownIn t before → IsAllKnownIn (rows_written w entry t) after) → (HasCleanDisk new → Ends (Moves (rows_written w entry)) old new) → Knows new after
+  knows_made moves ok clean live =
       let k = ok clean in
       record { rows = ∥∥₁_map (knows (early clean) k.was_open).rows (λ it. (rows_written w entry it.0, k.made it.0 it.1, moves it.0 it.2)) }
-  knows_written (Err e) ok err clean live =
+
+  -- or it is not
+  pub knows_unmade : ((t : Tables) → IsAllKnownIn t before → IsAllKnownIn t after) → (HasCleanDisk new → IsKept old new) → Knows new after
+  knows_unmade stays err clean live =
       let k = err clean in
       record { rows = ∥∥₁_map (knows (early clean) (k.was_open live)).rows (λ it. (it.0, subst (IsImage it.0) (sym (k.now_is live)) it.1, stays it.0 it.2)) }
+
+  pub knows_written : ((t : Tables) → IsAllKnownIn t before → IsAllKnownIn t after) → ((t : Tables) → IsAllKnownIn t before → IsAllKnownIn (rows_written w entry t) after)
+      → {X : Type 0} (r : Result X Error) → (HasCleanDisk new → OnOk r (Ends (Moves (rows_written w entry)) old new)) → (HasCleanDisk new → OnErr r (IsKept old new)) → Knows new after
+  knows_written stays moves (Ok x) ok err = knows_made moves ok
+  knows_written stays moves (Err e) ok err = knows_unmade stays err
 
 -- ---- the beginning
 
@@ -44,6 +52,7 @@ none_known : (t : Tables) (known : Known) → KnowsNothing known → IsAllKnownI
 none_known t known none = record {
   records = λ apart. subst (All (IsKnownIn (fixed t))) (sym none.records) (All-nil (IsKnownIn (fixed t)));
   standing = λ apart. subst (λ o. IfSome o (IsStandingIn t)) (sym none.standing) tt;
+  counted = subst (All (AreCountsIn t)) (sym none.counted) (All-nil (AreCountsIn t));
 }
 
 has_none : (t : Tables) (db : Database) (known : Known) → KnowsNothing known → IsImage t db → HasKnown db known

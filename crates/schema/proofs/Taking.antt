@@ -76,9 +76,9 @@ module _ (P Q : Database → Database → Type 0) (old new : State) (turns : (b 
 
 -- a read, and then a commit
 module _ (P Q : Database → Database → Type 0) (old mid new : State) (kept : HasCleanDisk mid → IsKept old mid) (before : Survives old mid (λ _. ⊥))
-    (turns : HasCleanDisk mid → (b : Database) → P old.now b → Q old.now b) where
+    (turns : HasCleanDisk mid → IsTrue mid.is_open → (b : Database) → P old.now b → Q old.now b) where
   takes : HasCleanDisk mid → (b : Database) → IsTrue mid.is_open → P mid.now b → Q old.now b
-  takes clean b live it = turns clean b (subst (λ a. P a b) ((kept clean).now_is live) it)
+  takes clean b live it = turns clean live b (subst (λ a. P a b) ((kept clean).now_is live) it)
 
   pub ends_then : {X : Type 0} (r : Result X Error) → HasCleanDisk mid → OnOk r (Ends P mid new) → OnOk r (Ends Q old new)
   ends_then (Err e) clean k = tt
@@ -97,15 +97,15 @@ module _ (P Q : Database → Database → Type 0) (old mid new : State) (kept : 
 
 -- what a change needs is read, and then the change is committed
 module _ (reply : ReplyLaw) (law : ChangeLaw) (change : Change) (w : Writing) (entry : Entry) (old mid new : State) (kept : HasCleanDisk mid → IsKept old mid) (before : Survives old mid (λ _. ⊥))
-    (has : HasCleanDisk mid → IsWritingIn change w entry old.now) where
+    (has : HasCleanDisk mid → IsTrue mid.is_open → IsWritingIn change w entry old.now) where
   abbrev Written : Database → Database → Type 0
   Written = Moves (rows_written w entry)
 
   abbrev Taken : Database → Database → Type 0
   Taken = Takes (IsOwed change entry) (λ c. committed c change entry)
 
-  turns : HasCleanDisk mid → (b : Database) → Written old.now b → Taken old.now b
-  turns clean b = change_taken reply law change w entry old.now b (has clean)
+  turns : HasCleanDisk mid → IsTrue mid.is_open → (b : Database) → Written old.now b → Taken old.now b
+  turns clean live b = change_taken reply law change w entry old.now b (has clean live)
 
   pub change_ends : {X : Type 0} (r : Result X Error) → HasCleanDisk mid → OnOk r (Ends Written mid new) → OnOk r (Ends Taken old new)
   change_ends = ends_then Written Taken old mid new kept before turns

@@ -2,21 +2,37 @@
 ghost use Rattle.std.specs.Prelude.{◌≡◌, ◌<◌, ◌^◌, false, OnErr, OnOk};
 ghost use Rattle.sqlite.specs.Held.{state};
 ghost use Rattle.sqlite.specs.State.{HasCleanDisk, Survives};
-ghost use Rattle.job_facts.specs.Contents.{IsOwed, IsOwedRelease, committed, released};
+ghost use Rattle.job_facts.specs.Contents.{Entry as EntryValue, IsOwed, IsOwedRelease};
+ghost use Rattle.job_facts.specs.Contents.{committed, released};
 ghost use Rattle.sql_base.specs.Ends.{Ends, IsKept, IsLeft};
-ghost use Rattle.store_reads.specs.Known.{Knows};
+ghost use Rattle.change_writes.specs.Writable.{IsWritable};
+ghost use Rattle.store_reads.specs.Known.{IsAllKnownIn, Knows};
 ghost use Rattle.schema.specs.Takes.{Takes};
+ghost use Rattle.table_rows.specs.After.{rows_written};
 ghost use Rattle.table_rows.specs.Kept.{kept_reply};
+ghost use Rattle.table_rows.specs.Tables.{Tables};
 
-use change_writes::commit;
+use change_writes::{commit, counters_after};
 use job_facts::Change;
 use sqlite::{Alter, Connection, Error};
 use std::alloc::Global;
 use store_reads::{Known, writing_of};
 use table_rows::{Entry, Writing};
 
+// The counters that what was written leaves are known from then on.
+fn note_counters(known: &mut Known, writing: &Writing<'_>)
+    requires { IsWritable writing.now }
+    ensures { (t : Tables) (entry : EntryValue)
+        → IsAllKnownIn (rows_written writing.now entry t) known.old
+        → IsAllKnownIn (rows_written writing.now entry t) known.new }
+{
+    if let Some((batch, totals)) = counters_after(writing) {
+        known.count(batch, &totals);
+    }
+}
+
 /// Makes a change and keeps its reply, or does neither. What is known is forgotten where the change
-/// may touch it.
+/// may touch it, and the counters that it leaves are known from then on.
 pub(crate) fn keep<S: Alter>(
     conn: &mut Connection<S>,
     known: &mut Known,
@@ -45,7 +61,9 @@ pub(crate) fn keep<S: Alter>(
     match writing_of(conn, known, change) {
         Ok(writing) => {
             known.forget_for(&writing);
-            commit(conn, alloc, entry, &writing)
+            commit(conn, alloc, entry, &writing)?;
+            note_counters(known, &writing);
+            Ok(())
         }
         Err(error) => Err(error),
     }

@@ -7,7 +7,7 @@ use Rattle.std.proofs.lemmas.Bool.{and_from, and_parts, both_ways, cases_Bool, c
 use Rattle.std.proofs.lemmas.Bool.Decides.{nat_tests}
 use Rattle.std.proofs.lemmas.List.{get_or-map, length-map}
 use Rattle.std.proofs.lemmas.List.Elements.{All-cons, All-contains, All-contains_itself, All-filter, All-head, All-nil, All-tail, All-weaker, filter_passes}
-use Rattle.std.proofs.lemmas.List.Sorted.{Contains-permutation, IsPermutation-map, IsPermutation-sym, IsPermutation-trans}
+use Rattle.std.proofs.lemmas.List.Sorted.{All-permutation, Contains-permutation, IsPermutation-map, IsPermutation-sym, IsPermutation-trans}
 use Rattle.std.proofs.lemmas.Map.Keys.{IsDistinct-IsPermutation, IsDistinct-from_apart, apart_from_distinct}
 use Rattle.sqlite.specs.State.{HasCleanDisk, State}
 use Rattle.store_data.specs.declared.row.Product.{Product}
@@ -20,7 +20,7 @@ use Rattle.step_laws.proofs.BlankSums.{bytes_eq_either, named_once}
 use Rattle.step_laws.proofs.Permuted.{IsPermutation-filter}
 use Rattle.sql_base.proofs.Selecting.{map_map}
 use Rattle.table_rows.specs.Keys.{is_batch, is_batch_named, is_record_at, is_record_named, is_waiting_of}
-use Rattle.table_rows.specs.Tables.{HaveSameRows, PassesOnce, StoredBatch, StoredRecord, Tables}
+use Rattle.table_rows.specs.Tables.{HaveSameRows, PassesOnce, StoredBatch, StoredRecord, Tables, totals_of}
 use Rattle.table_rows.proofs.Found.{find_passes}
 use Rattle.image_laws.specs.Image.{image, stored_batches, stored_records}
 use Rattle.row_laws.proofs.Finding.{AllPairs-from_map, AllPairs-map, find-map}
@@ -29,11 +29,13 @@ use Rattle.row_reads.specs.CardDecoding.{grouping_at, place_of, record_at}
 use Rattle.row_reads.specs.Extremes.{IsLeastBy}
 use Rattle.sql_rows.specs.Image.{IsImage}
 use Rattle.sql_rows.proofs.OneImage.{one_image}
+use Rattle.store_reads.specs.declared.known.BatchCounts.{BatchCounts}
 use Rattle.store_reads.specs.declared.known.Known.{Known}
 use Rattle.store_reads.specs.declared.known.KnownRecord.{KnownRecord}
 use Rattle.store_reads.specs.declared.known.StandingRecord.{StandingRecord}
+use Rattle.store_reads.specs.Counted.{AreCountsIn}
 use Rattle.store_reads.specs.Fixed.{AreNamedApart, Fixed, FixedBatch, FixedRecord, fixed, fixed_batch, fixed_record, is_named, is_named_in}
-use Rattle.store_reads.specs.Known.{AreHeadsAt, IsAllKnownIn, IsKnownIn, IsStandingOf, Knows, IsStandingIn, known_heads, known_records, standing_of, standing_record}
+use Rattle.store_reads.specs.Known.{AreHeadsAt, IsAllKnownIn, IsKnownIn, IsStandingOf, Knows, IsStandingIn, known_counts, known_heads, known_records, standing_of, standing_record}
 use Rattle.store_reads.specs.declared.plans.SegmentHead.{SegmentHead}
 use Rattle.store_reads.specs.declared.segments.BatchProduct.{BatchProduct}
 use Rattle.store_reads.specs.Segments.{product_in, product_under}
@@ -87,6 +89,9 @@ module _ (t u : Tables) (same : HaveSameRows t u) where
   standing_moved None there = tt
   standing_moved (Some s) there = Contains-permutation _ _ _ (IsPermutation-map standing_of _ _ same.records) there
 
+  counted_moved : (counts : BatchCounts) → AreCountsIn t counts → AreCountsIn u counts
+  counted_moved counts has = All-permutation (λ (b : StoredBatch). b.id ≡ counts.batch → totals_of b ≡ counts.totals) t.batches u.batches same.batches has
+
 -- all that is known is so of whatever rows the database has
 pub all_known_in : (s : State) (known : Known) → Knows s known → HasCleanDisk s → IsTrue s.is_open → (t : Tables) → IsImage t s.now → ∥ IsAllKnownIn t known ∥₁
 all_known_in s known knows clean live t is =
@@ -96,6 +101,7 @@ all_known_in s known knows clean live t is =
     record {
       records = λ apart. All-weaker (IsKnownIn (fixed it.0)) (IsKnownIn (fixed t)) (known_moved it.0 t there) (known_records known) (it.2.records (names_moved t it.0 back apart));
       standing = λ apart. standing_moved it.0 t there (standing_record known) (it.2.standing (names_moved t it.0 back apart));
+      counted = All-weaker (AreCountsIn it.0) (AreCountsIn t) (counted_moved it.0 t there) (known_counts known) it.2.counted;
     })
 
 -- so is each record
@@ -190,7 +196,7 @@ in_map : {X Y : Type 0} (part : X → Y) (xs : List X) (x : X) (y : Y) → y ≡
 in_map part xs x y is there =
     (there.0, omega (arith, there.1, length-map xs part), get_or-map part xs there.0 x y there.1 ∙ ap part there.2 ∙ sym is)
 
-found_there : {X : Type 0} (p : X → Bool) (xs : List X) (x : X) → find p xs ≡ Some x → Contains xs x
+pub found_there : {X : Type 0} (p : X → Bool) (xs : List X) (x : X) → find p xs ≡ Some x → Contains xs x
 found_there p xs x is = find-All p (Contains xs) xs x (All-contains_itself xs) is
 
 two_steps : {X Y : Type 0} (f : X → Option Y) (o : Option X) (y : Y) → Some y ≡ option_and_then f o → (x : X) × (o ≡ Some x) × (Some y ≡ f x)

@@ -13,5 +13,6 @@ pub mod RecordLines
 pub mod BlankSums
 pub mod Fixing
 pub mod KnownRows
+pub mod Counted
 pub mod Knowing
 pub mod ByKnown

@@ -9,27 +9,27 @@ use Rattle.job_facts.specs.States.{lot_named, session_numbered}
 use Rattle.table_rows.specs.declared.writing.RecordPlace.{RecordPlace}
 use Rattle.table_rows.specs.Keys.{is_batch_named, is_lot_named, is_record_named}
 use Rattle.table_rows.specs.Tables.{StoredBatch, StoredLot, StoredRecord}
-use Rattle.row_reads.specs.declared.batches.BatchHead.{BatchHead}
 use Rattle.row_reads.specs.declared.lots.LotRow.{LotRow}
 use Rattle.row_reads.specs.declared.records.RecordAt.{RecordAt}
 use Rattle.row_reads.specs.CardDecoding.{record_at}
-use Rattle.row_reads.specs.RowValues.{head_of, lot_row_of}
+use Rattle.row_reads.specs.RowValues.{lot_row_of}
 use Rattle.row_laws.specs.RowValues.{place_of}
 use Rattle.image_laws.specs.WritingOf.{IsPlaceOf, IsPlaceOfSession}
 use Rattle.image_laws.specs.Image.{stored_batches, stored_lots, stored_records}
 use Rattle.step_laws.specs.Sums.{discarded_in}
-use Rattle.store_reads.specs.Heads.{place_at}
+use Rattle.store_reads.specs.declared.known.BatchCounts.{BatchCounts}
+use Rattle.store_reads.specs.Heads.{counts_of, place_at}
 use Rattle.store_reads.proofs.Found.{found_some}
 
 module _ (f : Facts) where
   pub record_placed : (b r : List ℕ) → ((row : StoredBatch) (x : StoredRecord) → find (is_batch_named b) (stored_batches f) ≡ Some row → find (is_record_named row.id r) (stored_records f) ≡ Some x → IsPlaceOf f b r (place_of row x))
-      → (h : BatchHead) → Some h ≡ option_map head_of (find (is_batch_named b) (stored_batches f)) → (y : RecordAt) → Some y ≡ option_map record_at (find (is_record_named h.id r) (stored_records f))
-      → IsPlaceOf f b r (place_at h y)
-  record_placed b r law h one y two =
-      let row = found_some head_of (find (is_batch_named b) (stored_batches f)) h one in
-      let x = found_some record_at (find (is_record_named h.id r) (stored_records f)) y two in
-      let x_at = subst (λ (k : BatchHead). find (is_record_named k.id r) (stored_records f) ≡ Some x.0) row.2 x.1 in
-      subst (λ (z : RecordAt). IsPlaceOf f b r (place_at h z)) (sym x.2) (subst (λ (k : BatchHead). IsPlaceOf f b r (place_at k (record_at x.0))) (sym row.2) (law row.0 x.0 row.1 x_at))
+      → (counts : BatchCounts) → Some counts ≡ option_map counts_of (find (is_batch_named b) (stored_batches f)) → (y : RecordAt) → Some y ≡ option_map record_at (find (is_record_named counts.batch r) (stored_records f))
+      → IsPlaceOf f b r (place_at counts y)
+  record_placed b r law counts one y two =
+      let row = found_some counts_of (find (is_batch_named b) (stored_batches f)) counts one in
+      let x = found_some record_at (find (is_record_named counts.batch r) (stored_records f)) y two in
+      let x_at = subst (λ (k : BatchCounts). find (is_record_named k.batch r) (stored_records f) ≡ Some x.0) row.2 x.1 in
+      subst (λ (z : RecordAt). IsPlaceOf f b r (place_at counts z)) (sym x.2) (subst (λ (k : BatchCounts). IsPlaceOf f b r (place_at k (record_at x.0))) (sym row.2) (law row.0 x.0 row.1 x_at))
 
   pub session_placed : (s : ℕ) (row : SessionRow) → Some row ≡ session_row_of f s → (p : RecordPlace) → IsPlaceOf f row.batch row.rec p → IsPlaceOfSession f s p
   session_placed s row is p placed =

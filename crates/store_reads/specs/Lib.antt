@@ -5,5 +5,6 @@ pub mod Segments
 pub mod Sessions
 pub mod Sums
 pub mod Fixed
+pub mod Counted
 pub mod Known
 pub mod Waiting

@@ -1,20 +1,18 @@
 //! What is written for a change.
-ghost use Rattle.std.specs.Prelude.{◌≡◌, false, IfOk};
+ghost use Rattle.std.specs.Prelude.{◌≡◌, ◌<◌, ◌^◌, false, IfOk, IfSome, find, option_map};
 ghost use Rattle.sqlite.specs.Held.{state};
-ghost use Rattle.sqlite.specs.State.{HasCleanDisk};
-ghost use Rattle.job_facts.specs.Contents.{AreSound, Contents};
 ghost use Rattle.job_facts.specs.Sound.{IsSoundChange};
 ghost use Rattle.job_facts.specs.declared.change.Change.TheVariants.{Discards};
-ghost use Rattle.image_laws.specs.Image.{image};
+ghost use Rattle.image_laws.specs.Image.{stored_batches};
 ghost use Rattle.image_laws.specs.WritingOf.{IsOfWord, IsPlaceOf, IsPlaceOfSession, IsWritingOf};
+ghost use Rattle.table_rows.specs.Keys.{is_batch_named};
 ghost use Rattle.table_rows.specs.declared.writing.Writing.TheVariants.{AddsBatch};
-ghost use Rattle.sql_rows.specs.Image.{IsImage};
 ghost use Rattle.row_reads.specs.Reads.{Looks};
-ghost use Rattle.store_reads.specs.Heads.{place_at};
+ghost use Rattle.store_reads.specs.Heads.{counts_at, counts_of, place_at};
 ghost use Rattle.store_reads.specs.Known.{Knows};
-ghost use Rattle.store_reads.specs.ReadsContents.{ReadsContents};
+ghost use Rattle.store_reads.specs.ReadsContents.{GivesContents, ReadsContents};
 
-use crate::known::Known;
+use crate::known::{BatchCounts, Known};
 use crate::sessions::session;
 use job_facts::{Change, NewBatch, NewWord, SessionState};
 use row_reads::{BatchHead, RecordAt, batch_head, record_named};
@@ -24,16 +22,49 @@ use table_rows::{RecordPlace, Writing};
 
 // ---- records
 
-fn place_at(head: &BatchHead, card: &RecordAt) -> RecordPlace
-    ensures { result ≡ place_at head.now card.now }
+fn place_at(counts: &BatchCounts, card: &RecordAt) -> RecordPlace
+    ensures { result ≡ place_at counts.now card.now }
 {
     RecordPlace {
-        batch: head.id,
+        batch: counts.batch,
         place: card.place,
         spoiled: card.spoiled,
         remakes: card.remakes,
-        totals: head.totals,
+        totals: counts.totals,
     }
+}
+
+// The counters of a batch that was read.
+fn counts_at(head: Option<BatchHead>) -> Option<BatchCounts>
+    ensures { result ≡ option_map counts_at head }
+{
+    head.map(|head| BatchCounts {
+        batch: head.id,
+        totals: head.totals,
+    })
+}
+
+// The counters of the batch of this name. Its row is not read where they are known.
+fn counts_of<S: Alter>(
+    conn: &mut Connection<S>,
+    known: &Known,
+    batch: &Name,
+) -> Result<Option<BatchCounts>, Error>
+    requires idle { conn.old.in_transaction ≡ false }
+    requires knows { Knows (state S.Store conn.old) known.now }
+    ensures value { GivesContents (state S.Store conn.old) (state S.Store conn.new) result
+        (λ c found. found ≡ option_map counts_of
+        (find (is_batch_named batch.now) (stored_batches c.facts))) }
+    ensures ranged { IfOk result (λ found. IfSome found (λ counts. counts.batch < 2 ^ 63)) }
+    ensures looks { Looks (state S.Store conn.old) (state S.Store conn.new) }
+{
+    row_laws::batches_by_name();
+    row_laws::records_by_name();
+    if let Some(counts) = known.counts(batch) {
+        return Ok(Some(counts));
+    }
+    let head = batch_head(conn, batch)?;
+    Ok(counts_at(head))
 }
 
 // Where this record of a batch stands. Its row is not read where it is known how it stands.
@@ -45,22 +76,22 @@ fn place_of<S: Alter>(
 ) -> Result<RecordPlace, Error>
     requires idle { conn.old.in_transaction ≡ false }
     requires knows { Knows (state S.Store conn.old) known.now }
-    ensures value { ReadsContents (state S.Store conn.old) (state S.Store conn.new) result
+    ensures value { GivesContents (state S.Store conn.old) (state S.Store conn.new) result
         (λ c place. IsPlaceOf c.facts batch.now rec.now place) }
     ensures looks { Looks (state S.Store conn.old) (state S.Store conn.new) }
 {
     row_laws::batches_by_name();
     row_laws::records_by_name();
-    let Some(head) = batch_head(conn, batch)? else {
+    let Some(counts) = counts_of(conn, known, batch)? else {
         return Err(Error::InvalidQuery);
     };
-    if let Some(card) = known.stands(head.id, rec) {
-        return Ok(place_at(&head, card));
+    if let Some(card) = known.stands(counts.batch, rec) {
+        return Ok(place_at(&counts, card));
     }
-    let Some(card) = record_named(conn, head.id, rec)? else {
+    let Some(card) = record_named(conn, counts.batch, rec)? else {
         return Err(Error::InvalidQuery);
     };
-    Ok(place_at(&head, &card))
+    Ok(place_at(&counts, &card))
 }
 
 // Where the record of a session stands.
@@ -71,7 +102,7 @@ fn place_of_session<S: Alter>(
 ) -> Result<RecordPlace, Error>
     requires idle { conn.old.in_transaction ≡ false }
     requires knows { Knows (state S.Store conn.old) known.now }
-    ensures value { ReadsContents (state S.Store conn.old) (state S.Store conn.new) result
+    ensures value { GivesContents (state S.Store conn.old) (state S.Store conn.new) result
         (λ c place. IsPlaceOfSession c.facts number place) }
     ensures looks { Looks (state S.Store conn.old) (state S.Store conn.new) }
 {
@@ -131,9 +162,8 @@ fn word_writing<'a, S: Alter>(
 ) -> Result<Writing<'a>, Error>
     requires idle { conn.old.in_transaction ≡ false }
     requires knows { Knows (state S.Store conn.old) known.now }
-    ensures value { HasCleanDisk (state S.Store conn.new) → IfOk result (λ w. (c : Contents)
-        → AreSound c → IsImage (image c) (state S.Store conn.old).now
-        → IsOfWord c.facts batch.now rec.now word stands w) }
+    ensures value { GivesContents (state S.Store conn.old) (state S.Store conn.new) result
+        (λ c w. IsOfWord c.facts batch.now rec.now word stands w) }
     ensures looks { Looks (state S.Store conn.old) (state S.Store conn.new) }
 {
     match stands {
@@ -158,9 +188,8 @@ pub fn writing_of<'a, S: Alter>(
 ) -> Result<Writing<'a>, Error>
     requires idle { conn.old.in_transaction ≡ false }
     requires knows { Knows (state S.Store conn.old) known.now }
-    ensures value { HasCleanDisk (state S.Store conn.new) → IfOk result (λ w. (c : Contents)
-        → AreSound c → IsImage (image c) (state S.Store conn.old).now
-        → IsSoundChange c.facts change.now → IsWritingOf c.facts change.now w) }
+    ensures value { GivesContents (state S.Store conn.old) (state S.Store conn.new) result
+        (λ c w. IsSoundChange c.facts change.now → IsWritingOf c.facts change.now w) }
     ensures looks { Looks (state S.Store conn.old) (state S.Store conn.new) }
 {
     match *change {

@@ -1,12 +1,15 @@
-//! What is known of the records that were read of late: what of their rows no change touches; and
-//! how one record stands, which need not be among them, up to the next change.
+//! What is known of the records that were read of late: what of their rows no change touches; how
+//! one record stands, which need not be among them, up to the next change; and the counters of
+//! batches, each up to its next change.
 ghost use Rattle.std.specs.Prelude.{◌≡◌, ◌<◌, ◌^◌, IfSome};
 ghost use Rattle.std.proofs.Props.{props};
 ghost use Rattle.store_data.specs.Sequence.{IsProduct};
 ghost use Rattle.row_reads.specs.CardDecoding.{IsRecordAt};
+ghost use Rattle.store_reads.specs.Counted.{leaves_counts};
 ghost use Rattle.store_reads.specs.Fixed.{leaves_fixed};
 
 use crate::plans::SegmentHead;
+use job_facts::BatchTotals;
 use row_reads::RecordAt;
 use std::alloc::Global;
 use store_data::{Name, Product};
@@ -37,15 +40,25 @@ pub struct StandingRecord {
     pub(crate) card: RecordAt,
 }
 
-/// The records that were read of late, the oldest first, and how the last of them stands.
+/// The counters of the batch with this id.
+#[derive(Clone, Copy)]
+pub struct BatchCounts {
+    pub(crate) batch: u64,
+    pub(crate) totals: BatchTotals,
+}
+
+/// The records that were read of late, the oldest first, how the last of them stands, and the
+/// counters that were written of late, the oldest first.
 #[derive(Drop)]
 pub struct Known {
     records: Vec<KnownRecord>,
     standing: Option<StandingRecord>,
+    counted: Vec<BatchCounts>,
     ghost standing_in_range: { IfSome standing (λ s. IsRecordAt s.card) } by { Prim.hlevel props },
 }
 
-/// How many records are kept at once. Each running machine works on one record.
+/// How many records are kept at once, and the counters of how many batches. Each running machine
+/// works on one record.
 const MOST: usize = 64;
 
 impl Known {
@@ -53,8 +66,10 @@ impl Known {
     ghost use Rattle.job_facts.specs.Contents.{Entry};
     ghost use Rattle.table_rows.specs.After.{rows_written};
     ghost use Rattle.table_rows.specs.Tables.{Tables};
-    ghost use Rattle.store_reads.specs.Known.{IsAllKnownIn, IsStandingOf, KnowsNothing};
-    ghost use Rattle.store_reads.specs.Known.{known_records, standing_record};
+    ghost use Rattle.store_reads.specs.Known.{AreCountsOf, IsAllKnownIn, IsStandingOf};
+    ghost use Rattle.store_reads.specs.Known.{KnowsNothing, known_counts, known_records};
+    ghost use Rattle.store_reads.specs.Known.{standing_record};
+    ghost use Rattle.store_reads.specs.declared.known.BatchCounts.{BatchCounts as BatchCountsValue};
     ghost use Rattle.store_reads.specs.declared.known.KnownRecord.{KnownRecord as KnownRecordValue};
 
     /// None.
@@ -64,6 +79,7 @@ impl Known {
         Known {
             records: Vec::new(alloc),
             standing: None,
+            counted: Vec::new(alloc),
         }
     }
 
@@ -119,12 +135,35 @@ impl Known {
         }
     }
 
+    // The counters of the batch with this id.
+    fn counts_at(&self, id: u64) -> Option<BatchCounts>
+        ensures known { IfSome result (λ counts. Contains (known_counts self.now) counts) }
+        ensures id { IfSome result (λ counts. counts.batch ≡ id) }
+    {
+        for counts in &self.counted {
+            if counts.batch == id {
+                return Some(*counts);
+            }
+        }
+        None
+    }
+
+    /// The counters of the batch of this name, of which a record is known.
+    pub(crate) fn counts(&self, batch: &Name) -> Option<BatchCounts>
+        ensures known { IfSome result (AreCountsOf self.now batch.now) }
+        ensures ranged { IfSome result (λ counts. counts.batch < 2 ^ 63) }
+    {
+        let record = self.of_batch(batch)?;
+        self.counts_at(record.id)
+    }
+
     /// Keeps a record, unless one of its name is kept. Of too many the oldest goes. Where there is
     /// no memory for it, it is not kept: it is read again.
     pub(crate) fn keep(&mut self, read: KnownRecord)
         ensures records { (k : KnownRecordValue) → Contains (known_records self.new) k
             → (k ≡ read) ⊎ Contains (known_records self.old) k }
         ensures standing { standing_record self.new ≡ standing_record self.old }
+        ensures counted { known_counts self.new ≡ known_counts self.old }
     {
         if self.named(&read.batch, &read.rec).is_some() {
             return;
@@ -140,21 +179,56 @@ impl Known {
         requires { IsRecordAt card.now }
         ensures records { known_records self.new ≡ known_records self.old }
         ensures standing { IsStandingOf self.new batch card.now.name card.now }
+        ensures counted { known_counts self.new ≡ known_counts self.old }
     {
         self.standing = Some(StandingRecord { batch, card: *card });
     }
 
-    /// Forgets how a record stands, and all where what is written adds a product or a batch, so
-    /// that what is left is so before it is written and after.
+    /// Keeps the counters of the batch with this id. Of too many the oldest go. Where there is no
+    /// memory for them, they are not kept: they are read again.
+    pub fn count(&mut self, batch: u64, totals: &BatchTotals)
+        ensures records { known_records self.new ≡ known_records self.old }
+        ensures standing { standing_record self.new ≡ standing_record self.old }
+        ensures counted { (s : BatchCountsValue) → Contains (known_counts self.new) s
+            → (s ≡ record { batch = batch; totals = totals.now })
+            ⊎ Contains (known_counts self.old) s }
+    {
+        if self.counted.len() >= MOST {
+            self.counted.remove(0);
+        }
+        let totals = *totals;
+        let _ = self.counted.push(BatchCounts { batch, totals });
+    }
+
+    /// Forgets how a record stands, the counters that what is written may change, and all records
+    /// where it adds a product or a batch, so that what is left is so before it is written and
+    /// after.
     pub fn forget_for(&mut self, writing: &Writing<'_>)
         ensures before { (t : Tables) → IsAllKnownIn t self.old → IsAllKnownIn t self.new }
         ensures after { (t : Tables) (entry : Entry) → IsAllKnownIn t self.old
             → IsAllKnownIn (rows_written writing.now entry t) self.new }
     {
         self.standing = None;
+        self.counted
+            .retain(|counts| leaves_counts(writing, counts.batch));
         if !leaves_fixed(writing) {
             self.records.clear();
         }
+    }
+}
+
+// Whether what is written changes no counters of the batch with this id, and adds no batch.
+fn leaves_counts(writing: &Writing<'_>, batch: u64) -> bool
+    ensures { result ≡ leaves_counts writing.now batch }
+{
+    match writing {
+        Writing::AddsBatch { .. } => false,
+        Writing::Opens { place, .. } => place.batch != batch,
+        Writing::AddsLastWord { place, .. } => place.batch != batch,
+        Writing::Ends { place, .. } => place.batch != batch,
+        Writing::Remakes { place } => place.batch != batch,
+        Writing::Withdraws { place, .. } => place.batch != batch,
+        _ => true,
     }
 }
 

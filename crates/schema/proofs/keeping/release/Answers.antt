@@ -32,4 +32,8 @@ returns-clause-knows g c =
     let w = writing.Releases kept.client c.args.upto in
     knows_written w kept (state g.S.Store c.args.conn.now) (state g.S.Store c.commit.new.conn) c.args.known.now c.args.known.now c.requires.knows
     (λ clean. omega (arith, clean, c.commit.ensures.crash.clean)) (λ t known. known)
-    (λ t known. record { records = known_after w kept t (known_records c.args.known.now) refl known.records; standing = known.standing }) c.commit.result c.commit.ensures.ok c.commit.ensures.err
+    (λ t known. record {
+      records = known_after w kept t (known_records c.args.known.now) refl known.records;
+      standing = known.standing;
+      counted = known.counted;
+    }) c.commit.result c.commit.ensures.ok c.commit.ensures.err

@@ -19,4 +19,4 @@ returns-clause-knows g c =
     let old = state g.S.Store c.args.conn.now in
     let new = state g.S.Store c.record_named.new.conn in
     knows_standing old new c.args.known.now c.note.new.self id c.in-Some.card c.record_named.ensures.looks
-    (rows_as old new _ _ (rw c.in-Some.is at c.in_ok-card.ensures.found) (λ t is apart. named_stands t id n c.in-Some.card (is (records_once t apart id n)))) c.requires.knows c.note.ensures.records c.note.ensures.standing.0
+    (rows_as old new _ _ (rw c.in-Some.is at c.in_ok-card.ensures.found) (λ t is apart. named_stands t id n c.in-Some.card (is (records_once t apart id n)))) c.requires.knows c.note.ensures.records c.note.ensures.standing.0 c.note.ensures.counted

@@ -26,4 +26,4 @@ returns-clause-knows g c =
     let old = state g.S.Store c.args.conn.now in
     let new = state g.S.Store c.first_waiting.new.conn in
     knows_standing old new c.args.known.now c.note.new.self c.args.id c.in-Some.card c.first_waiting.ensures.looks
-    (rows_as old new _ _ (rw c.in-Some.is at c.in_ok-card.ensures.found) (λ t least apart. waiting_stands t c.args.id c.in-Some.card least)) c.requires.knows c.note.ensures.records c.note.ensures.standing.0
+    (rows_as old new _ _ (rw c.in-Some.is at c.in_ok-card.ensures.found) (λ t least apart. waiting_stands t c.args.id c.in-Some.card least)) c.requires.knows c.note.ensures.records c.note.ensures.standing.0 c.note.ensures.counted

@@ -69,4 +69,4 @@ returns-clause-value g c =
 pub returns-clause-knows : goal.returns-clause-knows
 returns-clause-knows g c =
     knows_more (state g.S.Store c.args.conn.now) (state g.S.Store c.record_found.new.conn) (state g.S.Store c.segment_of-2.new.conn) c.args.known.now c.keep.new.self c.in-Some-3.card
-    c.record_found.ensures.looks c.segment_of-2.ensures.looks (rw c.in-Some-3.is at c.in_ok-card.ensures.known) c.requires.knows c.keep.ensures.records c.keep.ensures.standing
+    c.record_found.ensures.looks c.segment_of-2.ensures.looks (rw c.in-Some-3.is at c.in_ok-card.ensures.known) c.requires.knows c.keep.ensures.records c.keep.ensures.standing c.keep.ensures.counted
