@@ -1,12 +1,10 @@
 -- From an error's cause to that of the fault that it is reported as.
-use Rattle.std.proofs.Common.{◌≡◌, [], Err, IfErr, List, Ok, Result, arith, inl, subst, sym, ℕ}
+use Rattle.std.proofs.Common.{◌≡◌, [], Err, IfErr, List, Ok, Result, arith, inl, ℕ}
 use Rattle.std.specs.Result.{IsErrAnd}
 use Rattle.sqlite.specs.Held.{Held, state}
 use Rattle.sqlite.specs.State.{FailsToQuery, IsNotRun, State}
 use Rattle.sqlite.specs.Store.{Ghosts}
 use Rattle.sqlite.specs.declared.error.Error.{Error}
-use Rattle.sqlite.specs.declared.error.Error.TheVariants.{SqliteFailure}
-use Rattle.sqlite.specs.declared.error.ErrorCode.TheVariants.{DiskFull, OutOfMemory}
 use Rattle.job_facts.specs.declared.store.StoreFault.{StoreFault}
 use Rattle.sql_base.specs.Causes.{HadCause}
 use Rattle.sql_base.proofs.Causing.{queried_had}
@@ -16,14 +14,8 @@ use Rattle.adoption.specs.declared.faults.OpenFault.{OpenFault}
 use Rattle.adoption.specs.declared.faults.OpenFault.TheVariants.{Store}
 
 module _ {S : Type 0} (g : Ghosts S) (old new : State) where
-  by_error : (e : Error) → HadCause g old new e → IsCaused g old new (fault_for e)
-  by_error (SqliteFailure OutOfMemory) had = tt
-  by_error (SqliteFailure DiskFull) had = had
-  by_error (SqliteFailure _) had = tt
-  by_error _ had = tt
-
   pub caused : (e : Error) (fault : OpenFault) (own : StoreFault) → fault ≡ Store (fault_for e) → fault ≡ Store own → HadCause g old new e → IsCaused g old new own
-  caused e fault own is reported had = let same : own ≡ fault_for e = cc (is, reported) in subst (IsCaused g old new) (sym same) (by_error e had)
+  caused e fault own is reported had = let same : own ≡ fault_for e = cc (is, reported) in (e, same, had)
 
   -- what a `?` returns
   pub passed_fault : {X : Type 0} (r : Result X OpenFault) (e : Error) → IsErrAnd r (λ fault. fault ≡ Store (fault_for e)) → HadCause g old new e → IfErr r (λ fault. (own : StoreFault) → fault ≡ Store own → IsCaused g old new own)

@@ -1,5 +1,6 @@
 pub mod Judging
 pub mod Causes
+mod Answered
 mod Settled
 mod Taken
 mod Unread

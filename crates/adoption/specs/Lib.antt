@@ -3,5 +3,6 @@ pub mod Findings
 pub mod Comes
 pub mod Adopts
 pub mod Faults
+pub mod Taken
 pub mod Causes
 pub mod Unwritten

@@ -4,18 +4,34 @@ ghost use Rattle.sqlite.specs.Held.{state};
 ghost use Rattle.sqlite.specs.State.{HasCleanDisk, Survives};
 ghost use Rattle.job_facts.specs.declared.store.StoreFault.{StoreFault};
 ghost use Rattle.sql_base.specs.Ends.{IsKept, IsLeft};
-ghost use Rattle.sql_tables.specs.declared.versions.Version.{Version};
+ghost use Rattle.sql_tables.specs.declared.versions.Version.{Version as OfVersion};
 ghost use Rattle.table_reads.specs.Holding.{HoldsSoundRows, IsOfVersion};
 ghost use Rattle.adoption.specs.Adopts.{Adopts};
 ghost use Rattle.adoption.specs.Causes.{IsCaused};
 ghost use Rattle.adoption.specs.Comes.{Comes};
+ghost use Rattle.adoption.specs.Taken.{rows_taken};
 ghost use Rattle.adoption.specs.Unwritten.{LeavesOurs};
 
 use crate::auditing::{Found, audit};
 use crate::faults::OpenFault;
 use crate::settling::settle;
-use sqlite::{Alter, Connection};
+use sql_tables::Version;
+use sqlite::{Alter, Connection, Error};
 use std::alloc::Global;
+use table_reads::HeldRows;
+
+// The rows that are taken by what an audit found, or why none are: each of the two refusals stands
+// for just what was found, and a fault for the audit's error.
+fn rows_taken(audited: Result<Found, Error>) -> Result<(Version, HeldRows), OpenFault>
+    ensures { result ≡ rows_taken audited }
+{
+    match audited {
+        Ok(Found::Sound { version, rows }) => Ok((version, rows)),
+        Ok(Found::NotOurs) => Err(OpenFault::NotOurs),
+        Ok(Found::Unsound) => Err(OpenFault::Damaged),
+        Err(error) => Err(OpenFault::from(error)),
+    }
+}
 
 /// Takes a database whose tables, of any version, hold the rows of sound contents: they then stand
 /// in our own tables. Any other is refused, and stays as it is. Where our own tables stand as they
@@ -27,11 +43,11 @@ pub fn adopt<S: Alter>(alloc: Global, conn: &mut Connection<S>) -> Result<(), Op
         (Comes Adopts (state S.Store conn.old) (state S.Store conn.new)) }
     ensures not_ours { HasCleanDisk (state S.Store conn.new) → IfErr result
         (λ e. e ≡ OpenFault.NotOurs
-        → (v : Version) → ¬ IsOfVersion v (state S.Store conn.old).now) }
+        → (v : OfVersion) → ¬ IsOfVersion v (state S.Store conn.old).now) }
     ensures damaged { HasCleanDisk (state S.Store conn.new) → IfErr result
         (λ e. e ≡ OpenFault.Damaged
-        → ((v : Version) × IsOfVersion v (state S.Store conn.old).now)
-        × ((v : Version) → ¬ HoldsSoundRows v (state S.Store conn.old).now)) }
+        → ((v : OfVersion) × IsOfVersion v (state S.Store conn.old).now)
+        × ((v : OfVersion) → ¬ HoldsSoundRows v (state S.Store conn.old).now)) }
     ensures kept { HasCleanDisk (state S.Store conn.new)
         → OnErr result (IsKept (state S.Store conn.old) (state S.Store conn.new)) }
     ensures unchanged { LeavesOurs (state S.Store conn.old) (state S.Store conn.new) }
@@ -43,9 +59,6 @@ pub fn adopt<S: Alter>(alloc: Global, conn: &mut Connection<S>) -> Result<(), Op
         → IsCaused S.Store (state S.Store conn.old) (state S.Store conn.new) own) }
 {
     table_reads::laws::rows_are_held_in_any_order();
-    match audit(alloc, conn)? {
-        Found::NotOurs => Err(OpenFault::NotOurs),
-        Found::Unsound => Err(OpenFault::Damaged),
-        Found::Sound { version, rows } => Ok(settle(alloc, conn, version, rows)?),
-    }
+    let (version, rows) = rows_taken(audit(alloc, conn))?;
+    Ok(settle(alloc, conn, version, rows)?)
 }

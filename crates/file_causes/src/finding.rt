@@ -1,8 +1,8 @@
 //! Why a database that is opened is refused.
-ghost use Rattle.std.specs.Prelude.{◌≡◌, false, IfOk, IfSome, MatchOption};
-ghost use Rattle.std.specs.Prelude.{option_map};
+ghost use Rattle.std.specs.Prelude.{◌≡◌, false, IfErr, IfOk, IfSome, MatchOption, option_map};
 ghost use Rattle.sqlite.specs.Held.{state};
-ghost use Rattle.sqlite.specs.State.{HasCleanDisk, Survives};
+ghost use Rattle.sqlite.specs.State.{HasCleanDisk, Survives, is_disk_error};
+ghost use Rattle.sql_base.specs.Causes.{HadCause};
 ghost use Rattle.sql_base.specs.Ends.{IsKept};
 ghost use Rattle.sql_tables.specs.Alike.{HasJust};
 ghost use Rattle.sql_tables.specs.Versions.{schema_of};
@@ -22,11 +22,12 @@ use std::alloc::Global;
 use table_reads::{read_all, says};
 use table_rows::Tables;
 
-// How the tables differ from those of the nearest version.
+// How the tables differ from those of the nearest version. No error is one of the disk.
 fn nearest_difference<S: Alter>(alloc: Global, conn: &Connection<S>) -> Result<Difference, Error>
     requires { (v : OfVersion) → ¬ HasJust (state S.Store conn.now).now.schema (schema_of v) }
-    ensures { IfOk result (Differs (schema_of (nearest (state S.Store conn.now).now.schema))
+    ensures value { IfOk result (Differs (schema_of (nearest (state S.Store conn.now).now.schema))
         (state S.Store conn.now).now.schema) }
+    ensures cause { IfErr result (λ e. is_disk_error e ≡ false) }
 {
     let schema = conn.schema();
     let ours = tables_of(alloc, nearest(schema))?;
@@ -51,6 +52,8 @@ fn standing_of<S: Alter>(alloc: Global, conn: &mut Connection<S>) -> Result<Stan
         → IsKept (state S.Store conn.old) (state S.Store conn.new) }
     ensures idle { conn.new.in_transaction ≡ false }
     ensures survives { Survives (state S.Store conn.old) (state S.Store conn.new) (λ _. ⊥) }
+    ensures cause { HasCleanDisk (state S.Store conn.new) → IfErr result
+        (HadCause S.Store (state S.Store conn.old) (state S.Store conn.new)) }
 {
     let Some(version) = version_in(alloc, conn)? else {
         let difference = nearest_difference(alloc, conn)?;
@@ -81,6 +84,8 @@ pub fn find_difference<S: Alter>(
         → IsKept (state S.Store conn.old) (state S.Store conn.new) }
     ensures idle { conn.new.in_transaction ≡ false }
     ensures survives { Survives (state S.Store conn.old) (state S.Store conn.new) (λ _. ⊥) }
+    ensures cause { HasCleanDisk (state S.Store conn.new) → IfErr result
+        (HadCause S.Store (state S.Store conn.old) (state S.Store conn.new)) }
 {
     match standing_of(alloc, conn)? {
         Standing::Ours { version: _ } => Ok(None),
@@ -94,9 +99,10 @@ fn damage_of(failing: Option<Rule>) -> Option<Damage>
     failing.map(|rule| Damage::Broken { rule })
 }
 
-// The first rule that rows break.
+// The first rule that rows break. No error is one of the disk.
 fn broken(alloc: Global, mut tables: Tables) -> Result<Option<Damage>, Error>
-    ensures { IfOk result (Judges tables) }
+    ensures value { IfOk result (Judges tables) }
+    ensures cause { IfErr result (λ e. is_disk_error e ≡ false) }
 {
     let failing = first_failing(alloc, &mut tables)?;
     Ok(damage_of(failing))
@@ -117,6 +123,8 @@ pub fn find_damage<S: Alter>(
         → IsKept (state S.Store conn.old) (state S.Store conn.new) }
     ensures idle { conn.new.in_transaction ≡ false }
     ensures survives { Survives (state S.Store conn.old) (state S.Store conn.new) (λ _. ⊥) }
+    ensures cause { HasCleanDisk (state S.Store conn.new) → IfErr result
+        (HadCause S.Store (state S.Store conn.old) (state S.Store conn.new)) }
 {
     let version = match standing_of(alloc, conn)? {
         Standing::Ours { version } => version,
