@@ -1,13 +1,16 @@
 //! The file at a path.
-ghost use Rattle.std.specs.Prelude.{IfOk};
+ghost use Rattle.std.specs.Prelude.{IfOk, IfSome, IsOk, IsSome};
 ghost use Rattle.book_file.specs.Found.{HasVerdict};
+ghost use Rattle.book_file.specs.Left.{HoldsStill, IsLeft};
 
 use crate::book::Book;
+use crate::guarded::Guarded;
+use crate::opening::open_guarded;
 use crate::reading::read_book;
 use file_causes::Difference;
 use over_tables::{Cause, FileFault};
-use sqlite::{Connection, Error, ErrorCode, FileStore};
-use sqlite_disk::{Disk, Start};
+use sqlite::{Connection, Error, ErrorCode, FileFrom, FileStore};
+use sqlite_disk::{self, Disk, Start};
 use std::alloc::AllocGlobal;
 use std::fs::{self, Files};
 use store_files::{Place, place_of, unopened};
@@ -15,27 +18,39 @@ use store_files::{Place, place_of, unopened};
 /// The most bytes of a log that has nothing for its file: a clean end leaves so many.
 const EMPTY_LOG: u64 = 41;
 
-/// Reads and audits the file at a path, and closes it as it is: nothing is copied from its log.
-/// `start` stands for what the two files held before. Errors: why the file is not read.
-pub fn book_in<S: Start>(rt: &HostRuntime, path: &str, start: S) -> Result<Book, FileFault>
-    ensures { IfOk result (λ book. HasVerdict book.tables book.failing) }
+/// What was read of a file or why it was not, and its two files, where they were opened.
+pub type BookWithFiles<S> = (
+    Result<Book, FileFault>,
+    Option<sqlite_disk::Files<FileFrom<S>>>,
+);
+
+/// Reads and audits the file at a path, and hands its two files back, where they were opened.
+/// Nothing is written to the database file, and nothing is copied from its log. `start` stands for
+/// what the two held before. Errors: why the file is not read.
+pub fn book_in<S: Start>(rt: &HostRuntime, path: &str, start: S) -> BookWithFiles<S>
+    ensures verdict { IfOk result.0 (λ book. HasVerdict book.tables book.failing) }
+    ensures given { IsOk result.0 → IsSome result.1 }
+    ensures left { IfSome result.1 (λ files. HoldsStill ⟦<FileFrom<S> as Disk>⟧ S.Start.db files.db) }
 {
     match place_of(rt, path) {
-        Place::File { is_sqlite: _ } if is_blank(rt, path) => {
-            let difference = Difference::Empty;
-            let cause = Cause::Tables { difference };
-            Err(FileFault::NotOurs { cause })
-        }
+        Place::File { is_sqlite: _ } if is_blank(rt, path) => (Err(empty()), None),
         Place::File { is_sqlite: _ } => book_at(rt, path, start),
         Place::NoFile => {
             let cause = Cause::NoFile;
-            Err(FileFault::NotOurs { cause })
+            (Err(FileFault::NotOurs { cause }), None)
         }
         place => {
             let refused = Error::SqliteFailure(ErrorCode::CannotOpen);
-            Err(unopened(refused, place))
+            (Err(unopened(refused, place)), None)
         }
     }
+}
+
+// A file with no tables isn't ours.
+fn empty() -> FileFault {
+    let difference = Difference::Empty;
+    let cause = Cause::Tables { difference };
+    FileFault::NotOurs { cause }
 }
 
 // Whether a file and its log have nothing: SQLite would begin a database in them. The log stands
@@ -67,22 +82,42 @@ fn bytes_in<R: Files>(files: &R, path: &str) -> u64 {
 }
 
 // Reads and audits the file at a path that has one.
-fn book_at<S: Start>(rt: &HostRuntime, path: &str, start: S) -> Result<Book, FileFault>
-    ensures { IfOk result (λ book. HasVerdict book.tables book.failing) }
+fn book_at<S: Start>(rt: &HostRuntime, path: &str, start: S) -> BookWithFiles<S>
+    ensures verdict { IfOk result.0 (λ book. HasVerdict book.tables book.failing) }
+    ensures given { IsOk result.0 → IsSome result.1 }
+    ensures left { IfSome result.1 (λ files. HoldsStill ⟦<FileFrom<S> as Disk>⟧ S.Start.db files.db) }
 {
-    let mut conn = match Connection::open_from(rt, path, false, start) {
-        Ok(conn) => conn,
-        Err((error, left)) => {
-            drop(left);
-            return Err(unopened(error, place_of(rt, path)));
+    match open_guarded(rt, path, start) {
+        Ok(mut conn) => {
+            let read = read_book(rt.alloc(), &mut conn);
+            with_files(read, leave(conn))
         }
-    };
-    let read = read_book(rt.alloc(), &mut conn);
-    leave(conn);
-    read
+        Err((_, Some(files))) if files.db.was_to_be_written() => with_files(Err(empty()), files),
+        Err((error, Some(files))) => with_files(Err(unopened(error, place_of(rt, path))), files),
+        Err((error, None)) => (Err(unopened(error, place_of(rt, path))), None),
+    }
+}
+
+// What was read, with the files.
+fn with_files<D: Disk + Drop, S: Start>(
+    read: Result<Book, FileFault>,
+    files: sqlite_disk::Files<Guarded<D, S>>,
+) -> (Result<Book, FileFault>, Option<sqlite_disk::Files<D>>)
+    requires { IfOk read (λ book. HasVerdict book.tables book.failing) }
+    ensures verdict { IfOk result.0 (λ book. HasVerdict book.tables book.failing) }
+    ensures given { IsOk result.0 → IsSome result.1 }
+    ensures left { IfSome result.1 (λ files. HoldsStill D.Disk S.Start.db files.db) }
+{
+    let log = files.log.into_file();
+    match files.db.into_database() {
+        Some(db) => (read, Some(sqlite_disk::Files { log, db })),
+        None => (Err(FileFault::Storage), None),
+    }
 }
 
 // Closes a file as it is.
-fn leave<D: Disk + Drop>(conn: Connection<FileStore<D>>) {
-    drop(conn.into_store().close());
+fn leave<D: Disk + Drop>(conn: Connection<FileStore<D>>) -> sqlite_disk::Files<D>
+    ensures { IsLeft conn result }
+{
+    conn.into_store().close()
 }

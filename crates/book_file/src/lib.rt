@@ -4,6 +4,8 @@
 mod book;
 mod file;
 mod finding;
+mod guarded;
+mod opening;
 mod reading;
 
 pub use book::Book;

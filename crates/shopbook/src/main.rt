@@ -42,7 +42,9 @@ fn asked(rt: &HostRuntime) -> Result<BookWords, WordsFault> {
 // Reads the file, and prints it.
 fn obey(rt: &HostRuntime, words: &BookWords) -> End {
     note_wait(rt, words.db.as_str());
-    match book_in(rt, words.db.as_str(), Unknown) {
+    let (read, files) = book_in(rt, words.db.as_str(), Unknown);
+    drop(files);
+    match read {
         Ok(book) => {
             note_damage(rt, words, &book);
             print_answer(rt.alloc(), words, &book, &mut io::writer(rt))

@@ -1,0 +1,59 @@
+//! A database opened over files of which the database file is never written.
+ghost use Rattle.std.specs.Prelude.{◌≡◌, false, IfOk, IsTrue};
+
+use crate::guarded::Guarded;
+use sqlite::{Connection, Error, ErrorCode, FileFrom, FileStore, Options};
+use sqlite_disk::{Disk, Files, Start};
+use sqlite_std_file::OpenError;
+use std::hash::{BuildHasher, RandomState};
+use std::io::ErrorKind;
+
+/// A file that was opened at a path, guarded.
+pub(crate) type GuardedFile<S> = Guarded<FileFrom<S>, S>;
+
+const NO_MEMORY: Error = Error::SqliteFailure(ErrorCode::OutOfMemory);
+
+const CANNOT_OPEN: Error = Error::SqliteFailure(ErrorCode::CannotOpen);
+
+/// Opens the database at a path. An error comes with its files, once they were opened.
+pub(crate) fn open_guarded<S: Start>(
+    rt: &HostRuntime,
+    path: &str,
+    start: S,
+) -> Result<Connection<FileStore<GuardedFile<S>>>, (Error, Option<Files<GuardedFile<S>>>)>
+    ensures { IfOk result (λ conn. conn.in_transaction ≡ false) }
+{
+    let files = match guarded_files(rt, path, start) {
+        Ok(files) => files,
+        Err(error) => return Err((error, None)),
+    };
+    let Ok(seeds) = RandomState::new(rt) else {
+        return Err((CANNOT_OPEN, Some(files)));
+    };
+    let options = Options::new(seeds.hash_one(&0u8));
+    match Connection::open_files(rt.alloc(), files, options) {
+        Ok(conn) => Ok(conn),
+        Err((error, left)) => Err((error, Some(left.into_files()))),
+    }
+}
+
+// The two files at a path. Errors: those that `Connection::open_from` has.
+fn guarded_files<S: Start>(
+    rt: &HostRuntime,
+    path: &str,
+    start: S,
+) -> Result<Files<GuardedFile<S>>, Error>
+    ensures log { IfOk result (λ files. IsTrue (⟦<GuardedFile<S> as Disk>⟧.is_usable files.log)) }
+    ensures db { IfOk result (λ files. IsTrue (⟦<GuardedFile<S> as Disk>⟧.is_usable files.db)) }
+{
+    match sqlite_std_file::open(rt, path, start) {
+        Ok(files) => Ok(Files {
+            log: Guarded::new(files.log, true),
+            db: Guarded::new(files.db, false),
+        }),
+        Err(OpenError::OutOfMemory) => Err(NO_MEMORY),
+        Err(OpenError::Busy) => Err(Error::SqliteFailure(ErrorCode::DatabaseBusy)),
+        Err(OpenError::Io(error)) if error.kind() == ErrorKind::OutOfMemory => Err(NO_MEMORY),
+        Err(_) => Err(CANNOT_OPEN),
+    }
+}
