@@ -5,12 +5,17 @@ use crate::refused::tables;
 use crate::stops::adopted;
 use crate::stories::{MADE_AGAIN, SET_UP};
 use crate::versions::{all_rows, send_all};
+use book_answers::print_answer;
+use book_arguments::{Ask, BookWords};
+use book_file::read_book;
 use over_tables::{FileFault, Wanted, store_over};
 use schema::SqlStore;
 use sqlite::{Alter, Connection};
 use std::alloc::{AllocError, Global};
+use std::io;
 use std::process::Abort;
 use std::test::Fail;
+use subcommands::End;
 
 // What is changed, the statements that change it, and why the database is refused then: the
 // refusal, its cause, and the name of what differs.
@@ -161,6 +166,50 @@ const DAMAGED: [Damage; 18] = [
     ),
 ];
 
+// A row that has a value that no row of ours has, in each table whose own checks allow that.
+const UNREADABLE: [Damage; 8] = [
+    Damage(
+        "a lot's first serial below 0",
+        &["UPDATE lot SET low_serial = -1 WHERE name = 'L1'"],
+        "82 unreadable-row",
+    ),
+    Damage(
+        "a batch's counter below 0",
+        &["UPDATE batch SET waiting = -1 WHERE id = 1"],
+        "82 unreadable-row",
+    ),
+    Damage(
+        "a record's counter below 0",
+        &["UPDATE record SET spoiled = -1 WHERE batch = 1"],
+        "82 unreadable-row",
+    ),
+    Damage(
+        "a grouping's line below 0",
+        &["UPDATE grouping2 SET line = -1 WHERE batch = 1"],
+        "82 unreadable-row",
+    ),
+    Damage(
+        "a session's words below 0",
+        &["UPDATE session SET words = -1 WHERE id = 1"],
+        "82 unreadable-row",
+    ),
+    Damage(
+        "a word's place below 0",
+        &["UPDATE word SET place = -1 WHERE session = 1 AND place = 1"],
+        "82 unreadable-row",
+    ),
+    Damage(
+        "a blank's serial below 0",
+        &["INSERT INTO blank (serial, lot, kind) VALUES (-1, 'L1', 1)"],
+        "82 unreadable-row",
+    ),
+    Damage(
+        "a remake's turn below 0",
+        &["UPDATE remake SET turn = -1 WHERE batch = 1"],
+        "82 unreadable-row",
+    ),
+];
+
 // Two machines that have a card each, and a batch whose only record failed.
 const FURTHER: [Exchange; 7] = [
     accepted!("/c/office/6", lot!("L2", "P1", 2000, 5), made!("lot", "L2")),
@@ -213,7 +262,35 @@ fn text_of(alloc: Global, fault: &FileFault) -> Result<Vec<u8>, AllocError> {
     Ok(bytes)
 }
 
-// A database that has this damage is refused, and its rows and its schema stay.
+// What the shop's book says of a database, in the same words; nothing where it ends as that of a
+// sound one.
+fn book_text<S: Alter>(alloc: Global, conn: &mut Connection<S>) -> Result<Vec<u8>, Fail> {
+    if !conn.is_autocommit() {
+        return Err(Fail::new("a transaction is open"));
+    }
+    let book = match read_book(alloc, conn) {
+        Ok(book) => book,
+        Err(fault) => return Ok(text_of(alloc, &fault)?),
+    };
+    let words = BookWords {
+        ask: Ask::Check,
+        db: String::new(alloc),
+        json: false,
+    };
+    match (
+        print_answer(alloc, &words, &book, &mut io::sink()),
+        book.failing,
+    ) {
+        (End::Damaged, Some(rule)) => {
+            let cause = file_causes::Damage::Broken { rule };
+            Ok(text_of(alloc, &FileFault::Damaged { cause })?)
+        }
+        _ => Ok(Vec::new(alloc)),
+    }
+}
+
+// A database that has this damage is refused, and its rows and its schema stay. The shop's book
+// says the same of it.
 fn check_refused<S: Alter + Drop>(
     rt: &impl Abort,
     alloc: Global,
@@ -225,6 +302,8 @@ fn check_refused<S: Alter + Drop>(
         assert_eq!(rt; conn.execute(text, &[]).err(), None, "{name}");
     }
     let rows = all_rows(alloc, &mut conn)?;
+    let said = book_text(alloc, &mut conn)?;
+    assert_eq!(rt; said.as_slice(), wanted.as_bytes(), "{name}");
     if !conn.is_autocommit() {
         return Err(Fail::new("a transaction is open"));
     }
@@ -281,4 +360,9 @@ fn other_tables_are_not_ours(rt: HostRuntime) -> Result<(), Fail> {
 #[test]
 fn other_rows_are_damage(rt: HostRuntime) -> Result<(), Fail> {
     check_all(&rt, rt.alloc(), &DAMAGED)
+}
+
+#[test]
+fn unreadable_rows_are_damage(rt: HostRuntime) -> Result<(), Fail> {
+    check_all(&rt, rt.alloc(), &UNREADABLE)
 }

@@ -19,7 +19,9 @@ mod faults;
 #[cfg(test)]
 mod refused;
 
-// A store over files: stops, earlier versions, and files that are refused.
+// A store over files: stops, earlier versions, and files that are refused; and their book.
+#[cfg(test)]
+mod books;
 #[cfg(test)]
 mod carried;
 #[cfg(test)]

@@ -79,6 +79,40 @@ pub(crate) const MADE_AGAIN: Story = Story {
     blanks: [1, 3, 1, 0, 1, 0],
 };
 
+/// The greatest numbers: a lot's last serials, a request's number, a mark, a rank and a word; and a
+/// second batch.
+pub(crate) const GREATEST: [Exchange; 9] = [
+    accepted!("/c/office/1", product!("P1", 255), made!("product", "P1")),
+    accepted!(
+        "/c/office/2",
+        lot!("L1", "P1", 999999999999000000, 1000000),
+        made!("lot", "L1")
+    ),
+    accepted!(
+        "/c/office/3/batch/B1/P1",
+        "record,aid,rank,enc,tol,dgi\nR1,F00000000101,999,0,0,0101027000\n",
+        imported!("B1", 1)
+    ),
+    accepted!(
+        "/c/m1/999999999999999999",
+        open!("B1", 999999999999999999),
+        opened!("B1", 999999999999999999, "R1", 1)
+    ),
+    accepted!("/c/m1/1", answer!(1, 0, "FFFF"), ended!("spoiled", 1)),
+    accepted!("/c/office/4", REMAKE, WAITING),
+    accepted!(
+        "/c/office/5",
+        r#"{"do":"discard","blank":999999999999000000}"#,
+        r#"{"blank":999999999999000000,"result":"discarded"}"#
+    ),
+    accepted!("/c/office/6/batch/B2/P1", ONE_ROW, imported!("B2", 1)),
+    accepted!(
+        "/c/other/999999999999999999",
+        r#"{"do":"release","upto":999999999999999998}"#,
+        r#"{"mark":999999999999999998,"result":"released"}"#
+    ),
+];
+
 /// A batch whose card was spoiled, closed with its record withdrawn.
 pub(crate) const CLOSING: Story = Story {
     stock: &SET_UP,

@@ -8,7 +8,7 @@ use crate::disks::{Ended, Left, Stop, close, nothing, open};
 use crate::exchanges::{Exchange, arrival, at_last, check_reply, reply_to};
 use crate::refused::tables;
 use crate::stops::{MANY_CALLS, NO_STOP, adopted, created, put_rows, rows_of};
-use crate::stories::{LAST_DISCARDED, MADE_AGAIN, RELEASE, SET_UP};
+use crate::stories::{GREATEST, LAST_DISCARDED, MADE_AGAIN, RELEASE, SET_UP};
 use job_facts::{JobStore, StoreFault};
 use schema::{OpenFault, SqlStore};
 use sqlite::{Alter, Connection, Error};
@@ -69,7 +69,7 @@ pub(crate) const TWO: Version = Version {
 };
 
 // Our own.
-const THREE: Version = Version {
+pub(crate) const THREE: Version = Version {
     asked: &[RELEASE],
     texts: &[],
 };
@@ -138,6 +138,15 @@ pub(crate) fn turned<S: Alter + Drop>(
     send_all(rt, alloc, &mut store, &SET_UP)?;
     send_all(rt, alloc, &mut store, version.asked)?;
     send_all(rt, alloc, &mut store, MADE_AGAIN.exchanges)?;
+    turned_over(alloc, version, store)
+}
+
+// Tables of a version, from a store. Answers their rows in our own tables too.
+fn turned_over<S: Alter + Drop>(
+    alloc: Global,
+    version: &Version,
+    store: SqlStore<S>,
+) -> Result<(String, Connection<S>), Fail> {
     let mut conn = store.close();
     let rows = at_last!(all_rows(alloc, &mut conn))?;
     for text in version.texts {
@@ -282,7 +291,17 @@ fn check_memory<S: Alter + Drop>(
     version: &Version,
     store: SqlStore<S>,
 ) -> Result<(), Fail> {
-    let (rows, mut conn) = turned(rt, alloc, version, store)?;
+    let (rows, conn) = turned(rt, alloc, version, store)?;
+    check_adopted(rt, alloc, rows.as_str(), conn)
+}
+
+// A database is adopted, and has these rows then.
+fn check_adopted<S: Alter + Drop>(
+    rt: &impl Abort,
+    alloc: Global,
+    rows: &str,
+    mut conn: Connection<S>,
+) -> Result<(), Fail> {
     let before = at_last!(all_rows(alloc, &mut conn))?;
     if !conn.is_autocommit() {
         return Err(Fail::new("a transaction is open"));
@@ -300,7 +319,7 @@ fn check_memory<S: Alter + Drop>(
     };
     let mut conn = store.close();
     let found = at_last!(all_rows(alloc, &mut conn))?;
-    at_last!(check_same(rt, alloc, found.as_str(), rows.as_str()))?;
+    at_last!(check_same(rt, alloc, found.as_str(), rows))?;
     Ok(())
 }
 
@@ -327,6 +346,14 @@ fn files_of_our_own_tables_stay_and_others_do_not(rt: HostRuntime) -> Result<(),
 fn tables_of_version_one(rt: HostRuntime) -> Result<(), Fail> {
     let store = tables(rt.alloc())?;
     check_memory(&rt, rt.alloc(), &LAST_CHARGED, store)
+}
+
+#[test]
+fn tables_of_the_greatest_numbers(rt: HostRuntime) -> Result<(), Fail> {
+    let mut store = tables(rt.alloc())?;
+    send_all(&rt, rt.alloc(), &mut store, &GREATEST)?;
+    let (rows, conn) = turned_over(rt.alloc(), &TWO, store)?;
+    check_adopted(&rt, rt.alloc(), rows.as_str(), conn)
 }
 
 #[test]

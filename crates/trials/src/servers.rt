@@ -10,7 +10,7 @@ use server::{
     serve_and_report,
 };
 use std::alloc::{AllocError, Global};
-use std::io::Write;
+use std::io::{self, ErrorKind, Write};
 use std::process::Abort;
 use std::test::Fail;
 use wire::Pieces;
@@ -398,6 +398,54 @@ fn check_event_room(rt: &impl Abort, alloc: Global, room: usize) -> Result<(), F
     let events = A_PRODUCT.get(..room).unwrap_or(A_PRODUCT);
     let lines = b"listening 127.0.0.1:8807\nserved 1\n";
     assert_ends!(rt; cut_lines(alloc, 512, room), Ok(()), lines, events);
+    Ok(())
+}
+
+// Takes what another does, and can be flushed so often.
+#[derive(Drop)]
+struct Flushing {
+    inner: Limited,
+    flushes: u32,
+}
+
+impl Write for Flushing {
+    fn write(&mut self, buf: &[u8]) -> io::Result<usize> {
+        self.inner.write(buf)
+    }
+
+    fn flush(&mut self) -> io::Result<()> {
+        match self.flushes.checked_sub(1) {
+            Some(left) => {
+                self.flushes = left;
+                Ok(())
+            }
+            None => Err(io::Error::from(ErrorKind::BrokenPipe)),
+        }
+    }
+}
+
+// What a server of a product writes that can flush its lines so often.
+fn flushed_lines(alloc: Global, flushes: u32) -> Result<Ended, AllocError> {
+    let inner = Limited::new(512, 512);
+    let mut writer = Flushing { inner, flushes };
+    let mut events = EventLog::new(Level::All, Vec::new(alloc));
+    let outcome = serve_cut(alloc, &[PRODUCT], 512, &mut writer, &mut events);
+    Ok(Ended {
+        outcome,
+        lines: writer.inner.taken().to_vec(alloc)?,
+        events: events.writer,
+    })
+}
+
+// Each of the two lines is flushed as it is written, and a flush that fails is a failed write.
+#[test]
+fn a_line_that_is_not_flushed_ends_the_server(rt: HostRuntime) -> Result<(), Fail> {
+    let stop = Err(ServeStop::Write);
+    let events = b"made db=\"shop.db\"\nclosed connections=0\n";
+    assert_ends!(rt; flushed_lines(rt.alloc(), 0), stop, LISTENING, events);
+    let lines = b"listening 127.0.0.1:8807\nserved 1\n";
+    assert_ends!(rt; flushed_lines(rt.alloc(), 1), stop, lines, A_PRODUCT);
+    assert_ends!(rt; flushed_lines(rt.alloc(), 2), Ok(()), lines, A_PRODUCT);
     Ok(())
 }
 
