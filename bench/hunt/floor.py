@@ -36,6 +36,8 @@ TAKEN = 12
 FATES = {"lost": 30, "reply lost": 30, "twice": 30, "late": 20, "late again": 30, "cut": 15, "reply cut": 15, "slow": 30}
 KILLS = 6
 STOPS = ("6A80", "6283", "6F00", "6A88")
+# Blanks for each record. Near the end few records wait, and a machine rejects each card that is put in while none does.
+BLANKS = 40
 
 
 class Floor:
@@ -46,7 +48,7 @@ class Floor:
         self.folder, self.file, self.port = folder, str(folder / "shop.db"), free_port()
         self.counts: Counter = Counter()
         self.lock, self.over = threading.Lock(), threading.Event()
-        self.serials = iter(range(1000, 1000 + 4 * self.cards))
+        self.serials = iter(range(1000, 1000 + BLANKS * self.cards))
 
     def draw(self, *words: object) -> random.Random:
         return random.Random("/".join(map(str, (self.seed, *words))))
@@ -233,10 +235,11 @@ class Office:
 
 
 def stock(floor: Floor, office: Office, batch: str) -> None:
+    half = BLANKS // 2 * floor.cards
     asked = [
         office.ask({"do": "product", "product": "P1", "max": MOST, "low": 0, "check": False}),
-        office.ask({"do": "lot", "lot": "L1", "product": "P1", "first": 1000, "count": 2 * floor.cards}),
-        office.ask({"do": "lot", "lot": "L2", "product": "P1", "first": 1000 + 2 * floor.cards, "count": 2 * floor.cards}),
+        office.ask({"do": "lot", "lot": "L1", "product": "P1", "first": 1000, "count": half}),
+        office.ask({"do": "lot", "lot": "L2", "product": "P1", "first": 1000 + half, "count": half}),
         office.put_in("/batch/B1/P1", batch),
     ]
     if any(status != 200 for status, _ in asked):
