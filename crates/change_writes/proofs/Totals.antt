@@ -7,9 +7,9 @@ use Rattle.job_facts.specs.declared.facts.RecordState.{RecordState}
 use Rattle.job_facts.specs.declared.rows.BatchTotals.{BatchTotals}
 use Rattle.job_facts.specs.Contents.{Entry}
 use Rattle.table_rows.specs.After.{record_after}
-use Rattle.table_rows.specs.Tables.{StoredBatch, Tables, totals_of, totals_set}
+use Rattle.table_rows.specs.Tables.{HasTotals, StoredBatch, Tables, totals_of, totals_set}
 use Rattle.table_rows.specs.declared.writing.RecordPlace.{RecordPlace}
-use Rattle.change_writes.specs.Counters.{HasTotals, summed}
+use Rattle.change_writes.specs.Counters.{summed}
 
 module _ (id : ℕ) (totals : BatchTotals) where
   abbrev HasThese : StoredBatch → Type 0

@@ -4,8 +4,8 @@ ghost use Rattle.job_facts.specs.Contents.{Entry as EntryValue};
 ghost use Rattle.job_facts.specs.declared.facts.RecordState.TheVariants as rec;
 ghost use Rattle.table_rows.specs.After.{less, more, one_opened, one_spoiled};
 ghost use Rattle.table_rows.specs.After.{rows_written, stopped};
-ghost use Rattle.table_rows.specs.Tables.{Tables};
-ghost use Rattle.change_writes.specs.Counters.{HasTotals, summed};
+ghost use Rattle.table_rows.specs.Tables.{HasTotals, Tables};
+ghost use Rattle.change_writes.specs.Counters.{summed};
 ghost use Rattle.change_writes.specs.Writable.{AreBelow, HasRoom, IsWritable};
 
 use job_facts::{BatchTotals, RecordState, SessionState};

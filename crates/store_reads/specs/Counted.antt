@@ -1,13 +1,13 @@
 -- The counters of a batch, in rows.
-use Rattle.std.specs.Prelude.{◌≡◌, ◌==◌, ℕ, Bool, true, false, not, All}
+use Rattle.std.specs.Prelude.{◌==◌, ℕ, Bool, true, false, not}
 use Rattle.table_rows.specs.declared.writing.Writing.{Writing}
 use Rattle.table_rows.specs.declared.writing.Writing.TheVariants as writing
-use Rattle.table_rows.specs.Tables.{StoredBatch, Tables, totals_of}
+use Rattle.table_rows.specs.Tables.{HasTotals, Tables}
 use Rattle.store_reads.specs.declared.known.BatchCounts.{BatchCounts}
 
--- each batch with this id has these
+-- these are the counters of the batch with their id
 abbrev pub AreCountsIn : Tables → BatchCounts → Type 0
-AreCountsIn t counts = All (λ (b : StoredBatch). b.id ≡ counts.batch → totals_of b ≡ counts.totals) t.batches
+AreCountsIn t counts = HasTotals counts.batch counts.totals t
 
 -- what is written changes no counters of the batch with this id, and adds no batch
 abbrev pub leaves_counts : Writing → ℕ → Bool

@@ -1,6 +1,6 @@
 -- The rows of the store's tables as plain lists, one for each table. Rows of a table stand in any
 -- order.
-use Rattle.std.specs.Prelude.{◌≡◌, ◌+◌, ◌==◌, ◌&&◌, ℕ, Bool, true, false, not, nat_le, if◌then◌else◌, List, [], ◌∷◌, map, filter, bytes_eq, AllPairs, IsPermutation}
+use Rattle.std.specs.Prelude.{◌≡◌, ◌+◌, ◌==◌, ◌&&◌, ℕ, Bool, true, false, not, nat_le, if◌then◌else◌, List, [], ◌∷◌, map, filter, bytes_eq, All, AllPairs, IsPermutation}
 use Rattle.store_data.specs.declared.cursor.Cursor.{Cursor}
 use Rattle.store_data.specs.declared.row.Enc.{Enc}
 use Rattle.store_data.specs.declared.row.Product.{Product}
@@ -108,6 +108,10 @@ pub record Tables : Type 0 where
   pub remakes : List StoredRemake
   pub replies : List Entry
   pub marks : List Mark
+
+-- each batch with this id has these counters
+abbrev pub HasTotals : ℕ → BatchTotals → Tables → Type 0
+HasTotals id totals t = All (λ (b : StoredBatch). b.id ≡ id → totals_of b ≡ totals) t.batches
 
 abbrev pub no_rows : Tables
 no_rows = record {
