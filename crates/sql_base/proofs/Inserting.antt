@@ -1,5 +1,5 @@
--- What an INSERT of one row does to the trees, at any schema whose foreign keys do not act.
-use Rattle.std.proofs.Common.{◌≡◌, ◌⊎◌, inl, inr, ℕ, ◌/◌, ◌-◌, List, [], ◌∷◌, ◌++◌, length, drop, slice_get, MatchBool, fold, ℤ, true, false, Some, None, Option, Ok, Err, Result, refl, sym, ap, subst, ◌∙◌, append-nil, if◌then◌else◌, arith}
+-- What an INSERT of rows does to the trees, at any schema whose foreign keys do not act.
+use Rattle.std.proofs.Common.{◌≡◌, ◌⊎◌, inl, inr, ℕ, ◌/◌, ◌-◌, List, [], ◌∷◌, ◌++◌, length, drop, map, slice_get, MatchBool, fold, ℤ, true, false, Some, None, Option, Ok, Err, Result, refl, sym, ap, subst, ◌∙◌, append-nil, if◌then◌else◌, arith}
 use Rattle.std.proofs.lemmas.Bool.{cases_Bool}
 use Rattle.std.specs.List.Sorted.{IsPermutation}
 use Rattle.std.proofs.lemmas.List.Sorted.{IsPermutation-refl, IsPermutation-trans, IsPermutation-cons}
@@ -13,7 +13,7 @@ use Rattle.sqlite.specs.Table.{Table}
 use Rattle.sqlite.specs.Schema.{Schema}
 use Rattle.sqlite.specs.Source.TheVariants.{Values}
 use Rattle.sqlite.specs.Command.TheVariants.{Insert}
-use Rattle.sqlite.specs.Edit.{Edit, taken_by, Applies, are_fresh, edit_of, edited, is_taken, with_rowid}
+use Rattle.sqlite.specs.Edit.{Edit, taken_by, Applies, are_fresh, edit_of, edited, is_taken, numbered, put_all}
 use Rattle.sqlite.specs.Cast.{cast_row}
 use Rattle.sqlite.specs.Rowids.TheVariants.{Chosen, Above}
 use Rattle.sqlite.specs.Does.{Tally, Does}
@@ -62,14 +62,14 @@ counts_nothing task mid counter top out none h =
 stamps_nothing : (table : Table) (params : Row) → table.stamps ≡ no_stamps → stamped table params ≡ params
 stamps_nothing table params none = ap (λ (s : Stamps). params ++ eval_all s.terms (drop (length params - length s.formats) params ∷ [])) none ∙ append-nil params
 
-one_fresh : (rows : List Row) (r : Row) → are_fresh rows (r ∷ []) ≡ true → is_taken rows r ≡ false
+pub one_fresh : (rows : List Row) (r : Row) → are_fresh rows (r ∷ []) ≡ true → is_taken rows r ≡ false
 one_fresh rows r h = elim (cases_Bool (is_taken rows r)) [ inl taken ↦ absurd (let e = rw taken at h in cc) | inr free ↦ free ]
 
 module _ (sql : List ℕ) (params : Row) (old new : State) (schema : Schema) (has : old.now.schema ≡ schema)
     (at : ℕ) (table : Table) (terms : List Term) (width : ℕ)
     (is : command_of (understood schema sql) ≡ Insert at (Values terms width)) (plain : IsPlain (understood schema sql))
     (listed : slice_get schema.tables at ≡ Some table) (uncounted : table.is_counted ≡ false) (unstamped : table.stamps ≡ no_stamps)
-    (values stored : Row) (one : value_rows params width (length terms / width) terms ≡ values ∷ []) (cast : cast_row table values ≡ stored)
+    (values stored : List Row) (all : value_rows params width (length terms / width) terms ≡ values) (cast : map (cast_row table) values ≡ stored)
     (none : (olds news : List Row) → works schema Enforced 0 table.tree olds news ≡ []) where
   pub inserted : (count : ℕ) → Executes sql params old new (Ok count) → Inserted schema table stored old new
   inserted count h =
@@ -88,20 +88,20 @@ module _ (sql : List ℕ) (params : Row) (old new : State) (schema : Schema) (ha
       let top = fold higher (count_of counter.0) (edit_of db table [] (rowids_for table (count_of counter.0)) 0 given.0).news in
       let same : counted.0 ≡ written.0 = same_value (counts_nothing task written.0 counter.0 top (Ok counted.0) uncounted counted.1) in
       let trees : done.0.trees ≡ written.0 = ap (λ (it : Written). it.trees) (same_value counted.2) ∙ same in
-      let rows : given.0 ≡ values ∷ [] = subst (λ (p : Row). given.0 ≡ value_rows p width (length terms / width) terms) (stamps_nothing table params unstamped) given.1.1 ∙ one in
-      let edit : Edit = edit_of db table [] Chosen 0 (values ∷ []) in
+      let rows : given.0 ≡ values = subst (λ (p : Row). given.0 ≡ value_rows p width (length terms / width) terms) (stamps_nothing table params unstamped) given.1.1 ∙ all in
+      let edit : Edit = edit_of db table [] Chosen 0 values in
       let same_edit : edit_of db table [] (rowids_for table (count_of counter.0)) 0 given.0 ≡ edit =
       ap (λ b. edit_of db table [] (if b then Above (count_of counter.0) else Chosen) 0 given.0) uncounted ∙ ap (edit_of db table [] Chosen 0) rows in
       let it : Applies schema Enforced db edit written.0 = one_step schema Enforced db written.0 edit (none (taken_by db edit) edit.news) (subst (λ e. Writes schema Enforced db e (Ok written.0)) same_edit written.1) in
-      let put : edited db edit ≡ put_row (with_rowid Chosen (db table.tree) stored) (db table.tree) = ap (λ c. put_row (with_rowid Chosen (db table.tree) c) (db table.tree)) cast in
-      let free : are_fresh (db table.tree) (with_rowid Chosen (db table.tree) stored ∷ []) ≡ true = subst (λ c. are_fresh (db table.tree) (with_rowid Chosen (db table.tree) c ∷ []) ≡ true) cast it.fresh in
+      let put : edited db edit ≡ put_all (db table.tree) (numbered Chosen (db table.tree) stored) = ap (λ rs. put_all (db table.tree) (numbered Chosen (db table.tree) rs)) cast in
+      let free : are_fresh (db table.tree) (numbered Chosen (db table.tree) stored) ≡ true = subst (λ rs. are_fresh (db table.tree) (numbered Chosen (db table.tree) rs) ≡ true) cast it.fresh in
       let at_last : new.now ≡ record { schema = schema; trees = written.0 } = now ∙ ap (λ (t : Trees). let d : Database = record { schema = schema; trees = t } in d) trees in
       let moved : new.now.trees ≡ written.0 = ap (λ (d : Database). d.trees) at_last in
       record {
         kept = ap (λ (d : Database). d.schema) at_last;
         is_database = w.sound;
         rows = ap (λ (t : Trees). t table.tree) moved ∙ it.rows ∙ put;
-        fresh = one_fresh (db table.tree) (with_rowid Chosen (db table.tree) stored) free;
+        fresh = free;
         others = subst (λ (t : Trees). SparesOthers schema table db t) (sym moved) it.tables;
         shown = w.shown;
       }

@@ -7,6 +7,7 @@ pub mod Values
 pub mod Ending
 pub mod Creating
 pub mod Rowids
+pub mod Numbering
 pub mod Changing
 pub mod Typed
 pub mod Ordering

@@ -1,23 +1,21 @@
 -- One table's rows change, and those of the others stay.
-use Rattle.std.proofs.Common.{◌≡◌, ◌≢◌, ℕ, pos, true, List, [], ◌∷◌, ◌++◌, map, not, ◌==◌, arith, refl, sym, subst}
+use Rattle.std.proofs.Common.{◌≡◌, ◌≢◌, ℕ, pos, true, List, [], ◌∷◌, ◌++◌, drop, map, not, ◌==◌, arith, refl, sym, subst}
 use Rattle.std.specs.List.{AllByRecursion, list_all}
 use Rattle.std.proofs.lemmas.Bool.{and_parts}
 use Rattle.std.proofs.lemmas.Bool.Decides.{nat_tests}
 use Rattle.std.specs.List.Sorted.{IsPermutation}
-use Rattle.std.proofs.lemmas.List.Sorted.{IsPermutation-cons, IsPermutation-trans}
-use Rattle.sqlite.specs.declared.types.Value.TheVariants.{Int, Null}
-use Rattle.sqlite.specs.Edit.{with_rowid}
+use Rattle.std.proofs.lemmas.List.Sorted.{IsPermutation-append, IsPermutation-cons, IsPermutation-refl, IsPermutation-trans}
+use Rattle.sqlite.specs.declared.types.Value.TheVariants.{Int}
 use Rattle.sqlite.specs.Effect.{IsDatabase}
 use Rattle.sqlite.specs.Order.{Row}
-use Rattle.sqlite.specs.Rowids.TheVariants.{Chosen}
 use Rattle.sqlite.specs.State.{State}
 use Rattle.sqlite.specs.Table.{Table}
 use Rattle.sqlite.specs.Tree.{Trees}
 use Rattle.sql_base.specs.Effects.{Inserted, SparesOthers}
 use Rattle.sql_base.specs.Rowids.{AreApart}
-use Rattle.sql_base.proofs.Inserting.{put_fresh}
+use Rattle.sql_base.proofs.Inserting.{one_fresh, put_fresh}
+use Rattle.sql_base.proofs.Numbering.{many_more, unnumbered_row}
 use Rattle.sql_base.proofs.Rowids.{put_apart}
-use Rattle.sql_base.proofs.Values.{one_more}
 use Rattle.sql_tables.specs.Tables.{our_schema}
 use Rattle.table_rows.specs.Tables.{Tables}
 use Rattle.sql_rows.specs.Image.{Filled, IsFilled, IsImage, by_rowid, filled, given_rows, unnumbered}
@@ -74,23 +72,27 @@ module _ (before after : List Filled) (table : Table) (left : list_all (λ (x : 
             (subst (AllByRecursion (λ z. IsFilled z old.now.trees)) is_t image.each) moves);
       }
 
--- one more row, under a rowid that SQLite chose
-pub row_put : (table : Table) (row : Row) (rows : List Row) (old new : State) → Inserted our_schema table (Null ∷ row) old new
-    → IsFilled (unnumbered table rows) old.now.trees → IsFilled (unnumbered table (row ∷ rows)) new.now.trees
-row_put table row rows old new it is =
+-- more rows, under rowids that SQLite chose
+pub rows_put : (table : Table) (news rows : List Row) (old new : State) → Inserted our_schema table (map unnumbered_row news) old new
+    → IsFilled (unnumbered table rows) old.now.trees → IsFilled (unnumbered table (news ++ rows)) new.now.trees
+rows_put table news rows old new it is =
     let stored = old.now.trees table.tree in
+    let more = many_more news stored it.fresh is.apart in
     record {
-      rows = IsPermutation-trans _ _ _ (IsPermutation-cons row _ _ is.rows) (one_more row stored (new.now.trees table.tree) (sym it.rows) it.fresh);
-      apart = subst AreApart (sym it.rows) (put_apart (with_rowid Chosen stored (Null ∷ row)) stored refl it.fresh is.apart);
+      rows =
+          subst (λ all. IsPermutation (news ++ rows) (map (drop 1) all)) (sym it.rows)
+          (IsPermutation-trans _ _ _ (IsPermutation-append news news _ _ (IsPermutation-refl news) is.rows) more.0);
+      apart = subst AreApart (sym it.rows) more.1;
     }
 
 -- one more row, under the rowid that the statement gave it
-pub row_put_under : (table : Table) (id : ℕ) (row : Row) (rows : List Row) (old new : State) → Inserted our_schema table (Int (pos id) ∷ row) old new
+pub row_put_under : (table : Table) (id : ℕ) (row : Row) (rows : List Row) (old new : State) → Inserted our_schema table ((Int (pos id) ∷ row) ∷ []) old new
     → IsFilled (by_rowid table rows) old.now.trees → IsFilled (by_rowid table ((Int (pos id) ∷ row) ∷ rows)) new.now.trees
 row_put_under table id row rows old new it is =
     let stored = old.now.trees table.tree in
     let whole : Row = Int (pos id) ∷ row in
+    let free = one_fresh stored whole it.fresh in
     record {
-      rows = subst (IsPermutation (whole ∷ rows)) (sym it.rows) (IsPermutation-trans _ _ _ (IsPermutation-cons whole _ _ is.rows) (put_fresh whole stored it.fresh));
-      apart = subst AreApart (sym it.rows) (put_apart whole stored refl it.fresh is.apart);
+      rows = subst (IsPermutation (whole ∷ rows)) (sym it.rows) (IsPermutation-trans _ _ _ (IsPermutation-cons whole _ _ is.rows) (put_fresh whole stored free));
+      apart = subst AreApart (sym it.rows) (put_apart whole stored refl free is.apart);
     }

@@ -1,5 +1,5 @@
 -- What the INSERT of the version does.
-use Rattle.std.proofs.Common.{◌≡◌, ◌≢◌, ◌==◌, drop, ℕ, List, [], ◌∷◌, length, pos, Ok, inl, inr, refl, ◌∙◌}
+use Rattle.std.proofs.Common.{◌≡◌, ◌≢◌, ◌==◌, drop, ℕ, List, [], ◌∷◌, length, map, pos, Ok, inl, inr, refl, ◌∙◌}
 use Rattle.std.specs.List.{AllByRecursion}
 use Rattle.std.proofs.lemmas.Bool.{cases_Bool}
 use Rattle.sqlite.specs.Cast.{cast_row}
@@ -40,8 +40,8 @@ pub none_acts : (tree : ℕ) (olds news : List Row) → works our_schema Enforce
 unfolding same_name
 none_acts tree olds news = elim (cases_Bool (length news == 0)) [ inl e ↦ rw e refl | inr e ↦ rw e refl ]
 
-cast_is : cast_row version_table version_row ≡ version_row
-cast_is = rw (cast_null, cast_int (pos 1), cast_int (pos 3)) refl
+cast_are : map (cast_row version_table) (version_row ∷ []) ≡ version_row ∷ []
+cast_are = rw (cast_null, cast_int (pos 1), cast_int (pos 3)) refl
 
 -- what is spared is as empty as it was
 spared : (tables : List Table) (old new : Trees) → AllByRecursion (λ t. t.tree ≢ 0 → new t.tree ≡ old t.tree) tables → AllByRecursion (λ t. t.tree ≢ 0) tables
@@ -54,8 +54,8 @@ others_differ = (λ e. cc, (λ e. cc, (λ e. cc, (λ e. cc, (λ e. cc, (λ e. cc
 
 pub adds_version : (old new : State) (count : ℕ) → Executes add_version_text [] old new (Ok count) → AddsVersion old.now new.now
 adds_version old new count ran from =
-    let it : Inserted our_schema version_table version_row old new =
-    inserted add_version_text [] old new our_schema from.schema_is 0 version_table terms 3 command_is plain refl refl refl version_row version_row refl cast_is (none_acts 0) count ran in
+    let it : Inserted our_schema version_table (version_row ∷ []) old new =
+    inserted add_version_text [] old new our_schema from.schema_is 0 version_table terms 3 command_is plain refl refl refl (version_row ∷ []) (version_row ∷ []) refl cast_are (none_acts 0) count ran in
     record {
       schema_is = it.kept;
       is_database = it.is_database;
