@@ -110,8 +110,8 @@ impl Put for StoredGrouping {
             return Err(Error::InvalidQuery);
         }
         tx.execute(
-            "INSERT INTO grouping2 (batch, line, place, aid, rank, enc, tol, coded) VALUES (?1, \
-            ?2, ?3, ?4, ?5, ?6, ?7, ?8)",
+            "INSERT INTO grouping2 (batch, line, place, aid, rank, enc, tol, coded) VALUES \
+            (?,?,?,?,?,?,?,?)",
             &[
                 int(self.batch),
                 int(self.line),

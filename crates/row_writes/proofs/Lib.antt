@@ -4,6 +4,8 @@ pub mod Adding
 pub mod Putting
 pub mod PuttingBatches
 pub mod PuttingCards
+pub mod Many
+pub mod PuttingFileRows
 pub mod Setting
 pub mod Removing
 pub mod RawLemmas

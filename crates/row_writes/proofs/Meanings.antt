@@ -10,7 +10,7 @@ use Rattle.sqlite_resolve.specs.declared.error.CompileError.{CompileError}
 use Rattle.sqlite_schema.specs.declared.command.Returning.{Returning}
 use Rattle.sqlite_tied.specs.Compute.{everything}
 use Rattle.sql_tables.specs.Tables.{our_schema}
-use Rattle.row_writes.specs.BatchTexts.{add_batch_terms, add_batch_text, add_grouping_terms, add_grouping_text, add_record_terms, add_record_text}
+use Rattle.row_writes.specs.BatchTexts.{add_batch_terms, add_batch_text, add_grouping_text, add_groupings_text, add_record_text, add_records_text, rows_terms}
 use Rattle.row_writes.specs.Texts.{add_blank_terms, add_blank_text, add_lot_terms, add_lot_text, add_mark_terms, add_mark_text, add_remake_terms, add_remake_text, add_product_terms, add_product_text, add_reply_terms, add_reply_text, add_session_terms, add_session_text, add_word_terms, add_word_text}
 
 abbrev plain_of : Command → Option Returning → List (List ℕ) → Option Command
@@ -38,13 +38,15 @@ is_plain_in (Err error) wanted e = absurd (cc)
 pub read_as : (text : List ℕ) (command : Command) → Means text command → (command_of (understood our_schema text) ≡ command) × IsPlain (understood our_schema text)
 read_as text = is_plain_in (understood our_schema text)
 
--- that one row is put into each table
+-- that one row is put into each table, or sixteen
 pub record AddsMean : Type 0 where
   pub products : Means add_product_text (Insert 1 (Values add_product_terms 5))
   pub lots : Means add_lot_text (Insert 2 (Values add_lot_terms 6))
   pub batches : Means add_batch_text (Insert 3 (Values add_batch_terms 13))
-  pub records : Means add_record_text (Insert 4 (Values add_record_terms 7))
-  pub groupings : Means add_grouping_text (Insert 5 (Values add_grouping_terms 9))
+  pub records : Means add_record_text (Insert 4 (Values (rows_terms 6 0 1) 7))
+  pub groupings : Means add_grouping_text (Insert 5 (Values (rows_terms 8 0 1) 9))
+  pub many_records : Means add_records_text (Insert 4 (Values (rows_terms 6 0 16) 7))
+  pub many_groupings : Means add_groupings_text (Insert 5 (Values (rows_terms 8 0 16) 9))
   pub sessions : Means add_session_text (Insert 6 (Values add_session_terms 13))
   pub words : Means add_word_text (Insert 7 (Values add_word_terms 4))
   pub blanks : Means add_blank_text (Insert 8 (Values add_blank_terms 4))
@@ -54,4 +56,4 @@ pub record AddsMean : Type 0 where
 
 pub adds_mean : AddsMean
 unfolding understood everything
-adds_mean = record { products = refl; lots = refl; batches = refl; records = refl; groupings = refl; sessions = refl; words = refl; blanks = refl; remakes = refl; replies = refl; marks = refl }
+adds_mean = record { products = refl; lots = refl; batches = refl; records = refl; groupings = refl; many_records = refl; many_groupings = refl; sessions = refl; words = refl; blanks = refl; remakes = refl; replies = refl; marks = refl }

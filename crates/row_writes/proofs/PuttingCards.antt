@@ -25,7 +25,7 @@ module _ (id : ℕ) (p : RecordPlace) (machine : List ℕ) (blank : ℕ) where
   pub session_added : (old new : State) (count : ℕ) → Executes add_session_text session_values old new (Ok count) → Moves (with_session (new_session id p machine blank)) old.now new.now
   session_added old new count ran t image =
       let rows = map session_row t.sessions in
-      added add_session_text session_values 6 session_table add_session_terms 13 adds_mean.sessions refl refl refl put refl (simp (cast_int, cast_null)) old new count ran t (with_session (new_session id p machine blank) t)
+      added add_session_text session_values 6 session_table add_session_terms 13 adds_mean.sessions refl refl refl (put ∷ []) refl (simp (cast_int, cast_null)) old new count ran t (with_session (new_session id p machine blank) t)
       (by_rowid session_table rows) (by_rowid session_table (put ∷ rows)) refl refl refl refl refl refl (row_put_under session_table id (drop 1 put) rows old new) image
 
 abbrev pub blank_values : StoredBlank → Row
@@ -34,5 +34,5 @@ blank_values b = number b.serial ∷ Text b.lot ∷ number (flag b.discarded) �
 pub blank_added : (old new : State) (b : StoredBlank) (count : ℕ) → Executes add_blank_text (blank_values b) old new (Ok count) → Moves (with_blank b) old.now new.now
 blank_added old new b count ran t image =
     let rows = map blank_row t.blanks in
-    added add_blank_text (blank_values b) 8 blank_table add_blank_terms 4 adds_mean.blanks refl refl refl (blank_row b) refl (simp (cast_int, cast_null)) old new count ran t (with_blank b t)
+    added add_blank_text (blank_values b) 8 blank_table add_blank_terms 4 adds_mean.blanks refl refl refl (blank_row b ∷ []) refl (simp (cast_int, cast_null)) old new count ran t (with_blank b t)
     (by_rowid blank_table rows) (by_rowid blank_table (blank_row b ∷ rows)) refl refl refl refl refl refl (row_put_under blank_table b.serial (drop 1 (blank_row b)) rows old new) image

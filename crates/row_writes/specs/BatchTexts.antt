@@ -1,5 +1,6 @@
 -- The texts of the statements that write a batch, and the values that they put in.
-use Rattle.std.specs.Prelude.{List, ℕ, pos, [], ◌∷◌, codes}
+use Rattle.std.specs.Prelude.{List, ℕ, zero, suc, ◌+◌, pos, [], ◌∷◌, ◌++◌, codes, map}
+use Rattle.std.specs.List.{range_with_len}
 use Rattle.sqlite.specs.declared.types.Value.TheVariants.{Int, Null}
 use Rattle.sqlite.specs.Term.{Term, col, lit}
 
@@ -12,14 +13,25 @@ add_batch_text = codes "INSERT INTO batch (id, name, product, raw, closed, waiti
 abbrev pub add_batch_terms : List Term
 add_batch_terms = col 0 0 ∷ lit Null ∷ col 0 1 ∷ col 0 2 ∷ col 0 3 ∷ nought ∷ col 0 4 ∷ nought ∷ nought ∷ nought ∷ nought ∷ nought ∷ nought ∷ []
 
-abbrev pub add_record_text : List ℕ
-add_record_text = codes "INSERT INTO record (batch, place, name, state, spoiled, remakes) VALUES (?1, ?2, ?3, 0, 0, 0)"
+-- ---- records and rows of a batch file
 
-abbrev pub add_record_terms : List Term
-add_record_terms = lit Null ∷ col 0 0 ∷ col 0 1 ∷ col 0 2 ∷ nought ∷ nought ∷ nought ∷ []
+-- a row whose columns, but for the rowid, are so many parameters from this one on
+abbrev pub row_terms : ℕ → ℕ → List Term
+row_terms width first = lit Null ∷ map (col 0) (range_with_len first width)
+
+-- so many rows, one after the other
+abbrev pub rows_terms : ℕ → ℕ → ℕ → List Term
+rows_terms width first zero = []
+rows_terms width first (suc count) = row_terms width first ++ rows_terms width (first + width) count
+
+abbrev pub add_record_text : List ℕ
+add_record_text = codes "INSERT INTO record (batch, place, name, state, spoiled, remakes) VALUES (?,?,?,?,?,?)"
+
+abbrev pub add_records_text : List ℕ
+add_records_text = codes "INSERT INTO record (batch, place, name, state, spoiled, remakes) VALUES (?,?,?,?,?,?), (?,?,?,?,?,?), (?,?,?,?,?,?), (?,?,?,?,?,?), (?,?,?,?,?,?), (?,?,?,?,?,?), (?,?,?,?,?,?), (?,?,?,?,?,?), (?,?,?,?,?,?), (?,?,?,?,?,?), (?,?,?,?,?,?), (?,?,?,?,?,?), (?,?,?,?,?,?), (?,?,?,?,?,?), (?,?,?,?,?,?), (?,?,?,?,?,?)"
 
 abbrev pub add_grouping_text : List ℕ
-add_grouping_text = codes "INSERT INTO grouping2 (batch, line, place, aid, rank, enc, tol, coded) VALUES (?1, ?2, ?3, ?4, ?5, ?6, ?7, ?8)"
+add_grouping_text = codes "INSERT INTO grouping2 (batch, line, place, aid, rank, enc, tol, coded) VALUES (?,?,?,?,?,?,?,?)"
 
-abbrev pub add_grouping_terms : List Term
-add_grouping_terms = lit Null ∷ col 0 0 ∷ col 0 1 ∷ col 0 2 ∷ col 0 3 ∷ col 0 4 ∷ col 0 5 ∷ col 0 6 ∷ col 0 7 ∷ []
+abbrev pub add_groupings_text : List ℕ
+add_groupings_text = codes "INSERT INTO grouping2 (batch, line, place, aid, rank, enc, tol, coded) VALUES (?,?,?,?,?,?,?,?), (?,?,?,?,?,?,?,?), (?,?,?,?,?,?,?,?), (?,?,?,?,?,?,?,?), (?,?,?,?,?,?,?,?), (?,?,?,?,?,?,?,?), (?,?,?,?,?,?,?,?), (?,?,?,?,?,?,?,?), (?,?,?,?,?,?,?,?), (?,?,?,?,?,?,?,?), (?,?,?,?,?,?,?,?), (?,?,?,?,?,?,?,?), (?,?,?,?,?,?,?,?), (?,?,?,?,?,?,?,?), (?,?,?,?,?,?,?,?), (?,?,?,?,?,?,?,?)"

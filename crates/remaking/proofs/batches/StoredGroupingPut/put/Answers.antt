@@ -1,7 +1,7 @@
 use Rattle.sql_base.proofs.Causing.{reports}
 use Rattle.table_rows.specs.Tables.{with_grouping}
 use Rattle.row_writes.specs.BatchTexts.{add_grouping_text}
-use Rattle.row_writes.proofs.PuttingBatches.{grouping_added}
+use Rattle.row_writes.proofs.PuttingFileRows.{grouping_added}
 use Rattle.remaking.proofs.PuttingRows.{row_put_in}
 use Rattle.remaking.proofs.batches.StoredGroupingPut.put.Goals as goal
 

@@ -1,0 +1,15 @@
+use Rattle.std.proofs.Common.{map, ◌∙◌}
+use Rattle.std.proofs.lemmas.List.{length-map}
+use Rattle.sql_base.proofs.Ending.{wrote}
+use Rattle.sql_rows.specs.Image.{Moves}
+use Rattle.sql_rows.specs.Many.{with_records}
+use Rattle.row_writes.specs.FileRows.{record_of}
+use Rattle.row_writes.proofs.PuttingFileRows.{records_added}
+use Rattle.row_writes.proofs.file_rows.add_records.Goals as goal
+
+pub returns-clause-wrote : goal.returns-clause-wrote
+returns-clause-wrote g c clean =
+    let xs = map record_of c.args.records.now in
+    wrote g.S.Store (Moves (with_records xs)) c.args.tx.now.conn.now c.execute.new.self.conn.now _ _ _
+    (records_added xs (length-map c.args.records.now record_of ∙ c.requires) _ _) c.execute.result c.execute.ensures.ended
+    (rw (c.deref.ensures.value, c.in_ok-values.ensures) at (c.execute.ensures.runs clean))
