@@ -1,5 +1,5 @@
 -- Parts of a transaction, one after the other.
-use Rattle.std.proofs.Common.{◌∙◌, Result, Ok, Err}
+use Rattle.std.proofs.Common.{◌∙◌, List, Result, Ok, Err}
 use Rattle.std.specs.Result.{IsErr}
 use Rattle.sqlite.specs.Effect.{Database}
 use Rattle.sqlite.specs.State.{KeepsCommit, State}
@@ -7,6 +7,7 @@ use Rattle.sqlite.specs.declared.error.Error.{Error}
 use Rattle.sqlite.proofs.InsideLemmas.{keeps_then}
 use Rattle.sql_base.specs.Ends.{Inside, Wrote}
 use Rattle.sql_rows.specs.Image.{Moves}
+use Rattle.sql_tables.specs.Each.{Each, WroteEach}
 use Rattle.table_rows.specs.Tables.{Tables}
 use Rattle.sql_rows.specs.Many.{GoesOn, WroteMany}
 
@@ -31,6 +32,14 @@ wrote_after P Q R a b c (Ok x) both one kept two kept_too =
     record { well = record { made = both one.made two.made; committed = two.committed ∙ one.committed; inside = λ _. two.inside }; kept = keeps_then a b c kept kept_too }
 wrote_after P Q R a b c (Err e) both one kept two kept_too = record { well = tt; kept = keeps_then a b c kept kept_too }
 
+-- many rows after many
+pub many_after : {X : Type 0} (P Q R : Database → Database → Type 0) (a b c : State) (r : Result X Error) → (P a.now b.now → Q b.now c.now → R a.now c.now) → GoesOn P a b → KeepsCommit a b → WroteMany Q b c r → WroteMany R a c r
+many_after P Q R a b c (Ok x) both one kept two = record {
+  well = record { made = both one.made two.well.made; committed = two.well.committed ∙ one.committed; inside = λ inside. two.well.inside (one.inside inside) };
+  kept = keeps_then a b c kept two.kept;
+}
+many_after P Q R a b c (Err e) both one kept two = record { well = tt; kept = keeps_then a b c kept two.kept }
+
 -- many rows after a part that went well
 inside_on : (P Q R : Database → Database → Type 0) (a b c : State) → (P a.now b.now → Q b.now c.now → R a.now c.now) → Inside P a b → GoesOn Q b c → Inside R a c
 inside_on P Q R a b c both one two = record { made = both one.made two.made; committed = two.committed ∙ one.committed; inside = two.inside one.inside; was_open = one.was_open }
@@ -48,6 +57,11 @@ many_then P Q R a b c (Ok x) both one kept two = record {
   kept = keeps_then a b c kept two.kept;
 }
 many_then P Q R a b c (Err e) both one kept two = record { well = tt; kept = keeps_then a b c kept two.kept }
+
+-- the statements of rows, one after the other
+pub ran_each : {X Y : Type 0} (R : X → Database → Database → Type 0) (Q : Database → Database → Type 0) (xs : List X) (a b : State) (r : Result Y Error) → (Each R xs a.now b.now → Q a.now b.now) → WroteEach R xs a b r → WroteMany Q a b r
+ran_each R Q xs a b (Ok y) all it = record { well = record { made = all it.well.made; committed = it.well.committed; inside = it.well.goes_on }; kept = it.kept }
+ran_each R Q xs a b (Err e) all it = record { well = tt; kept = it.kept }
 
 -- rows that move, and move on
 module _ (f g : Tables → Tables) (a b c : Database) where

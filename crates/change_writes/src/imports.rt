@@ -1,22 +1,32 @@
 //! A batch is imported, in an open transaction. A crash before its end leaves nothing of it.
-ghost use Rattle.std.specs.Prelude.{◌≡◌, ◌<◌, ◌^◌, [], IfOk, Ok, OnOk, bytes_eq, length};
+ghost use Rattle.std.specs.Prelude.{◌≡◌, ◌<◌, ◌^◌, ◌++◌, ℕ, Bool, List, []};
+ghost use Rattle.std.specs.Prelude.{IfOk, Ok, OnOk, bytes_eq, length, map};
 ghost use Rattle.std.specs.List.{position_or_len};
 ghost use Rattle.sqlite.specs.Held.{state};
 ghost use Rattle.sqlite.specs.State.{Survives};
 ghost use Rattle.store_data.specs.Groups.{with_key};
-ghost use Rattle.batch_import.specs.Batch.{coming_of};
+ghost use Rattle.store_data.specs.declared.row.Row.{Row as RowValue};
+ghost use Rattle.batch_import.specs.Batch.{coming_of, no_more};
 ghost use Rattle.batch_import.specs.Rows.{TakesRow};
+ghost use Rattle.sql_rows.specs.Image.{Moves};
+ghost use Rattle.sql_rows.specs.Many.{WritesMany, with_groupings, with_records};
 ghost use Rattle.sql_rows.specs.Writes.{WritesRows};
 ghost use Rattle.table_rows.specs.After.{batch_rows_after, rows_after};
+ghost use Rattle.table_rows.specs.Tables.{with_grouping, with_record};
 ghost use Rattle.table_rows.specs.declared.writing.Writing.TheVariants as writing;
-ghost use Rattle.change_writes.specs.Imports.{record_if_new, with_file_row, with_file_rows};
-ghost use Rattle.sql_rows.specs.Many.{WritesMany, with_records};
+ghost use Rattle.row_writes.specs.FileRows.{grouping_of, record_of};
+ghost use Rattle.change_writes.specs.Imports.{AreOfFile, IsTaken, TakesRows};
+ghost use Rattle.change_writes.specs.Imports.{record_if_new, with_file_rows, with_next};
 ghost use Rattle.change_writes.specs.Refused.{refused};
 
 use batch_import::{BatchRows, ImportFault, rows};
 use indexmap::IndexSet;
 use job_facts::NewBatch;
-use row_writes::{add_batch, add_grouping, add_record, set_raw};
+use row_writes::{
+    FileRow, NewRecord, ROWS_AT_ONCE, add_batch, add_grouping, add_groupings, add_record,
+    add_records, set_raw,
+};
+use sql_tables::{Runs, run_each};
 use sqlite::{Alter, Error, ErrorCode, Transaction};
 use std::alloc::Global;
 use store_data::{Name, Product, Row};
@@ -74,7 +84,7 @@ fn refused(fault: ImportFault) -> Error
     }
 }
 
-// Adds the rows of a batch file, of which one at a time is held.
+// Adds the rows of a batch file, of which sixteen at a time are held.
 fn add_rows<S: Alter>(
     tx: &mut Transaction<'_, S>,
     alloc: Global,
@@ -91,13 +101,61 @@ fn add_rows<S: Alter>(
         (λ _. ⊥) }
 {
     let mut names = IndexSet::new(alloc);
-    let mut number = FIRST_DATA_ROW;
+    let mut line = FIRST_DATA_ROW;
     let mut stream = rows(alloc, raw, product);
-    while let Some(row) = next_row(&mut stream)? {
-        add_row(tx, batch, &mut names, number, &row)?;
-        number += 1;
+    loop {
+        let next = next_rows(&mut stream, alloc, batch, &mut names, line)?;
+        if next.rows.is_empty() {
+            return Ok(());
+        }
+        add_next(tx, alloc, &next)?;
+        line += next.rows.len() as u32;
     }
-    Ok(())
+}
+
+// What comes next of a file.
+#[derive(Drop)]
+struct Next {
+    rows: Vec<FileRow>,
+    /// The records of the names that are new among these rows.
+    records: Vec<NewRecord>,
+}
+
+// The next rows of a file, at most sixteen, and fewer behind the last alone. The names are those
+// of the records so far.
+fn next_rows(
+    stream: &mut BatchRows<'_>,
+    alloc: Global,
+    batch: u64,
+    names: &mut IndexSet<Name>,
+    line: u32,
+) -> Result<Next, Error>
+    requires batch { batch < 2 ^ 63 }
+    requires taken { AreOfFile names.old.keys line stream.old }
+    ensures rows { (check : Bool) (raw : List ℕ) (taken : List RowValue)
+        → IsTaken check raw taken names.old.keys line stream.old
+        → IfOk result (λ next. TakesRows check raw taken batch names.old.keys line
+        next.rows.items next.records.items names.new.keys stream.new) }
+    ensures last { IfOk result (λ next. length next.rows.items < 16 → stream.new ≡ Ok no_more) }
+{
+    let mut next = Next {
+        rows: Vec::new(alloc),
+        records: Vec::new(alloc),
+    };
+    while next.rows.len() < ROWS_AT_ONCE {
+        let Some(row) = next_row(stream)? else {
+            return Ok(next);
+        };
+        let line = line + next.rows.len() as u32;
+        let place = place_of(names, &mut next.records, batch, &row.rec)?;
+        next.rows.push(FileRow {
+            batch,
+            line,
+            place,
+            row,
+        })?;
+    }
+    Ok(next)
 }
 
 // The next row of a file, or none behind the last.
@@ -107,50 +165,96 @@ fn next_row(stream: &mut BatchRows<'_>) -> Result<Option<Row>, Error>
     stream.next().map_err(refused)
 }
 
-// Adds a row of a batch file, behind the record of its name. The names are those of the records so
-// far.
-fn add_row<S: Alter>(
-    tx: &mut Transaction<'_, S>,
-    batch: u64,
+// The place of the record of a name. A name that is new is put behind the others, and its record
+// behind these.
+fn place_of(
     names: &mut IndexSet<Name>,
-    number: u32,
-    row: &Row,
-) -> Result<(), Error>
-    requires batch { batch < 2 ^ 63 }
-    requires few { length names.old.keys < 4096 }
-    ensures same_reference { tx.new.conn.ghost_name ≡ tx.old.conn.ghost_name }
-    ensures names { OnOk result (names.new.keys ≡ with_key names.old.keys row.now.rec) }
-    ensures wrote { WritesMany (with_file_row batch names.old.keys (number, row.now))
-        (state S.Store tx.old.conn.now) (state S.Store tx.new.conn.now) result }
-    ensures survives { Survives (state S.Store tx.old.conn.now) (state S.Store tx.new.conn.now)
-        (λ _. ⊥) }
-{
-    let place = place_of(tx, batch, names, &row.rec)?;
-    add_grouping(tx, batch, number, place, row)?;
-    Ok(())
-}
-
-// The place of the record of a name, which is added where it is new.
-fn place_of<S: Alter>(
-    tx: &mut Transaction<'_, S>,
+    records: &mut Vec<NewRecord>,
     batch: u64,
-    names: &mut IndexSet<Name>,
     name: &Name,
 ) -> Result<u32, Error>
     requires batch { batch < 2 ^ 63 }
     requires few { length names.old.keys < 4096 }
-    ensures same_reference { tx.new.conn.ghost_name ≡ tx.old.conn.ghost_name }
     ensures place { IfOk result (λ place.
         place ≡ position_or_len (bytes_eq name.now) names.old.keys) }
     ensures names { OnOk result (names.new.keys ≡ with_key names.old.keys name.now) }
-    ensures wrote { WritesMany (with_records (record_if_new batch names.old.keys name.now))
+    ensures records { OnOk result (map record_of records.new.items
+        ≡ map record_of records.old.items ++ record_if_new batch names.old.keys name.now) }
+{
+    let (place, is_new) = names.insert_full(*name)?;
+    let place = place as u32;
+    if is_new {
+        let name = *name;
+        records.push(NewRecord { batch, place, name })?;
+    }
+    Ok(place)
+}
+
+// Adds rows of a file, behind the records of their new names.
+fn add_next<S: Alter>(tx: &mut Transaction<'_, S>, alloc: Global, next: &Next) -> Result<(), Error>
+    ensures same_reference { tx.new.conn.ghost_name ≡ tx.old.conn.ghost_name }
+    ensures wrote { WritesMany (with_next next.now.rows.items next.now.records.items)
         (state S.Store tx.old.conn.now) (state S.Store tx.new.conn.now) result }
     ensures survives { Survives (state S.Store tx.old.conn.now) (state S.Store tx.new.conn.now)
         (λ _. ⊥) }
 {
-    let (place, is_new) = names.insert_full(*name)?;
-    if is_new {
-        add_record(tx, batch, place as u32, name)?;
+    add_new_records(tx, alloc, &next.records)?;
+    add_file_rows(tx, alloc, &next.rows)
+}
+
+// Adds records, by one statement where they are as many as that adds.
+fn add_new_records<S: Alter>(
+    tx: &mut Transaction<'_, S>,
+    alloc: Global,
+    records: &[NewRecord],
+) -> Result<(), Error>
+    ensures same_reference { tx.new.conn.ghost_name ≡ tx.old.conn.ghost_name }
+    ensures wrote { WritesMany (with_records (map record_of records.now))
+        (state S.Store tx.old.conn.now) (state S.Store tx.new.conn.now) result }
+    ensures survives { Survives (state S.Store tx.old.conn.now) (state S.Store tx.new.conn.now)
+        (λ _. ⊥) }
+{
+    if records.len() == ROWS_AT_ONCE {
+        add_records(tx, alloc, records)?;
+        return Ok(());
     }
-    Ok(place as u32)
+    run_each::<AddsEach, NewRecord, S>(tx, records)
+}
+
+// Adds rows of a file, by one statement where they are as many as that adds.
+fn add_file_rows<S: Alter>(
+    tx: &mut Transaction<'_, S>,
+    alloc: Global,
+    rows: &[FileRow],
+) -> Result<(), Error>
+    ensures same_reference { tx.new.conn.ghost_name ≡ tx.old.conn.ghost_name }
+    ensures wrote { WritesMany (with_groupings (map grouping_of rows.now))
+        (state S.Store tx.old.conn.now) (state S.Store tx.new.conn.now) result }
+    ensures survives { Survives (state S.Store tx.old.conn.now) (state S.Store tx.new.conn.now)
+        (λ _. ⊥) }
+{
+    if rows.len() == ROWS_AT_ONCE {
+        add_groupings(tx, alloc, rows)?;
+        return Ok(());
+    }
+    run_each::<AddsEach, FileRow, S>(tx, rows)
+}
+
+// The statement that adds one row.
+struct AddsEach;
+
+impl Runs<NewRecord> for AddsEach {
+    ghost makes = { λ it. Moves (with_record (record_of it)) };
+
+    fn run<S: Alter>(tx: &mut Transaction<'_, S>, it: &NewRecord) -> Result<usize, Error> {
+        add_record(tx, it)
+    }
+}
+
+impl Runs<FileRow> for AddsEach {
+    ghost makes = { λ it. Moves (with_grouping (grouping_of it)) };
+
+    fn run<S: Alter>(tx: &mut Transaction<'_, S>, it: &FileRow) -> Result<usize, Error> {
+        add_grouping(tx, it)
+    }
 }
