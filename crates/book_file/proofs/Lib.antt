@@ -1,2 +1,3 @@
 mod Fresh
+mod Handing
 mod Judging

@@ -1,5 +1,5 @@
 -- How the files of a database are left that was read.
-use Rattle.std.specs.Prelude.{◌≡◌, ℕ, List}
+use Rattle.std.specs.Prelude.{◌≡◌, ◌<◌, ℕ, List}
 use Rattle.sqlite.specs.FileStore.{faults, files, is_shielded, recovers, view}
 use Rattle.sqlite.specs.Held.{Held}
 use Rattle.sqlite.specs.View.{IsQuiet, IsRolledBack}
@@ -24,3 +24,11 @@ pub record IsLeft {D : Type 0} {g : disk.Ghosts D} (conn : Held (FileStore D g))
 
 abbrev pub file_of : {D S : Type 0} {g : disk.Ghosts D} {s : start.Ghosts S} → Guarded D S g s → D
 file_of f = f.file
+
+-- the two files without their guard
+abbrev pub unguarded : {D S : Type 0} {g : disk.Ghosts D} {s : start.Ghosts S} → Files (Guarded D S g s) → Files D
+unguarded files = record { log = file_of files.log; db = file_of files.db }
+
+-- a write to the file was refused
+abbrev pub WasToBeWritten : {D S : Type 0} {g : disk.Ghosts D} {s : start.Ghosts S} → Guarded D S g s → Type 0
+WasToBeWritten f = 0 < f.refused

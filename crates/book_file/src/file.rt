@@ -1,11 +1,14 @@
 //! The file at a path.
-ghost use Rattle.std.specs.Prelude.{IfOk, IfSome, IsOk, IsSome};
-ghost use Rattle.book_file.specs.Found.{HasVerdict};
-ghost use Rattle.book_file.specs.Left.{HoldsStill, IsLeft};
+ghost use Rattle.std.specs.Prelude.{◌≡◌, ◌⊎◌, IfErr, IfOk, IfSome, IsOk, IsSome};
+ghost use Rattle.sqlite.specs.WalFiles.{image_at};
+ghost use Rattle.sqlite_std_file.specs.File.{IsFresh};
+ghost use Rattle.book_file.specs.Files.{InFiles, IsUnread, empty};
+ghost use Rattle.book_file.specs.Found.{HasVerdict, IsFound};
+ghost use Rattle.book_file.specs.Left.{HoldsStill, IsLeft, unguarded};
 
 use crate::book::Book;
 use crate::guarded::Guarded;
-use crate::opening::open_guarded;
+use crate::opening::{GuardedFile, open_guarded};
 use crate::reading::read_book;
 use file_causes::Difference;
 use over_tables::{Cause, FileFault};
@@ -24,13 +27,19 @@ pub type BookWithFiles<S> = (
     Option<sqlite_disk::Files<FileFrom<S>>>,
 );
 
-/// Reads and audits the file at a path, and hands its two files back, where they were opened.
-/// Nothing is written to the database file, and nothing is copied from its log. `start` stands for
-/// what the two held before. Errors: why the file is not read.
+/// Reads and audits the file at a path, and hands its two files back, where they were opened. Where
+/// they returned what was written, the book is that of the database that they held. Nothing is
+/// written to the database file, and nothing is copied from its log. `start` stands for what the
+/// two held before. Errors: why the file is not read.
 pub fn book_in<S: Start>(rt: &HostRuntime, path: &str, start: S) -> BookWithFiles<S>
     ensures verdict { IfOk result.0 (λ book. HasVerdict book.tables book.failing) }
     ensures given { IsOk result.0 → IsSome result.1 }
-    ensures left { IfSome result.1 (λ files. HoldsStill ⟦<FileFrom<S> as Disk>⟧ S.Start.db files.db) }
+    ensures left { IfSome result.1
+        (λ files. HoldsStill ⟦<FileFrom<S> as Disk>⟧ S.Start.db files.db) }
+    ensures found { IfOk result.0 (λ book. IfSome result.1
+        (InFiles ⟦<FileFrom<S> as Disk>⟧ (image_at S.Start) (λ db. IsFound db book))) }
+    ensures refused { IfErr result.0
+        (λ fault. IsUnread ⟦<GuardedFile<S> as Disk>⟧ IsFresh fault result.1) }
 {
     match place_of(rt, path) {
         Place::File { is_sqlite: _ } if is_blank(rt, path) => (Err(empty()), None),
@@ -47,7 +56,9 @@ pub fn book_in<S: Start>(rt: &HostRuntime, path: &str, start: S) -> BookWithFile
 }
 
 // A file with no tables isn't ours.
-fn empty() -> FileFault {
+fn empty() -> FileFault
+    ensures { result ≡ empty }
+{
     let difference = Difference::Empty;
     let cause = Cause::Tables { difference };
     FileFault::NotOurs { cause }
@@ -85,7 +96,12 @@ fn bytes_in<R: Files>(files: &R, path: &str) -> u64 {
 fn book_at<S: Start>(rt: &HostRuntime, path: &str, start: S) -> BookWithFiles<S>
     ensures verdict { IfOk result.0 (λ book. HasVerdict book.tables book.failing) }
     ensures given { IsOk result.0 → IsSome result.1 }
-    ensures left { IfSome result.1 (λ files. HoldsStill ⟦<FileFrom<S> as Disk>⟧ S.Start.db files.db) }
+    ensures left { IfSome result.1
+        (λ files. HoldsStill ⟦<FileFrom<S> as Disk>⟧ S.Start.db files.db) }
+    ensures found { IfOk result.0 (λ book. IfSome result.1
+        (InFiles ⟦<FileFrom<S> as Disk>⟧ (image_at S.Start) (λ db. IsFound db book))) }
+    ensures refused { IfErr result.0
+        (λ fault. IsUnread ⟦<GuardedFile<S> as Disk>⟧ IsFresh fault result.1) }
 {
     match open_guarded(rt, path, start) {
         Ok(mut conn) => {
@@ -107,6 +123,8 @@ fn with_files<D: Disk + Drop, S: Start>(
     ensures verdict { IfOk result.0 (λ book. HasVerdict book.tables book.failing) }
     ensures given { IsOk result.0 → IsSome result.1 }
     ensures left { IfSome result.1 (λ files. HoldsStill D.Disk S.Start.db files.db) }
+    ensures same { (result ≡ (read, Some (unguarded files)))
+        ⊎ (result ≡ (Err FileFault.Storage, None)) }
 {
     let log = files.log.into_file();
     match files.db.into_database() {

@@ -70,7 +70,8 @@ fn read<S: Alter>(
 fn read_ours<S: Alter>(alloc: Global, conn: &mut Connection<S>) -> Result<Finding, Error>
     requires { conn.old.in_transaction ≡ false }
     ensures value { HasCleanDisk (state S.Store conn.new) → IfOk result
-        (λ found. IsTrue (state S.Store conn.old).is_open × Agrees (state S.Store conn.old).now found) }
+        (λ found. IsTrue (state S.Store conn.old).is_open
+        × Agrees (state S.Store conn.old).now found) }
     ensures whole { IfOk result IsWhole }
     ensures kept { HasCleanDisk (state S.Store conn.new)
         → IsKept (state S.Store conn.old) (state S.Store conn.new) }

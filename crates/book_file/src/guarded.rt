@@ -21,7 +21,8 @@ pub struct Guarded<D: Disk, S: Start> {
 }
 
 impl<D: Disk, S: Start> Guarded<D, S> {
-    ghost use Rattle.book_file.specs.Left.{HoldsStill, file_of};
+    ghost use Rattle.std.specs.Prelude.{◌↔◌, IsTrue};
+    ghost use Rattle.book_file.specs.Left.{HoldsStill, WasToBeWritten, file_of};
 
     /// Guards a file that was just opened.
     pub(crate) fn new(file: D, is_log: bool) -> Guarded<D, S>
@@ -37,7 +38,9 @@ impl<D: Disk, S: Start> Guarded<D, S> {
     }
 
     /// Whether a write was refused: SQLite would begin a database in it.
-    pub(crate) fn was_to_be_written(&self) -> bool {
+    pub(crate) fn was_to_be_written(&self) -> bool
+        ensures { IsTrue result ↔ WasToBeWritten self.now }
+    {
         self.refused > 0
     }
 
@@ -45,7 +48,8 @@ impl<D: Disk, S: Start> Guarded<D, S> {
     pub(crate) fn into_database(self) -> Option<D>
     where
         D: Drop,
-        ensures { IfSome result (HoldsStill D.Disk S.Start.db) }
+        ensures file { IfSome result (λ file. file ≡ file_of self) }
+        ensures left { IfSome result (HoldsStill D.Disk S.Start.db) }
     {
         if self.is_log {
             return None;

@@ -1,5 +1,11 @@
 //! A database opened over files of which the database file is never written.
-ghost use Rattle.std.specs.Prelude.{◌≡◌, false, IfOk, IsTrue};
+ghost use Rattle.std.specs.Prelude.{◌≡◌, true, false, IfErr, IfOk, IsTrue, MatchOption};
+ghost use Rattle.sqlite.specs.Files.{file_state};
+ghost use Rattle.sqlite.specs.State.{HasCleanDisk};
+ghost use Rattle.sqlite.specs.WalFiles.{image_at};
+ghost use Rattle.sqlite_std_file.specs.File.{IsFresh};
+ghost use Rattle.book_file.specs.Files.{FailsToOpen, IsIn, opens_none};
+ghost use Rattle.book_file.specs.Left.{file_of};
 
 use crate::guarded::Guarded;
 use sqlite::{Connection, Error, ErrorCode, FileFrom, FileStore, Options};
@@ -21,14 +27,18 @@ pub(crate) fn open_guarded<S: Start>(
     path: &str,
     start: S,
 ) -> Result<Connection<FileStore<GuardedFile<S>>>, (Error, Option<Files<GuardedFile<S>>>)>
-    ensures { IfOk result (λ conn. conn.in_transaction ≡ false) }
+    ensures idle { IfOk result (λ conn. conn.in_transaction ≡ false) }
+    ensures found { IfOk result (λ conn. HasCleanDisk (file_state conn)
+        → IsIn (image_at S.Start) (file_state conn).now) }
+    ensures failed { IfErr result (λ e. MatchOption e.1 (IsTrue (opens_none e.0))
+        (FailsToOpen ⟦<GuardedFile<S> as Disk>⟧ IsFresh e.0)) }
 {
+    let Ok(seeds) = RandomState::new(rt) else {
+        return Err((CANNOT_OPEN, None));
+    };
     let files = match guarded_files(rt, path, start) {
         Ok(files) => files,
         Err(error) => return Err((error, None)),
-    };
-    let Ok(seeds) = RandomState::new(rt) else {
-        return Err((CANNOT_OPEN, Some(files)));
     };
     let options = Options::new(seeds.hash_one(&0u8));
     match Connection::open_files(rt.alloc(), files, options) {
@@ -43,8 +53,13 @@ fn guarded_files<S: Start>(
     path: &str,
     start: S,
 ) -> Result<Files<GuardedFile<S>>, Error>
-    ensures log { IfOk result (λ files. IsTrue (⟦<GuardedFile<S> as Disk>⟧.is_usable files.log)) }
-    ensures db { IfOk result (λ files. IsTrue (⟦<GuardedFile<S> as Disk>⟧.is_usable files.db)) }
+    ensures log { IfOk result
+        (λ files. IsTrue (⟦<GuardedFile<S> as Disk>⟧.is_usable files.log)) }
+    ensures db { IfOk result
+        (λ files. IsTrue (⟦<GuardedFile<S> as Disk>⟧.is_usable files.db)) }
+    ensures fresh { IfOk result
+        (λ files. IsFresh true (file_of files.log) × IsFresh false (file_of files.db)) }
+    ensures none { IfErr result (λ e. IsTrue (opens_none e)) }
 {
     match sqlite_std_file::open(rt, path, start) {
         Ok(files) => Ok(Files {
