@@ -54,7 +54,7 @@ WRITES: dict[str, Callable[[int], Values]] = {
     "add_word": lambda n: (SESSION, 500 + n, 0x9000),
     "set_session": lambda n: (SESSION, 0, n, 0, 0, 255 * n, n),
     "add_reply": lambda n: ("q", 1 + n, ASK, 200, BODY),
-    "add_record": lambda n: (BATCH, 5_000 + n, f"X{n}"),
+    "add_record": lambda n: (BATCH, 5_000 + n, f"X{n}", 0, 0, 0),
     "add_grouping": lambda n: (BATCH, 90_000 + n, 3, bytes(5), 1, 0, 0, bytes(40)),
 }
 

@@ -35,9 +35,10 @@ READS = (
 )
 WRITES = (
     "add_session", "add_blank", "set_record", "add_word", "set_session", "add_batch", "add_record",
-    "add_grouping", "set_raw", "add_reply",
+    "add_records", "add_grouping", "add_groupings", "set_raw", "add_reply",
 )
-RUNNING, GOOD = 1, 4
+WAITING, RUNNING, GOOD = 0, 1, 4
+AT_ONCE = 16  # rows that "add_records" and "add_groupings" add
 
 
 def texts(crate: str) -> dict[str, str]:
@@ -172,16 +173,27 @@ def rows_of(raw: bytes) -> list[tuple]:
     return rows
 
 
+def added(one: str, many: str, rows: list[tuple]) -> list[str]:
+    """The lines that add these rows: sixteen by a statement, and those that are left one by one."""
+    whole = len(rows) - len(rows) % AT_ONCE
+    chunks = [rows[at : at + AT_ONCE] for at in range(0, whole, AT_ONCE)]
+    return [
+        *(line(many, *(value for row in chunk for value in row)) for chunk in chunks),
+        *(line(one, *row) for row in rows[whole:]),
+    ]
+
+
 def importing(kept: Kept, batch: int, name: str, product: str, raw: bytes) -> bytes:
     """An import. The bytes are set last, as ours are: each row that refers to the batch has its
     row read whole."""
-    rows = rows_of(raw)
-    records = max(row[1] for row in rows) + 1
+    rows = [(batch, *row) for row in rows_of(raw)]
+    places = range(max(row[2] for row in rows) + 1)
+    records = [(batch, place, f"R{place}", WAITING, 0, 0) for place in places]
     reads = [line("batch_by_name", name), line("product", product), line("last_batch")]
     writes = [
-        line("add_batch", batch, name, product, b"", records),
-        *(line("add_record", batch, place, f"R{place}") for place in range(records)),
-        *(line("add_grouping", batch, *row) for row in rows),
+        line("add_batch", batch, name, product, b"", len(records)),
+        *added("add_record", "add_records", records),
+        *added("add_grouping", "add_groupings", rows),
         line("set_raw", batch, raw),
     ]
     return arrival(kept, reads, writes)
