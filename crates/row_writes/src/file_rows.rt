@@ -1,5 +1,5 @@
-//! The rows of a batch file and its records, one by one or sixteen by one statement, which takes less
-//! time than sixteen statements. A crash before the transaction's end leaves nothing of them.
+//! The rows of a batch file and its records, one by one or sixteen by one statement, which takes
+//! less time than sixteen statements. A crash before the transaction's end leaves nothing of them.
 ghost use Rattle.std.specs.Prelude.{◌≡◌, IfOk, length, map};
 ghost use Rattle.std.specs.List.{flat_map};
 ghost use Rattle.sqlite.specs.Held.{state};

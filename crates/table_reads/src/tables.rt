@@ -164,8 +164,8 @@ fn read_most<S: Alter>(
 /// What the audit needs of all tables but `version`, where the tables are those of this version:
 /// their rows, in any order and with replies without what was asked and what was answered, and
 /// whether no two rows of a table have one rowid. None where they are not rows of sound contents,
-/// since some row is none of its table's. Nothing is changed, and a crash leaves what it could leave
-/// before.
+/// since some row is none of its table's. Nothing is changed, and a crash leaves what it could
+/// leave before.
 pub fn read_for_audit<S: Alter>(
     alloc: Global,
     conn: &mut Connection<S>,

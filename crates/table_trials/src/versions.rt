@@ -127,8 +127,8 @@ pub(crate) fn send_all<S: JobStore>(
     Ok(())
 }
 
-// Tables of a version, from a store without facts that gets the set-up, what is asked behind it, and
-// a card that is spoiled and made again. Answers their rows in our own tables too.
+// Tables of a version, from a store without facts that gets the set-up, what is asked behind it,
+// and a card that is spoiled and made again. Answers their rows in our own tables too.
 pub(crate) fn turned<S: Alter + Drop>(
     rt: &impl Abort,
     alloc: Global,

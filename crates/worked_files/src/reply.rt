@@ -31,7 +31,8 @@ pub fn reply_bytes(
     let phrase = phrase_of(status);
     let size = body.len();
     let mut text = format!(in alloc;
-        "HTTP/1.1 {status} {phrase}\r\nContent-Type: {kind}\r\nContent-Length: {size}\r\nConnection: close\r\n"
+        "HTTP/1.1 {status} {phrase}\r\nContent-Type: {kind}\r\nContent-Length: {size}\r\n\
+        Connection: close\r\n"
     )?;
     if let Some(method) = allow {
         text.push_str("Allow: ")?;
