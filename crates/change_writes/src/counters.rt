@@ -108,25 +108,38 @@ fn summed(totals: &BatchTotals) -> Option<BatchTotals>
 fn stopped(place: &RecordPlace, stands: SessionState) -> Option<BatchTotals>
     requires { HasRoom place.now }
     ensures { IfSome result (λ totals. (t : Tables)
-        → HasTotals place.now.batch totals (stopped place.now stands t)) }
+        → HasTotals place.now.batch (summed totals) (stopped place.now stands t)) }
 {
     match stands {
         SessionState::Running => None,
-        SessionState::Good => summed(&passed(
-            RecordState::Running,
-            RecordState::Good,
-            &place.totals,
-        )),
-        SessionState::Spoiled => summed(&spoiled(&place.totals)),
+        SessionState::Good => Some(passed(RecordState::Running, RecordState::Good, &place.totals)),
+        SessionState::Spoiled => Some(spoiled(&place.totals)),
     }
 }
 
-// The id of a record's batch with these counters, where they are some.
-fn of_batch(place: &RecordPlace, totals: Option<BatchTotals>) -> Option<(u64, BatchTotals)>
-    ensures { IfSome result (λ it. (it.0 ≡ place.now.batch) × (totals ≡ Some it.1)) }
+// The id of the batch whose counters what is written sets, and these counters without their sum.
+fn moved(writing: &Writing<'_>) -> Option<(u64, BatchTotals)>
+    requires { IsWritable writing.now }
+    ensures totals { IfSome result (λ it. (t : Tables) (entry : EntryValue)
+        → HasTotals it.0 (summed it.1) (rows_written writing.now entry t)) }
+    ensures ranged { IfSome result (λ it. it.0 < 2 ^ 63) }
 {
-    let totals = totals?;
-    Some((place.batch, totals))
+    match writing {
+        Writing::Opens { place, .. } => Some((place.batch, opened(&place.totals))),
+        Writing::AddsLastWord { stands, place, .. } => {
+            Some((place.batch, stopped(place, *stands)?))
+        }
+        Writing::Ends { place, .. } => Some((place.batch, spoiled(&place.totals))),
+        Writing::Remakes { place } => {
+            let remade = passed(RecordState::Failed, RecordState::Waiting, &place.totals);
+            Some((place.batch, remade))
+        }
+        Writing::Withdraws { was, place } => {
+            let withdrawn = passed(*was, RecordState::Withdrawn, &place.totals);
+            Some((place.batch, withdrawn))
+        }
+        _ => None,
+    }
 }
 
 /// The id of the batch whose counters what is written sets, and these counters.
@@ -136,18 +149,6 @@ pub fn counters_after(writing: &Writing<'_>) -> Option<(u64, BatchTotals)>
         → HasTotals it.0 it.1 (rows_written writing.now entry t)) }
     ensures ranged { IfSome result (λ it. it.0 < 2 ^ 63) }
 {
-    match writing {
-        Writing::Opens { place, .. } => of_batch(place, summed(&opened(&place.totals))),
-        Writing::AddsLastWord { stands, place, .. } => of_batch(place, stopped(place, *stands)),
-        Writing::Ends { place, .. } => of_batch(place, summed(&spoiled(&place.totals))),
-        Writing::Remakes { place } => {
-            let remade = passed(RecordState::Failed, RecordState::Waiting, &place.totals);
-            of_batch(place, summed(&remade))
-        }
-        Writing::Withdraws { was, place } => {
-            let withdrawn = passed(*was, RecordState::Withdrawn, &place.totals);
-            of_batch(place, summed(&withdrawn))
-        }
-        _ => None,
-    }
+    let (batch, totals) = moved(writing)?;
+    Some((batch, summed(&totals)?))
 }

@@ -16,93 +16,93 @@ use Rattle.table_rows.specs.Tables.{StoredBatch, Tables, closed_set, totals_of, 
 use Rattle.table_rows.specs.declared.writing.RecordPlace.{RecordPlace}
 use Rattle.table_rows.specs.declared.writing.Writing.{Writing}
 use Rattle.table_rows.specs.declared.writing.Writing.TheVariants as writing
-use Rattle.store_reads.specs.declared.known.BatchCounts.{BatchCounts}
+use Rattle.store_reads.specs.declared.known.BatchCounters.{BatchCounters}
 use Rattle.store_reads.specs.declared.known.Known.{Known}
 use Rattle.store_reads.specs.declared.known.KnownRecord.{KnownRecord}
-use Rattle.store_reads.specs.Counted.{AreCountsIn, leaves_counts}
+use Rattle.store_reads.specs.Counted.{AreCountersIn, leaves_counters}
 use Rattle.store_reads.specs.Fixed.{AreNamedApart, fixed}
-use Rattle.store_reads.specs.Heads.{counts_of}
-use Rattle.store_reads.specs.Known.{AreCountsOf, IsAllKnownIn, IsKnownIn, IsStandingIn, known_counts, known_records, standing_record}
+use Rattle.store_reads.specs.Heads.{counters_of}
+use Rattle.store_reads.specs.Known.{AreCountersOf, IsAllKnownIn, IsKnownIn, IsStandingIn, known_counters, known_records, standing_record}
 use Rattle.store_reads.proofs.Found.{found_some}
 use Rattle.store_reads.proofs.KnownRows.{found_there, id_with_name}
 
 -- ---- behind what is written
 
-abbrev HasThese : BatchCounts → StoredBatch → Type 0
-HasThese counts b = b.id ≡ counts.batch → totals_of b ≡ counts.totals
+abbrev HasThese : BatchCounters → StoredBatch → Type 0
+HasThese counters b = b.id ≡ counters.batch → totals_of b ≡ counters.totals
 
-closed_has : (counts : BatchCounts) (name : List ℕ) (b : StoredBatch) → HasThese counts b → HasThese counts (closed_set name b)
-closed_has counts name b has = elim (cases_Bool (bytes_eq b.name name)) [ inl hit ↦ rw hit has | inr miss ↦ rw miss has ]
+closed_has : (counters : BatchCounters) (name : List ℕ) (b : StoredBatch) → HasThese counters b → HasThese counters (closed_set name b)
+closed_has counters name b has = elim (cases_Bool (bytes_eq b.name name)) [ inl hit ↦ rw hit has | inr miss ↦ rw miss has ]
 
 -- the counters of another batch
-totals_has : (counts : BatchCounts) (id : ℕ) (totals : BatchTotals) → not (id == counts.batch) ≡ true → (b : StoredBatch) → HasThese counts b → HasThese counts (totals_set id totals b)
-totals_has counts id totals other b has = elim (cases_Bool (b.id == id)) [
+totals_has : (counters : BatchCounters) (id : ℕ) (totals : BatchTotals) → not (id == counters.batch) ≡ true → (b : StoredBatch) → HasThese counters b → HasThese counters (totals_set id totals b)
+totals_has counters id totals other b has = elim (cases_Bool (b.id == id)) [
   | inl hit ↦ rw hit (λ same. absurd (grind (arith, nat_tests, hit, same, other)))
   | inr miss ↦ rw miss has
 ]
 
-after : (counts : BatchCounts) (p : RecordPlace) (state : RecordState) (spoiled remakes : ℕ) (totals : BatchTotals) (t : Tables) → not (p.batch == counts.batch) ≡ true → AreCountsIn t counts
-    → AreCountsIn (record_after p state spoiled remakes totals t) counts
-after counts p state spoiled remakes totals t other has =
-    All-map (HasThese counts) (totals_set p.batch totals) t.batches
-    (All-weaker (HasThese counts) (λ b. HasThese counts (totals_set p.batch totals b)) (totals_has counts p.batch totals other) t.batches has)
+after : (counters : BatchCounters) (p : RecordPlace) (state : RecordState) (spoiled remakes : ℕ) (totals : BatchTotals) (t : Tables) → not (p.batch == counters.batch) ≡ true → AreCountersIn t counters
+    → AreCountersIn (record_after p state spoiled remakes totals t) counters
+after counters p state spoiled remakes totals t other has =
+    All-map (HasThese counters) (totals_set p.batch totals) t.batches
+    (All-weaker (HasThese counters) (λ b. HasThese counters (totals_set p.batch totals b)) (totals_has counters p.batch totals other) t.batches has)
 
-stops : (counts : BatchCounts) (p : RecordPlace) (stands : SessionState) (t : Tables) → not (p.batch == counts.batch) ≡ true → AreCountsIn t counts → AreCountsIn (stopped p stands t) counts
-stops counts p session.Running t other has = has
-stops counts p session.Good t other has = after counts p rec.Good p.spoiled p.remakes (more rec.Good (less rec.Running p.totals)) t other has
-stops counts p session.Spoiled t other has = after counts p rec.Failed (p.spoiled + 1) p.remakes (one_spoiled (more rec.Failed (less rec.Running p.totals))) t other has
+stops : (counters : BatchCounters) (p : RecordPlace) (stands : SessionState) (t : Tables) → not (p.batch == counters.batch) ≡ true → AreCountersIn t counters → AreCountersIn (stopped p stands t) counters
+stops counters p session.Running t other has = has
+stops counters p session.Good t other has = after counters p rec.Good p.spoiled p.remakes (more rec.Good (less rec.Running p.totals)) t other has
+stops counters p session.Spoiled t other has = after counters p rec.Failed (p.spoiled + 1) p.remakes (one_spoiled (more rec.Failed (less rec.Running p.totals))) t other has
 
-counts_after : (w : Writing) (entry : Entry) (t : Tables) (counts : BatchCounts) → leaves_counts w counts.batch ≡ true → AreCountsIn t counts → AreCountsIn (rows_written w entry t) counts
-counts_after writing.Nothing entry t counts leaves has = has
-counts_after (writing.AddsProduct p) entry t counts leaves has = has
-counts_after (writing.AddsLot l) entry t counts leaves has = has
-counts_after (writing.AddsBatch b) entry t counts leaves has = absurd (cc)
-counts_after (writing.Opens s p) entry t counts leaves has = after counts p rec.Running p.spoiled p.remakes (one_opened (more rec.Running (less rec.Waiting p.totals))) t leaves has
-counts_after (writing.AddsWord w) entry t counts leaves has = has
-counts_after (writing.AddsLastWord w stands p) entry t counts leaves has = stops counts p stands (word_rows_after w stands t) leaves has
-counts_after (writing.Ends s p) entry t counts leaves has = stops counts p session.Spoiled t leaves has
-counts_after (writing.Discards blank lot discarded) entry t counts leaves has = has
-counts_after (writing.Remakes p) entry t counts leaves has = after counts p rec.Waiting p.spoiled (p.remakes + 1) (more rec.Waiting (less rec.Failed p.totals)) t leaves has
-counts_after (writing.Withdraws was p) entry t counts leaves has = after counts p rec.Withdrawn p.spoiled p.remakes (more rec.Withdrawn (less was p.totals)) t leaves has
-counts_after (writing.Closes b) entry t counts leaves has =
-    All-map (HasThese counts) (closed_set b) t.batches (All-weaker (HasThese counts) (λ x. HasThese counts (closed_set b x)) (closed_has counts b) t.batches has)
-counts_after (writing.Releases client upto) entry t counts leaves has = has
+counters_after : (w : Writing) (entry : Entry) (t : Tables) (counters : BatchCounters) → leaves_counters w counters.batch ≡ true → AreCountersIn t counters → AreCountersIn (rows_written w entry t) counters
+counters_after writing.Nothing entry t counters leaves has = has
+counters_after (writing.AddsProduct p) entry t counters leaves has = has
+counters_after (writing.AddsLot l) entry t counters leaves has = has
+counters_after (writing.AddsBatch b) entry t counters leaves has = absurd (cc)
+counters_after (writing.Opens s p) entry t counters leaves has = after counters p rec.Running p.spoiled p.remakes (one_opened (more rec.Running (less rec.Waiting p.totals))) t leaves has
+counters_after (writing.AddsWord w) entry t counters leaves has = has
+counters_after (writing.AddsLastWord w stands p) entry t counters leaves has = stops counters p stands (word_rows_after w stands t) leaves has
+counters_after (writing.Ends s p) entry t counters leaves has = stops counters p session.Spoiled t leaves has
+counters_after (writing.Discards blank lot discarded) entry t counters leaves has = has
+counters_after (writing.Remakes p) entry t counters leaves has = after counters p rec.Waiting p.spoiled (p.remakes + 1) (more rec.Waiting (less rec.Failed p.totals)) t leaves has
+counters_after (writing.Withdraws was p) entry t counters leaves has = after counters p rec.Withdrawn p.spoiled p.remakes (more rec.Withdrawn (less was p.totals)) t leaves has
+counters_after (writing.Closes b) entry t counters leaves has =
+    All-map (HasThese counters) (closed_set b) t.batches (All-weaker (HasThese counters) (λ x. HasThese counters (closed_set b x)) (closed_has counters b) t.batches has)
+counters_after (writing.Releases client upto) entry t counters leaves has = has
 
 -- those that are left
-pub left_after : (w : Writing) (entry : Entry) (t : Tables) (xs : List BatchCounts) → All (AreCountsIn t) xs → All (AreCountsIn (rows_written w entry t)) (filter (λ s. leaves_counts w s.batch) xs)
+pub left_after : (w : Writing) (entry : Entry) (t : Tables) (xs : List BatchCounters) → All (AreCountersIn t) xs → All (AreCountersIn (rows_written w entry t)) (filter (λ s. leaves_counters w s.batch) xs)
 left_after w entry t xs has = λ k d low.
-    counts_after w entry t _ (filter_passes (λ s. leaves_counts w s.batch) xs k d low) (All-filter (λ s. leaves_counts w s.batch) (AreCountsIn t) xs has k d low)
+    counters_after w entry t _ (filter_passes (λ s. leaves_counters w s.batch) xs k d low) (All-filter (λ s. leaves_counters w s.batch) (AreCountersIn t) xs has k d low)
 
 -- ---- beside the rest
 
-pub known_with_counts : (t : Tables) (old new : Known) (counts : BatchCounts) → IsAllKnownIn t old → AreCountsIn t counts → known_records new ≡ known_records old → standing_record new ≡ standing_record old
-    → ((s : BatchCounts) → Contains (known_counts new) s → (s ≡ counts) ⊎ Contains (known_counts old) s) → IsAllKnownIn t new
-known_with_counts t old new counts all has records standing each = record {
+pub known_with_counters : (t : Tables) (old new : Known) (counters : BatchCounters) → IsAllKnownIn t old → AreCountersIn t counters → known_records new ≡ known_records old → standing_record new ≡ standing_record old
+    → ((s : BatchCounters) → Contains (known_counters new) s → (s ≡ counters) ⊎ Contains (known_counters old) s) → IsAllKnownIn t new
+known_with_counters t old new counters all has records standing each = record {
   records = λ apart. subst (All (IsKnownIn (fixed t))) (sym records) (all.records apart);
   standing = λ apart. subst (λ o. IfSome o (IsStandingIn t)) (sym standing) (all.standing apart);
-  counted = All-weaker (Contains (known_counts new)) (AreCountsIn t)
+  counted = All-weaker (Contains (known_counters new)) (AreCountersIn t)
       (λ s there. elim (each s there) [
-        | inl same ↦ subst (AreCountsIn t) (sym same) has
-        | inr before ↦ All-contains (AreCountsIn t) (known_counts old) s all.counted before
+        | inl same ↦ subst (AreCountersIn t) (sym same) has
+        | inr before ↦ All-contains (AreCountersIn t) (known_counters old) s all.counted before
       ])
-      (known_counts new) (All-contains_itself (known_counts new));
+      (known_counters new) (All-contains_itself (known_counters new));
 }
 
 -- ---- by the name of a batch of which a record is known
 
-pub counts_of_known : (known : Known) (b : List ℕ) (k : KnownRecord) → Contains (known_records known) k → k.batch ≡ b
-    → (o : Option BatchCounts) → IfSome o (λ counts. Contains (known_counts known) counts) → IfSome o (λ counts. counts.batch ≡ k.id) → IfSome o (AreCountsOf known b)
-counts_of_known known b k there named None one two = tt
-counts_of_known known b k there named (Some counts) one two = (one, (k, there, named, sym two))
+pub counters_of_known : (known : Known) (b : List ℕ) (k : KnownRecord) → Contains (known_records known) k → k.batch ≡ b
+    → (o : Option BatchCounters) → IfSome o (λ counters. Contains (known_counters known) counters) → IfSome o (λ counters. counters.batch ≡ k.id) → IfSome o (AreCountersOf known b)
+counters_of_known known b k there named None one two = tt
+counters_of_known known b k there named (Some counters) one two = (one, (k, there, named, sym two))
 
-pub counts_told : (t : Tables) (known : Known) → AreNamedApart (fixed t) → IsAllKnownIn t known → (b : List ℕ) (counts : BatchCounts) → AreCountsOf known b counts
-    → Some counts ≡ option_map counts_of (find (is_batch_named b) t.batches)
-counts_told t known apart all b counts is =
+pub counters_told : (t : Tables) (known : Known) → AreNamedApart (fixed t) → IsAllKnownIn t known → (b : List ℕ) (counters : BatchCounters) → AreCountersOf known b counters
+    → Some counters ≡ option_map counters_of (find (is_batch_named b) t.batches)
+counters_told t known apart all b counters is =
     let k = is.1.0 in
     let it : IsKnownIn (fixed t) k = All-contains (IsKnownIn (fixed t)) (known_records known) k (all.records apart) is.1.1 in
     let row = found_some (λ (x : StoredBatch). x.id) (find (is_batch_named b) t.batches) k.id
     (subst (λ n. Some k.id ≡ option_map (λ (x : StoredBatch). x.id) (find (is_batch_named n) t.batches)) is.1.2 (id_with_name t k it apart)) in
-    let id : row.0.id ≡ counts.batch = sym row.2 ∙ is.1.3 in
-    let has : AreCountsIn t counts = All-contains (AreCountsIn t) (known_counts known) counts all.counted is.0 in
-    let totals : totals_of row.0 ≡ counts.totals = All-contains (HasThese counts) t.batches row.0 has (found_there (is_batch_named b) t.batches row.0 row.1) id in
+    let id : row.0.id ≡ counters.batch = sym row.2 ∙ is.1.3 in
+    let has : AreCountersIn t counters = All-contains (AreCountersIn t) (known_counters known) counters all.counted is.0 in
+    let totals : totals_of row.0 ≡ counters.totals = All-contains (HasThese counters) t.batches row.0 has (found_there (is_batch_named b) t.batches row.0 row.1) id in
     rw (row.1, id, totals) refl

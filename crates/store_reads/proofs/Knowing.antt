@@ -15,8 +15,8 @@ use Rattle.store_reads.specs.declared.known.Known.{Known}
 use Rattle.store_reads.specs.declared.known.KnownRecord.{KnownRecord}
 use Rattle.store_reads.specs.declared.known.StandingRecord.{StandingRecord}
 use Rattle.store_reads.specs.Fixed.{AreNamedApart, fixed, leaves_fixed}
-use Rattle.store_reads.specs.Counted.{AreCountsIn}
-use Rattle.store_reads.specs.Known.{AreKnownIn, HasKnown, IsAllKnownIn, IsKnownIn, Knows, IsStandingIn, known_counts, known_records, standing_record}
+use Rattle.store_reads.specs.Counted.{AreCountersIn}
+use Rattle.store_reads.specs.Known.{AreKnownIn, HasKnown, IsAllKnownIn, IsKnownIn, Knows, IsStandingIn, known_counters, known_records, standing_record}
 use Rattle.store_reads.proofs.Fixing.{written_fixed}
 use Rattle.store_reads.proofs.ReadContents.{ShowsRows}
 
@@ -31,8 +31,8 @@ knows_after a b known looks knows clean live =
 -- what was read of a record, of the rows as they stood, is known beside the rest
 pub knows_more : (a b c : State) (old new : Known) (read : KnownRecord) → Looks a b → Looks b c
     → (HasCleanDisk b → ShowsRows a (λ t. AreNamedApart (fixed t) → IsAllKnownIn t old → IsKnownIn (fixed t) read)) → Knows a old
-    → ((k : KnownRecord) → Contains (known_records new) k → (k ≡ read) ⊎ Contains (known_records old) k) → standing_record new ≡ standing_record old → known_counts new ≡ known_counts old → Knows c new
-knows_more a b c old new read one two shows knows each same counts clean live =
+    → ((k : KnownRecord) → Contains (known_records new) k → (k ≡ read) ⊎ Contains (known_records old) k) → standing_record new ≡ standing_record old → known_counters new ≡ known_counters old → Knows c new
+knows_more a b c old new read one two shows knows each same counters clean live =
     let early : HasCleanDisk b = omega (arith, clean, two.survives.clean) in
     let first : HasCleanDisk a = omega (arith, early, one.survives.clean) in
     let k = two.kept clean in
@@ -50,15 +50,15 @@ knows_more a b c old new read one two shows knows each same counts clean live =
               ])
               (known_records new) (All-contains_itself (known_records new));
           standing = λ apart. subst (λ o. IfSome o (IsStandingIn it.0)) (sym same) (it.2.standing apart);
-          counted = subst (All (AreCountsIn it.0)) (sym counts) it.2.counted;
+          counted = subst (All (AreCountersIn it.0)) (sym counters) it.2.counted;
         },
       ));
     }
 
 -- and how a record stands, in place of another
 pub knows_standing : (a b : State) (old new : Known) (id : ℕ) (card : RecordAt) → Looks a b → (HasCleanDisk b → ShowsRows a (λ t. AreNamedApart (fixed t) → IsStandingIn t (let s : StandingRecord = record { batch = id; card = card } in s)))
-    → Knows a old → known_records new ≡ known_records old → standing_record new ≡ Some (let s : StandingRecord = record { batch = id; card = card } in s) → known_counts new ≡ known_counts old → Knows b new
-knows_standing a b old new id card looks shows knows same is counts clean live =
+    → Knows a old → known_records new ≡ known_records old → standing_record new ≡ Some (let s : StandingRecord = record { batch = id; card = card } in s) → known_counters new ≡ known_counters old → Knows b new
+knows_standing a b old new id card looks shows knows same is counters clean live =
     let k = looks.kept clean in
     let early : HasCleanDisk a = omega (arith, clean, looks.survives.clean) in
     record {
@@ -68,7 +68,7 @@ knows_standing a b old new id card looks shows knows same is counts clean live =
         record {
           records = subst (AreKnownIn it.0) (sym same) it.2.records;
           standing = λ apart. subst (λ o. IfSome o (IsStandingIn it.0)) (sym is) ((shows clean).1 it.0 it.1 apart);
-          counted = subst (All (AreCountsIn it.0)) (sym counts) it.2.counted;
+          counted = subst (All (AreCountersIn it.0)) (sym counters) it.2.counted;
         },
       ));
     }

@@ -29,13 +29,13 @@ use Rattle.row_reads.specs.CardDecoding.{grouping_at, place_of, record_at}
 use Rattle.row_reads.specs.Extremes.{IsLeastBy}
 use Rattle.sql_rows.specs.Image.{IsImage}
 use Rattle.sql_rows.proofs.OneImage.{one_image}
-use Rattle.store_reads.specs.declared.known.BatchCounts.{BatchCounts}
+use Rattle.store_reads.specs.declared.known.BatchCounters.{BatchCounters}
 use Rattle.store_reads.specs.declared.known.Known.{Known}
 use Rattle.store_reads.specs.declared.known.KnownRecord.{KnownRecord}
 use Rattle.store_reads.specs.declared.known.StandingRecord.{StandingRecord}
-use Rattle.store_reads.specs.Counted.{AreCountsIn}
+use Rattle.store_reads.specs.Counted.{AreCountersIn}
 use Rattle.store_reads.specs.Fixed.{AreNamedApart, Fixed, FixedBatch, FixedRecord, fixed, fixed_batch, fixed_record, is_named, is_named_in}
-use Rattle.store_reads.specs.Known.{AreHeadsAt, IsAllKnownIn, IsKnownIn, IsStandingOf, Knows, IsStandingIn, known_counts, known_heads, known_records, standing_of, standing_record}
+use Rattle.store_reads.specs.Known.{AreHeadsAt, IsAllKnownIn, IsKnownIn, IsStandingOf, Knows, IsStandingIn, known_counters, known_heads, known_records, standing_of, standing_record}
 use Rattle.store_reads.specs.declared.plans.SegmentHead.{SegmentHead}
 use Rattle.store_reads.specs.declared.segments.BatchProduct.{BatchProduct}
 use Rattle.store_reads.specs.Segments.{product_in, product_under}
@@ -89,8 +89,8 @@ module _ (t u : Tables) (same : HaveSameRows t u) where
   standing_moved None there = tt
   standing_moved (Some s) there = Contains-permutation _ _ _ (IsPermutation-map standing_of _ _ same.records) there
 
-  counted_moved : (counts : BatchCounts) → AreCountsIn t counts → AreCountsIn u counts
-  counted_moved counts has = All-permutation (λ (b : StoredBatch). b.id ≡ counts.batch → totals_of b ≡ counts.totals) t.batches u.batches same.batches has
+  counted_moved : (counters : BatchCounters) → AreCountersIn t counters → AreCountersIn u counters
+  counted_moved counters has = All-permutation (λ (b : StoredBatch). b.id ≡ counters.batch → totals_of b ≡ counters.totals) t.batches u.batches same.batches has
 
 -- all that is known is so of whatever rows the database has
 pub all_known_in : (s : State) (known : Known) → Knows s known → HasCleanDisk s → IsTrue s.is_open → (t : Tables) → IsImage t s.now → ∥ IsAllKnownIn t known ∥₁
@@ -101,7 +101,7 @@ all_known_in s known knows clean live t is =
     record {
       records = λ apart. All-weaker (IsKnownIn (fixed it.0)) (IsKnownIn (fixed t)) (known_moved it.0 t there) (known_records known) (it.2.records (names_moved t it.0 back apart));
       standing = λ apart. standing_moved it.0 t there (standing_record known) (it.2.standing (names_moved t it.0 back apart));
-      counted = All-weaker (AreCountsIn it.0) (AreCountsIn t) (counted_moved it.0 t there) (known_counts known) it.2.counted;
+      counted = All-weaker (AreCountersIn it.0) (AreCountersIn t) (counted_moved it.0 t there) (known_counters known) it.2.counted;
     })
 
 -- so is each record

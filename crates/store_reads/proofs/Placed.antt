@@ -17,19 +17,19 @@ use Rattle.row_laws.specs.RowValues.{place_of}
 use Rattle.image_laws.specs.WritingOf.{IsPlaceOf, IsPlaceOfSession}
 use Rattle.image_laws.specs.Image.{stored_batches, stored_lots, stored_records}
 use Rattle.step_laws.specs.Sums.{discarded_in}
-use Rattle.store_reads.specs.declared.known.BatchCounts.{BatchCounts}
-use Rattle.store_reads.specs.Heads.{counts_of, place_at}
+use Rattle.store_reads.specs.declared.known.BatchCounters.{BatchCounters}
+use Rattle.store_reads.specs.Heads.{counters_of, place_at}
 use Rattle.store_reads.proofs.Found.{found_some}
 
 module _ (f : Facts) where
   pub record_placed : (b r : List ℕ) → ((row : StoredBatch) (x : StoredRecord) → find (is_batch_named b) (stored_batches f) ≡ Some row → find (is_record_named row.id r) (stored_records f) ≡ Some x → IsPlaceOf f b r (place_of row x))
-      → (counts : BatchCounts) → Some counts ≡ option_map counts_of (find (is_batch_named b) (stored_batches f)) → (y : RecordAt) → Some y ≡ option_map record_at (find (is_record_named counts.batch r) (stored_records f))
-      → IsPlaceOf f b r (place_at counts y)
-  record_placed b r law counts one y two =
-      let row = found_some counts_of (find (is_batch_named b) (stored_batches f)) counts one in
-      let x = found_some record_at (find (is_record_named counts.batch r) (stored_records f)) y two in
-      let x_at = subst (λ (k : BatchCounts). find (is_record_named k.batch r) (stored_records f) ≡ Some x.0) row.2 x.1 in
-      subst (λ (z : RecordAt). IsPlaceOf f b r (place_at counts z)) (sym x.2) (subst (λ (k : BatchCounts). IsPlaceOf f b r (place_at k (record_at x.0))) (sym row.2) (law row.0 x.0 row.1 x_at))
+      → (counters : BatchCounters) → Some counters ≡ option_map counters_of (find (is_batch_named b) (stored_batches f)) → (y : RecordAt) → Some y ≡ option_map record_at (find (is_record_named counters.batch r) (stored_records f))
+      → IsPlaceOf f b r (place_at counters y)
+  record_placed b r law counters one y two =
+      let row = found_some counters_of (find (is_batch_named b) (stored_batches f)) counters one in
+      let x = found_some record_at (find (is_record_named counters.batch r) (stored_records f)) y two in
+      let x_at = subst (λ (k : BatchCounters). find (is_record_named k.batch r) (stored_records f) ≡ Some x.0) row.2 x.1 in
+      subst (λ (z : RecordAt). IsPlaceOf f b r (place_at counters z)) (sym x.2) (subst (λ (k : BatchCounters). IsPlaceOf f b r (place_at k (record_at x.0))) (sym row.2) (law row.0 x.0 row.1 x_at))
 
   pub session_placed : (s : ℕ) (row : SessionRow) → Some row ≡ session_row_of f s → (p : RecordPlace) → IsPlaceOf f row.batch row.rec p → IsPlaceOfSession f s p
   session_placed s row is p placed =

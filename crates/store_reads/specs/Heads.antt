@@ -7,7 +7,7 @@ use Rattle.row_reads.specs.declared.batches.BatchAt.{BatchAt}
 use Rattle.row_reads.specs.declared.records.RecordAt.{RecordAt}
 use Rattle.table_rows.specs.declared.writing.RecordPlace.{RecordPlace}
 use Rattle.table_rows.specs.Tables.{StoredBatch, totals_of}
-use Rattle.store_reads.specs.declared.known.BatchCounts.{BatchCounts}
+use Rattle.store_reads.specs.declared.known.BatchCounters.{BatchCounters}
 use Rattle.row_laws.specs.RowValues.{no_totals}
 
 abbrev pub row_of : BatchAt → BatchRow
@@ -23,13 +23,13 @@ abbrev pub is_over : BatchTotals → Bool
 is_over totals = (totals.waiting == 0) && ((totals.running == 0) && (totals.failed == 0))
 
 -- the counters of a batch, by what is read of it
-abbrev pub counts_at : BatchHead → BatchCounts
-counts_at h = record { batch = h.id; totals = h.totals }
+abbrev pub counters_at : BatchHead → BatchCounters
+counters_at h = record { batch = h.id; totals = h.totals }
 
 -- and by its row
-abbrev pub counts_of : StoredBatch → BatchCounts
-counts_of b = record { batch = b.id; totals = totals_of b }
+abbrev pub counters_of : StoredBatch → BatchCounters
+counters_of b = record { batch = b.id; totals = totals_of b }
 
 -- where a record of the batch stands, with what is read of the record
-abbrev pub place_at : BatchCounts → RecordAt → RecordPlace
-place_at counts r = record { batch = counts.batch; place = r.place; spoiled = r.spoiled; remakes = r.remakes; totals = counts.totals }
+abbrev pub place_at : BatchCounters → RecordAt → RecordPlace
+place_at counters r = record { batch = counters.batch; place = r.place; spoiled = r.spoiled; remakes = r.remakes; totals = counters.totals }

@@ -14,12 +14,12 @@ use Rattle.row_reads.specs.Extremes.{AreSorted}
 use Rattle.table_rows.specs.Keys.{is_grouping_at}
 use Rattle.table_rows.specs.Tables.{StoredRecord, Tables}
 use Rattle.sql_rows.specs.Image.{IsImage}
-use Rattle.store_reads.specs.declared.known.BatchCounts.{BatchCounts}
+use Rattle.store_reads.specs.declared.known.BatchCounters.{BatchCounters}
 use Rattle.store_reads.specs.declared.known.Known.{Known}
 use Rattle.store_reads.specs.declared.known.KnownRecord.{KnownRecord}
 use Rattle.store_reads.specs.declared.known.StandingRecord.{StandingRecord}
 use Rattle.store_reads.specs.declared.plans.SegmentHead.{SegmentHead}
-use Rattle.store_reads.specs.Counted.{AreCountsIn}
+use Rattle.store_reads.specs.Counted.{AreCountersIn}
 use Rattle.store_reads.specs.Fixed.{AreNamedApart, Fixed, fixed}
 use Rattle.store_reads.specs.Segments.{heads_of}
 
@@ -30,22 +30,22 @@ known_records known = known.records.items
 abbrev pub standing_record : Known → Option StandingRecord
 standing_record known = known.standing
 
-abbrev pub known_counts : Known → List BatchCounts
-known_counts known = known.counted.items
+abbrev pub known_counters : Known → List BatchCounters
+known_counters known = known.counted.items
 
 -- the record of this name in the batch with this id stands so
 abbrev pub IsStandingOf : Known → ℕ → List ℕ → RecordAt → Type 0
 IsStandingOf known id n card = (standing_record known ≡ Some (record { batch = id; card = card })) × (card.name ≡ n)
 
 -- these are the counters of the batch of this name, of which a record is known
-abbrev pub AreCountsOf : Known → List ℕ → BatchCounts → Type 0
-AreCountsOf known b counts =
-    Contains (known_counts known) counts × ((k : KnownRecord) × Contains (known_records known) k × (k.batch ≡ b) × (k.id ≡ counts.batch))
+abbrev pub AreCountersOf : Known → List ℕ → BatchCounters → Type 0
+AreCountersOf known b counters =
+    Contains (known_counters known) counters × ((k : KnownRecord) × Contains (known_records known) k × (k.batch ≡ b) × (k.id ≡ counters.batch))
 
 pub record KnowsNothing (known : Known) : Type 0 where
   pub records : known_records known ≡ []
   pub standing : standing_record known ≡ None
-  pub counted : known_counts known ≡ []
+  pub counted : known_counters known ≡ []
 
 -- it is the record of this name in the batch of this name
 abbrev pub IsNamed : List ℕ → List ℕ → KnownRecord → Type 0
@@ -84,7 +84,7 @@ IsStandingIn t s = Contains (map standing_of t.records) s
 pub record IsAllKnownIn (t : Tables) (known : Known) : Type 0 where
   pub records : AreKnownIn t (known_records known)
   pub standing : AreNamedApart (fixed t) → IfSome (standing_record known) (IsStandingIn t)
-  pub counted : All (AreCountsIn t) (known_counts known)
+  pub counted : All (AreCountersIn t) (known_counters known)
 
 -- the database has rows in which all that is known is so
 pub record HasKnown (db : Database) (known : Known) : Type 0 where

@@ -8,11 +8,11 @@ ghost use Rattle.image_laws.specs.WritingOf.{IsOfWord, IsPlaceOf, IsPlaceOfSessi
 ghost use Rattle.table_rows.specs.Keys.{is_batch_named};
 ghost use Rattle.table_rows.specs.declared.writing.Writing.TheVariants.{AddsBatch};
 ghost use Rattle.row_reads.specs.Reads.{Looks};
-ghost use Rattle.store_reads.specs.Heads.{counts_at, counts_of, place_at};
+ghost use Rattle.store_reads.specs.Heads.{counters_at, counters_of, place_at};
 ghost use Rattle.store_reads.specs.Known.{Knows};
 ghost use Rattle.store_reads.specs.ReadsContents.{GivesContents, ReadsContents};
 
-use crate::known::{BatchCounts, Known};
+use crate::known::{BatchCounters, Known};
 use crate::sessions::session;
 use job_facts::{Change, NewBatch, NewWord, SessionState};
 use row_reads::{BatchHead, RecordAt, batch_head, record_named};
@@ -22,49 +22,49 @@ use table_rows::{RecordPlace, Writing};
 
 // ---- records
 
-fn place_at(counts: &BatchCounts, card: &RecordAt) -> RecordPlace
-    ensures { result ≡ place_at counts.now card.now }
+fn place_at(counters: &BatchCounters, card: &RecordAt) -> RecordPlace
+    ensures { result ≡ place_at counters.now card.now }
 {
     RecordPlace {
-        batch: counts.batch,
+        batch: counters.batch,
         place: card.place,
         spoiled: card.spoiled,
         remakes: card.remakes,
-        totals: counts.totals,
+        totals: counters.totals,
     }
 }
 
 // The counters of a batch that was read.
-fn counts_at(head: Option<BatchHead>) -> Option<BatchCounts>
-    ensures { result ≡ option_map counts_at head }
+fn counters_at(head: Option<BatchHead>) -> Option<BatchCounters>
+    ensures { result ≡ option_map counters_at head }
 {
-    head.map(|head| BatchCounts {
+    head.map(|head| BatchCounters {
         batch: head.id,
         totals: head.totals,
     })
 }
 
 // The counters of the batch of this name. Its row is not read where they are known.
-fn counts_of<S: Alter>(
+fn counters_of<S: Alter>(
     conn: &mut Connection<S>,
     known: &Known,
     batch: &Name,
-) -> Result<Option<BatchCounts>, Error>
+) -> Result<Option<BatchCounters>, Error>
     requires idle { conn.old.in_transaction ≡ false }
     requires knows { Knows (state S.Store conn.old) known.now }
     ensures value { GivesContents (state S.Store conn.old) (state S.Store conn.new) result
-        (λ c found. found ≡ option_map counts_of
+        (λ c found. found ≡ option_map counters_of
         (find (is_batch_named batch.now) (stored_batches c.facts))) }
-    ensures ranged { IfOk result (λ found. IfSome found (λ counts. counts.batch < 2 ^ 63)) }
+    ensures ranged { IfOk result (λ found. IfSome found (λ counters. counters.batch < 2 ^ 63)) }
     ensures looks { Looks (state S.Store conn.old) (state S.Store conn.new) }
 {
     row_laws::batches_by_name();
     row_laws::records_by_name();
-    if let Some(counts) = known.counts(batch) {
-        return Ok(Some(counts));
+    if let Some(counters) = known.counters(batch) {
+        return Ok(Some(counters));
     }
     let head = batch_head(conn, batch)?;
-    Ok(counts_at(head))
+    Ok(counters_at(head))
 }
 
 // Where this record of a batch stands. Its row is not read where it is known how it stands.
@@ -82,16 +82,16 @@ fn place_of<S: Alter>(
 {
     row_laws::batches_by_name();
     row_laws::records_by_name();
-    let Some(counts) = counts_of(conn, known, batch)? else {
+    let Some(counters) = counters_of(conn, known, batch)? else {
         return Err(Error::InvalidQuery);
     };
-    if let Some(card) = known.stands(counts.batch, rec) {
-        return Ok(place_at(&counts, card));
+    if let Some(card) = known.stands(counters.batch, rec) {
+        return Ok(place_at(&counters, card));
     }
-    let Some(card) = record_named(conn, counts.batch, rec)? else {
+    let Some(card) = record_named(conn, counters.batch, rec)? else {
         return Err(Error::InvalidQuery);
     };
-    Ok(place_at(&counts, &card))
+    Ok(place_at(&counters, &card))
 }
 
 // Where the record of a session stands.

@@ -5,7 +5,7 @@ ghost use Rattle.std.specs.Prelude.{◌≡◌, ◌<◌, ◌^◌, IfSome};
 ghost use Rattle.std.proofs.Props.{props};
 ghost use Rattle.store_data.specs.Sequence.{IsProduct};
 ghost use Rattle.row_reads.specs.CardDecoding.{IsRecordAt};
-ghost use Rattle.store_reads.specs.Counted.{leaves_counts};
+ghost use Rattle.store_reads.specs.Counted.{leaves_counters};
 ghost use Rattle.store_reads.specs.Fixed.{leaves_fixed};
 
 use crate::plans::SegmentHead;
@@ -42,7 +42,7 @@ pub struct StandingRecord {
 
 /// The counters of the batch with this id.
 #[derive(Clone, Copy)]
-pub struct BatchCounts {
+pub struct BatchCounters {
     pub(crate) batch: u64,
     pub(crate) totals: BatchTotals,
 }
@@ -53,11 +53,11 @@ pub struct BatchCounts {
 pub struct Known {
     records: Vec<KnownRecord>,
     standing: Option<StandingRecord>,
-    counted: Vec<BatchCounts>,
+    counted: Vec<BatchCounters>,
     ghost standing_in_range: { IfSome standing (λ s. IsRecordAt s.card) } by { Prim.hlevel props },
 }
 
-/// How many records are kept at once, and the counters of how many batches. Each running machine
+/// So many records are kept at most, and the counters of so many batches. Each running machine
 /// works on one record.
 const MOST: usize = 64;
 
@@ -66,10 +66,10 @@ impl Known {
     ghost use Rattle.job_facts.specs.Contents.{Entry};
     ghost use Rattle.table_rows.specs.After.{rows_written};
     ghost use Rattle.table_rows.specs.Tables.{Tables};
-    ghost use Rattle.store_reads.specs.Known.{AreCountsOf, IsAllKnownIn, IsStandingOf};
-    ghost use Rattle.store_reads.specs.Known.{KnowsNothing, known_counts, known_records};
+    ghost use Rattle.store_reads.specs.Known.{AreCountersOf, IsAllKnownIn, IsStandingOf};
+    ghost use Rattle.store_reads.specs.Known.{KnowsNothing, known_counters, known_records};
     ghost use Rattle.store_reads.specs.Known.{standing_record};
-    ghost use Rattle.store_reads.specs.declared.known.BatchCounts.{BatchCounts as BatchCountsValue};
+    ghost use Rattle.store_reads.specs.declared.known.BatchCounters.{BatchCounters as Counters};
     ghost use Rattle.store_reads.specs.declared.known.KnownRecord.{KnownRecord as KnownRecordValue};
 
     /// None.
@@ -136,25 +136,25 @@ impl Known {
     }
 
     // The counters of the batch with this id.
-    fn counts_at(&self, id: u64) -> Option<BatchCounts>
-        ensures known { IfSome result (λ counts. Contains (known_counts self.now) counts) }
-        ensures id { IfSome result (λ counts. counts.batch ≡ id) }
+    fn counters_at(&self, id: u64) -> Option<BatchCounters>
+        ensures known { IfSome result (λ counters. Contains (known_counters self.now) counters) }
+        ensures id { IfSome result (λ counters. counters.batch ≡ id) }
     {
-        for counts in &self.counted {
-            if counts.batch == id {
-                return Some(*counts);
+        for counters in &self.counted {
+            if counters.batch == id {
+                return Some(*counters);
             }
         }
         None
     }
 
     /// The counters of the batch of this name, of which a record is known.
-    pub(crate) fn counts(&self, batch: &Name) -> Option<BatchCounts>
-        ensures known { IfSome result (AreCountsOf self.now batch.now) }
-        ensures ranged { IfSome result (λ counts. counts.batch < 2 ^ 63) }
+    pub(crate) fn counters(&self, batch: &Name) -> Option<BatchCounters>
+        ensures known { IfSome result (AreCountersOf self.now batch.now) }
+        ensures ranged { IfSome result (λ counters. counters.batch < 2 ^ 63) }
     {
         let record = self.of_batch(batch)?;
-        self.counts_at(record.id)
+        self.counters_at(record.id)
     }
 
     /// Keeps a record, unless one of its name is kept. Of too many the oldest goes. Where there is
@@ -163,7 +163,7 @@ impl Known {
         ensures records { (k : KnownRecordValue) → Contains (known_records self.new) k
             → (k ≡ read) ⊎ Contains (known_records self.old) k }
         ensures standing { standing_record self.new ≡ standing_record self.old }
-        ensures counted { known_counts self.new ≡ known_counts self.old }
+        ensures counted { known_counters self.new ≡ known_counters self.old }
     {
         if self.named(&read.batch, &read.rec).is_some() {
             return;
@@ -179,7 +179,7 @@ impl Known {
         requires { IsRecordAt card.now }
         ensures records { known_records self.new ≡ known_records self.old }
         ensures standing { IsStandingOf self.new batch card.now.name card.now }
-        ensures counted { known_counts self.new ≡ known_counts self.old }
+        ensures counted { known_counters self.new ≡ known_counters self.old }
     {
         self.standing = Some(StandingRecord { batch, card: *card });
     }
@@ -189,15 +189,15 @@ impl Known {
     pub fn count(&mut self, batch: u64, totals: &BatchTotals)
         ensures records { known_records self.new ≡ known_records self.old }
         ensures standing { standing_record self.new ≡ standing_record self.old }
-        ensures counted { (s : BatchCountsValue) → Contains (known_counts self.new) s
+        ensures counted { (s : Counters) → Contains (known_counters self.new) s
             → (s ≡ record { batch = batch; totals = totals.now })
-            ⊎ Contains (known_counts self.old) s }
+            ⊎ Contains (known_counters self.old) s }
     {
         if self.counted.len() >= MOST {
             self.counted.remove(0);
         }
         let totals = *totals;
-        let _ = self.counted.push(BatchCounts { batch, totals });
+        let _ = self.counted.push(BatchCounters { batch, totals });
     }
 
     /// Forgets how a record stands, the counters that what is written may change, and all records
@@ -210,7 +210,7 @@ impl Known {
     {
         self.standing = None;
         self.counted
-            .retain(|counts| leaves_counts(writing, counts.batch));
+            .retain(|counters| leaves_counters(writing, counters.batch));
         if !leaves_fixed(writing) {
             self.records.clear();
         }
@@ -218,8 +218,8 @@ impl Known {
 }
 
 // Whether what is written changes no counters of the batch with this id, and adds no batch.
-fn leaves_counts(writing: &Writing<'_>, batch: u64) -> bool
-    ensures { result ≡ leaves_counts writing.now batch }
+fn leaves_counters(writing: &Writing<'_>, batch: u64) -> bool
+    ensures { result ≡ leaves_counters writing.now batch }
 {
     match writing {
         Writing::AddsBatch { .. } => false,

@@ -62,6 +62,24 @@ fn peer(rt: &HostRuntime, place: SocketAddr, exchange: &Exchange) -> io::Result<
     Ok(peer)
 }
 
+// Peers that have written all messages, in turn.
+fn peers(rt: &HostRuntime, place: SocketAddr) -> io::Result<Vec<TcpStream>> {
+    let mut peers = Vec::new(rt.alloc());
+    for exchange in exchanges(rt.alloc())?.as_slice() {
+        peers.push(peer(rt, place, exchange)?)?;
+    }
+    Ok(peers)
+}
+
+// What comes back to each of these.
+fn read_all(rt: &HostRuntime, peers: Vec<TcpStream>) -> io::Result<Vec<String>> {
+    let mut replies = Vec::new(rt.alloc());
+    for peer in peers {
+        replies.push(io::read_to_string(rt.alloc(), peer)?)?;
+    }
+    Ok(replies)
+}
+
 // Serves each message at a free port, one at a time, and keeps what comes back.
 #[derive(Drop)]
 struct Asked<'a> {
@@ -154,10 +172,7 @@ impl StoreTask for Run<'_> {
         let Run { rt, path, copy } = self;
         let mut connections = Loopback::listen(rt, 0)?;
         let place = connections.local_addr()?;
-        let mut peers = Vec::new(rt.alloc());
-        for exchange in exchanges(rt.alloc())?.as_slice() {
-            peers.push(peer(rt, place, exchange)?)?;
-        }
+        let peers = peers(rt, place)?;
         let opened = Opened {
             path: b"shop.db",
             is_new: found.is_new,
@@ -180,14 +195,10 @@ impl StoreTask for Run<'_> {
             place.port(),
             peers.len().min(100) as u32,
         );
-        let mut replies = Vec::new(rt.alloc());
-        for peer in peers {
-            replies.push(io::read_to_string(rt.alloc(), peer)?)?;
-        }
         Ok(Ran {
             outcome,
             port: place.port(),
-            replies,
+            replies: read_all(rt, peers)?,
             lines: writer.lines,
             events: events.writer,
         })

@@ -17,25 +17,25 @@ pub returns-in-Some-stands-clause-value : goal.returns-in-Some-stands-clause-val
 returns-in-Some-stands-clause-value g c clean live d sound is =
     let b = c.args.batch.now in
     let r = c.args.rec.now in
-    let counts = c.in-Some.counts in
+    let counters = c.in-Some.counters in
     let card = c.in-Some-stands.card.now in
     let old = state g.S.Store c.args.conn.now in
-    let early : HasCleanDisk old = omega (arith, clean, c.counts_of.ensures.looks.survives.clean) in
-    let was_open = (c.counts_of.ensures.looks.kept clean).was_open live in
+    let early : HasCleanDisk old = omega (arith, clean, c.counters_of.ensures.looks.survives.clean) in
+    let was_open = (c.counters_of.ensures.looks.kept clean).was_open live in
     subst (IsPlaceOf d.facts b r) (sym c.place_at.ensures)
-    (record_placed d.facts b r (c.records_by_name.ensures.place d.facts b r) counts ((rw c.in-Some.is at c.in_ok-counts.ensures.value) clean live d sound is) card
+    (record_placed d.facts b r (c.records_by_name.ensures.place d.facts b r) counters ((rw c.in-Some.is at c.in_ok-counters.ensures.value) clean live d sound is) card
     (∥∥₁_elim (all_known_in old c.args.known.now c.requires.knows early was_open (image d) is) (Coded-set (coded_option the_row.coded) _ _)
-    (λ all. standing_told (image d) c.args.known.now (sound_apart c.batches_by_name.ensures.once c.records_by_name.ensures.once d sound) all counts.batch r card c.in-Some-stands.ensures.known)))
+    (λ all. standing_told (image d) c.args.known.now (sound_apart c.batches_by_name.ensures.once c.records_by_name.ensures.once d sound) all counters.batch r card c.in-Some-stands.ensures.known)))
 
 pub returns-clause-value : goal.returns-clause-value
 returns-clause-value g c clean live d sound is =
     let b = c.args.batch.now in
     let r = c.args.rec.now in
-    let counts = c.in-Some.counts in
-    let mid = state g.S.Store c.counts_of.new.conn in
+    let counters = c.in-Some.counters in
+    let mid = state g.S.Store c.counters_of.new.conn in
     let early : HasCleanDisk mid = omega (arith, clean, c.record_named.ensures.looks.survives.clean) in
     let found = (rw c.in-Some-2.is at c.in_ok-card.ensures.found) clean in
-    let here : IsImage (image d) mid.now = subst (IsImage (image d)) (sym ((c.counts_of.ensures.looks.kept early).now_is found.0)) is in
+    let here : IsImage (image d) mid.now = subst (IsImage (image d)) (sym ((c.counters_of.ensures.looks.kept early).now_is found.0)) is in
     subst (IsPlaceOf d.facts b r) (sym c.place_at-2.ensures)
-    (record_placed d.facts b r (c.records_by_name.ensures.place d.facts b r) counts ((rw c.in-Some.is at c.in_ok-counts.ensures.value) early found.0 d sound is)
-    c.in-Some-2.card (found.1 (image d) here (c.records_by_name.ensures.once d.facts counts.batch r)))
+    (record_placed d.facts b r (c.records_by_name.ensures.place d.facts b r) counters ((rw c.in-Some.is at c.in_ok-counters.ensures.value) early found.0 d sound is)
+    c.in-Some-2.card (found.1 (image d) here (c.records_by_name.ensures.once d.facts counters.batch r)))
