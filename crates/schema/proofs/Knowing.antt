@@ -19,7 +19,7 @@ use Rattle.sql_tables.specs.Opening.{MakesAll}
 use Rattle.row_reads.specs.Reads.{Looks}
 use Rattle.store_reads.specs.declared.known.Known.{Known}
 use Rattle.store_reads.specs.Fixed.{fixed}
-use Rattle.store_reads.specs.Counted.{AreCountsIn}
+use Rattle.store_reads.specs.Counted.{AreCountersIn}
 use Rattle.store_reads.specs.Known.{HasKnown, IsAllKnownIn, IsKnownIn, Knows, KnowsNothing, IsStandingIn}
 use Rattle.store_reads.proofs.Knowing.{knows_after}
 use Rattle.adoption.specs.Adopts.{Adopts}
@@ -52,7 +52,7 @@ none_known : (t : Tables) (known : Known) → KnowsNothing known → IsAllKnownI
 none_known t known none = record {
   records = λ apart. subst (All (IsKnownIn (fixed t))) (sym none.records) (All-nil (IsKnownIn (fixed t)));
   standing = λ apart. subst (λ o. IfSome o (IsStandingIn t)) (sym none.standing) tt;
-  counted = subst (All (AreCountsIn t)) (sym none.counted) (All-nil (AreCountsIn t));
+  counted = subst (All (AreCountersIn t)) (sym none.counted) (All-nil (AreCountersIn t));
 }
 
 has_none : (t : Tables) (db : Database) (known : Known) → KnowsNothing known → IsImage t db → HasKnown db known

@@ -58,6 +58,7 @@ pub(crate) fn keep<S: Alter>(
 {
     image_laws::rows_after_change();
     image_laws::rows_with_reply();
+    // (The borrow checker has no rule for `?` on a value that holds references.)
     match writing_of(conn, known, change) {
         Ok(writing) => {
             known.forget_for(&writing);
