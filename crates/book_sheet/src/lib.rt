@@ -1,4 +1,4 @@
-//! The sheet of a batch: one HTML page for the file of the job.
+//! The sheet of a batch: one HTML page for the job's paper records.
 #![tactic(auto)]
 
 mod html;
