@@ -3,6 +3,8 @@ import bisect
 import re
 from typing import Iterator, NamedTuple
 
+from row_groups import by_record, segments_of
+
 HEADER = [b"record", b"aid", b"rank", b"enc", b"tol", b"dgi"]
 MOST_ROWS, MOST_RECORDS, MOST_BLOCKS, MOST_DATA = 4096, 1024, 256, 16_384
 NAME = re.compile(r"[A-Za-z0-9_-]{1,32}")
@@ -155,22 +157,6 @@ def rows_of(raw: bytes, product: Product) -> list[Row] | None:
     if not rows or len(records) > MOST_RECORDS or any(has_fault(its, product) for its in records.values()):
         return None
     return rows
-
-
-def by_record(rows: list[Row]) -> dict[str, list[Row]]:
-    """The rows of each record, the records by first appearance."""
-    made: dict[str, list[Row]] = {}
-    for row in rows:
-        made.setdefault(row.record, []).append(row)
-    return made
-
-
-def segments_of(rows: list[Row]) -> dict[bytes, dict[int, list[Row]]]:
-    """A record's applications by first appearance, and the rows of each by rising rank."""
-    made: dict[bytes, dict[int, list[Row]]] = {}
-    for row in rows:
-        made.setdefault(row.aid, {}).setdefault(row.rank, []).append(row)
-    return {aid: dict(sorted(ranks.items())) for aid, ranks in made.items()}
 
 
 def pieces_of(segment: list[Row], product: Product) -> int:

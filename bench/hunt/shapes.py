@@ -22,7 +22,8 @@ import tempfile
 import time
 from typing import NamedTuple
 
-from shapes_batches import SHAPES, Plan, by_record, commands_of, long_plans, options, plan_case, plan_cases, some_plan
+from row_groups import by_record
+from shapes_batches import SHAPES, Plan, commands_of, long_plans, options, plan_case, plan_cases, some_plan
 from shapes_draw import COUNTS, MOST, MOST_FILE, Case, Draw, changed, unpacked
 from shapes_exchanges import exchange_cases, long_report, long_talks, longest_session, talk_of
 from shapes_messages import message_cases

@@ -4,6 +4,7 @@ from collections import Counter
 from typing import Callable, NamedTuple
 
 from make_batch import coded
+from row_groups import by_record, segments_of
 from shapes_draw import (COUNTS, MOST_BLOCKS, MOST_DATA, MOST_FILE, MOST_RECORDS, MOST_ROWS, Case, Draw, changed, largest, spelt)
 
 HEADER = "record,aid,rank,enc,tol,dgi"
@@ -180,21 +181,6 @@ def most_applications(draw: Draw) -> list[Row]:
     """A record that has as many applications as a file has rows."""
     aids = [f"{k:05}".encode() for k in range(MOST_ROWS)]
     return [Row("R1", aid, draw.randint(1, 999), draw.randrange(3), draw.randrange(2), 0x8000, draw.filled(draw.size(0, 9))) for aid in aids]
-
-
-def by_record(rows: list[Row]) -> dict[str, list[Row]]:
-    made: dict[str, list[Row]] = {}
-    for row in rows:
-        made.setdefault(row.record, []).append(row)
-    return made
-
-
-def segments_of(rows: list[Row]) -> dict[bytes, dict[int, list[Row]]]:
-    """A record's applications by first appearance, and the rows of each by rank."""
-    made: dict[bytes, dict[int, list[Row]]] = {}
-    for row in rows:
-        made.setdefault(row.aid, {}).setdefault(row.rank, []).append(row)
-    return {aid: dict(sorted(ranks.items())) for aid, ranks in made.items()}
 
 
 class Command(NamedTuple):

@@ -2,7 +2,8 @@
 import json
 from typing import NamedTuple
 
-from shapes_batches import (FAULTS, SELDOM, SMALL, Plan, Product, Row, Shape, application, by_record, lines_of, measured, most_applications,
+from row_groups import by_record
+from shapes_batches import (FAULTS, SELDOM, SMALL, Plan, Product, Row, Shape, application, lines_of, measured, most_applications,
                             some_product, some_rows, text_of, whole_file, with_fault)
 from shapes_draw import COUNTS, MOST_FILE, MOST_RECORDS, MOST_SERIAL, Case, Draw, largest, packed
 from shapes_machine import Books, refused

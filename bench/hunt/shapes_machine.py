@@ -2,7 +2,8 @@
 import functools
 from collections import Counter
 
-from shapes_batches import NAMES, Command, Plan, Product, Row, by_record, commands_of
+from row_groups import by_record
+from shapes_batches import NAMES, Command, Plan, Product, Row, commands_of
 from shapes_draw import largest
 
 REFUSED = {
