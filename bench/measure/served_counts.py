@@ -12,7 +12,6 @@ printed, since now and then a commit copies the log into the file. The files lie
 each kind stand the crates that take the most, with what they take of the other. Of copies of whole
 blocks, as of a batch's file, callgrind counts an instruction for 32 bytes or so."""
 import argparse
-import json
 import pathlib
 import re
 import shutil
@@ -25,7 +24,7 @@ from typing import Callable, NamedTuple
 
 from arrivals import ANSWER, IMPORT, KINDS, LAST, OPENING
 from served import Server, exchange, free_port, parts, post
-from speed import Same, Shop, Translator
+from speed import Machines, Same, Shop, Translator
 
 ANSWERS = 10
 COUNTED = 5
@@ -76,40 +75,33 @@ def phase(server: Server, kind: str, work: Callable[[], None]) -> None:
 # ---- the two servers
 
 
-def ours(program: str, folder: pathlib.Path, cards: int) -> tuple[list[Phase], pathlib.Path]:
+def ours(program: str, machines: str, folder: pathlib.Path, cards: int) -> tuple[list[Phase], pathlib.Path]:
     """Makes the cards. Answers what was asked, and the file as it was before the first batch."""
     database, begun = folder / "ours.db", folder / "kit.db"
     server = counted(Server, folder / "ours.counts")(program, database, free_port())
-    shop, asked = Shop(server, cards), []
+    shop, asked = Shop(server, cards, Machines(machines, cards)), []
     shop.stock()
     for end in ("", "-wal"):
         if (path := pathlib.Path(f"{database}{end}")).exists():
             shutil.copyfile(path, f"{begun}{end}")
-    maker, reply = shop.makers[0], None
 
-    def answer() -> Asked:
-        nonlocal reply
-        message = maker.send(reply)
-        whole = parts(exchange(server.port, message))
-        if whole is None or whole[0] != 200:
-            sys.exit(f"{message!r}: {whole}")
-        reply = json.loads(whole[1])
-        return Asked(message, whole[1])
-
-    def go(kind: str, is_counted: bool, one: Callable[[], Asked], times: int = 1) -> None:
+    def go(kind: str, is_counted: bool, make: Callable[[], list[tuple[bytes, bytes]]]) -> bytes:
+        """Answers the last reply."""
         its: list[Asked] = []
-        work = lambda: its.extend(one() for _ in range(times))
+        work = lambda: its.extend(Asked(*one) for one in make())
         phase(server, kind, work) if is_counted else work()
         asked.append(Phase(kind, is_counted, its))
+        return its[-1].body
 
     for is_counted in (False, True):
-        go(IMPORT, is_counted, lambda: Asked(*shop.bring([])))
+        go(IMPORT, is_counted, lambda: [shop.bring([])])
+    requests = lambda count: lambda: shop.machines.cards(server, 1, count)[1][0]
     for number in range(1 + COUNTED):
-        go(OPENING, number > 0, answer)
-        go(ANSWER, number > 0, answer, ANSWERS)
-        go(LAST, number > 0, answer)
-        if reply["result"] != "good":
-            sys.exit(f"a card ended with {reply}")
+        go(OPENING, number > 0, requests(1))
+        go(ANSWER, number > 0, requests(ANSWERS))
+        last = go(LAST, number > 0, requests(1))
+        if b'"result":"good"' not in last:
+            sys.exit(f"a card ended with {last!r}")
     server.kill()
     return asked, begun
 
@@ -181,13 +173,13 @@ def show(cards: int, one: dict[str, Counter[str]], other: dict[str, Counter[str]
 
 
 def main() -> None:
-    program, kit = sys.argv[1:3]
+    program, kit, machines = sys.argv[1:4]
     parser = argparse.ArgumentParser()
     parser.add_argument("--cards", type=int, nargs="+", default=[20, 200])
-    for cards in parser.parse_args(sys.argv[3:]).cards:
+    for cards in parser.parse_args(sys.argv[4:]).cards:
         with tempfile.TemporaryDirectory(dir="/dev/shm") as room:
             folder = pathlib.Path(room)
-            asked, begun = ours(program, folder, cards)
+            asked, begun = ours(program, machines, folder, cards)
             the_kits(kit, folder, begun, asked)
             show(cards, medians(folder, "ours"), medians(folder, "kit"))
 

@@ -4,9 +4,9 @@ three other servers on the same disk in the same run. It takes about an hour.
 
     bench/run speed [--folder FOLDER] [--few N] [--many N] [--chunks N] [--cards N ..]
 
-1, 4 and 20 machines open and answer whole cards of make_batch.py, N to a batch, over
-loopback, each message on a connection of its own, each commit synced to the disk of FOLDER. The
-others take what was asked of ours, in turns, in chunks of a thousand:
+1, 4 and 20 machines (c/machines.c) open and answer whole cards of make_batch.py, N to a batch,
+over loopback, each message on a connection of its own, each commit synced to the disk of FOLDER.
+The others take what was asked of ours, in turns, in chunks of a thousand:
 
     plain    c/yardstick.c, which keeps each message in one small transaction of C's
              SQLite
@@ -30,11 +30,12 @@ import random
 import shutil
 import sqlite3
 import statistics
+import struct
+import subprocess
 import sys
 import tempfile
-import threading
 import time
-from typing import Any, Generator, NamedTuple
+from typing import Any, NamedTuple
 
 import arrivals
 from adopt import SHAPES, Size, all_good
@@ -50,7 +51,7 @@ LEAST = 10
 LOT = 1_000_000
 MEMORY = "/dev/shm"
 PRODUCT = "P1"
-Maker = Generator[bytes, Any, None]
+NUMBER = struct.Struct("=Q")
 
 
 class Asked(NamedTuple):
@@ -130,14 +131,58 @@ class Translator:
         return Asked(kind, message, same)
 
 
-class Shop:
-    """A server with its machines, each of which goes on with its card from chunk to chunk."""
+class Machines:
+    """The machines in front of any server. Each goes on with its card from chunk to chunk."""
 
-    def __init__(self, server: Server, cards: int) -> None:
-        self.server, self.cards, self.draw, self.batches, self.number = server, cards, random.Random(1), 0, 1
-        self.lock, self.opened, self.size = threading.Lock(), 0, 0
-        self.makers = [self.maker(f"m{place}", place * LOT) for place in range(max(MACHINES))]
-        self.replies: list[Any] = [None] * len(self.makers)
+    def __init__(self, program: str, cards: int) -> None:
+        self.process = subprocess.Popen([program, str(cards)], stdin=subprocess.PIPE, stdout=subprocess.PIPE)
+
+    def cards(self, server: Server, machines: int, count: int) -> tuple[Chunk, list[list[tuple[bytes, bytes]]]]:
+        """So many requests by so many machines, and what each of them asked, with the reply's body."""
+        return self.run(server, "cards", machines, count, b"")
+
+    def again(self, server: Server, asked: list[list[bytes]]) -> Chunk:
+        """What each machine asked of another server."""
+        sent = [[NUMBER.pack(len(messages)), *(NUMBER.pack(len(one)) + one for one in messages)] for messages in asked]
+        return self.run(server, "again", len(asked), sum(map(len, asked)), b"".join(piece for pieces in sent for piece in pieces))[0]
+
+    def run(self, server: Server, what: str, machines: int, count: int, sent: bytes) -> tuple[Chunk, list[list[tuple[bytes, bytes]]]]:
+        assert self.process.stdin
+        processor = server.processor()
+        self.process.stdin.write(f"{what} {server.port} {machines} {count}\n".encode() + sent)
+        self.process.stdin.flush()
+        took, times, asked = self.number(), [], []
+        for _ in range(machines):
+            asked.append([self.exchanged(times) for _ in range(self.number())])
+        if len(times) != count:
+            sys.exit(f"{len(times)} of {count} were answered")
+        return Chunk(count / took * 1e9, (server.processor() - processor) / count, times), asked
+
+    def exchanged(self, times: list[float]) -> tuple[bytes, bytes]:
+        """A message, and the body of its reply."""
+        took, message, reply = self.number(), self.number(), self.number()
+        times.append(took / 1e9)
+        asked, whole = self.read(message), parts(self.read(reply))
+        if whole is None or whole[0] != 200:
+            sys.exit(f"{asked!r}: {whole}")
+        return asked, whole[1]
+
+    def number(self) -> int:
+        return NUMBER.unpack(self.read(NUMBER.size))[0]
+
+    def read(self, size: int) -> bytes:
+        assert self.process.stdout
+        if len(found := self.process.stdout.read(size)) < size:
+            sys.exit("the machines stopped")
+        return found
+
+
+class Shop:
+    """A server with its batches, and with the machines that take their cards."""
+
+    def __init__(self, server: Server, cards: int, machines: Machines) -> None:
+        self.server, self.cards, self.machines, self.draw = server, cards, machines, random.Random(1)
+        self.batches, self.number, self.opened, self.size = 0, 1, 0, 0
 
     def ask(self, message: bytes, times: list[float]) -> bytes:
         whole = parts(timed(self.server.port, message, times))
@@ -149,7 +194,7 @@ class Shop:
     def stock(self) -> None:
         its = {"product": PRODUCT, "max": 255, "low": 0, "check": False}
         self.ask(request("office", self.number, do="product", **its), [])
-        for place in range(len(self.makers)):
+        for place in range(max(MACHINES)):
             its = {"lot": f"L{place}", "product": PRODUCT, "first": place * LOT, "count": LOT}
             self.ask(request("office", self.number, do="lot", **its), [])
 
@@ -157,7 +202,7 @@ class Shop:
         """Imports batches until there are cards enough for a chunk, and answers each request and
         its reply."""
         brought = []
-        while self.batches * self.cards < self.opened + STEP // LEAST + len(self.makers):
+        while self.batches * self.cards < self.opened + STEP // LEAST + max(MACHINES):
             brought.append(self.bring(times))
         return brought
 
@@ -170,35 +215,11 @@ class Shop:
         message = imported("office", self.number, f"B{self.batches}", PRODUCT, raw)
         return message, self.ask(message, times)
 
-    def next_batch(self) -> str:
-        """The batch of the next card: each has a place for one. Batches are taken in the order in which they came."""
-        with self.lock:
-            self.opened += 1
-            return f"B{1 + (self.opened - 1) // self.cards}"
-
-    def maker(self, name: str, blank: int) -> Maker:
-        """A machine: its next message for each reply."""
-        number = 0
-        while True:
-            number, blank = number + 1, blank + 1
-            reply = yield request(name, number, do="open", batch=self.next_batch(), blank=blank)
-            while reply["result"] == "command":
-                number += 1
-                reply = yield request(name, number, do="answer", session=reply["session"], index=reply["index"], sw="9000")
-            if reply["result"] != "good":
-                sys.exit(f"{name}: {reply}")
-
-
-class Taken:
-    """So many turns, taken by whoever comes first."""
-
-    def __init__(self, count: int) -> None:
-        self.left, self.lock = count, threading.Lock()
-
-    def one(self) -> bool:
-        with self.lock:
-            self.left -= 1
-            return self.left >= 0
+    def make(self, machines: int) -> tuple[Chunk, list[list[tuple[bytes, bytes]]]]:
+        """A chunk of cards."""
+        chunk, asked = self.machines.cards(self.server, machines, STEP)
+        self.opened += sum(b'"do":"open"' in message for messages in asked for message, _ in messages)
+        return chunk, asked
 
 
 def timed(port: int, message: bytes, times: list[float]) -> bytes:
@@ -206,48 +227,6 @@ def timed(port: int, message: bytes, times: list[float]) -> bytes:
     reply = exchange(port, message)
     times.append(time.perf_counter() - begun)
     return reply
-
-
-def chunk_of(server: Server, works: list[Any], count: int) -> Chunk:
-    """Runs the works side by side, each with a list for its times."""
-    times: list[list[float]] = [[] for _ in works]
-    threads = [threading.Thread(target=work, args=(its,)) for work, its in zip(works, times)]
-    begun, processor = time.perf_counter(), server.processor()
-    for thread in threads:
-        thread.start()
-    for thread in threads:
-        thread.join()
-    took = time.perf_counter() - begun
-    whole = [one for its in times for one in its]
-    if len(whole) != count:
-        sys.exit(f"{len(whole)} of {count} were answered")
-    return Chunk(count / took, (server.processor() - processor) / count, whole)
-
-
-def ours(shop: Shop, machines: int, count: int) -> tuple[Chunk, list[list[tuple[bytes, bytes]]]]:
-    """So many requests by so many machines, and what each of them asked, with the reply."""
-    taken = Taken(count)
-    asked: list[list[tuple[bytes, bytes]]] = [[] for _ in range(machines)]
-
-    def work(place: int, times: list[float]) -> None:
-        while taken.one():
-            message = shop.makers[place].send(shop.replies[place])
-            whole = parts(timed(shop.server.port, message, times))
-            if whole is None or whole[0] != 200:
-                sys.exit(f"{message!r}: {whole}")
-            shop.replies[place] = json.loads(whole[1])
-            asked[place].append((message, whole[1]))
-
-    return chunk_of(shop.server, [lambda its, place=place: work(place, its) for place in range(machines)], count), asked
-
-
-def theirs(server: Server, asked: list[list[bytes]]) -> Chunk:
-    def work(messages: list[bytes], times: list[float]) -> None:
-        for message in messages:
-            if parts(timed(server.port, message, times)) is None:
-                sys.exit(f"no reply of {server.process.args}")
-
-    return chunk_of(server, [lambda its, messages=messages: work(messages, its) for messages in asked], sum(map(len, asked)))
 
 
 class Side:
@@ -276,7 +255,7 @@ class Side:
 
 
 def replayed(
-    name: str, server: Server, brought: list[Asked], asked: list[list[Asked]]
+    name: str, server: Server, machines: Machines, brought: list[Asked], asked: list[list[Asked]]
 ) -> tuple[Chunk, list[float]]:
     """What was asked of ours, of another server: the imports first, and how long they took."""
 
@@ -286,7 +265,7 @@ def replayed(
     imports: list[float] = []
     for one in brought:
         timed(server.port, its(one), imports)
-    return theirs(server, [[its(one) for one in messages] for messages in asked]), imports
+    return machines.again(server, [[its(one) for one in messages] for messages in asked]), imports
 
 
 def measure(
@@ -297,12 +276,12 @@ def measure(
         for _ in range(chunks):
             imports: list[float] = []
             brought = [translator.asked(*one) for one in shop.ready(imports)]
-            chunk, exchanged = ours(shop, machines, STEP)
+            chunk, exchanged = shop.make(machines)
             asked = [[translator.asked(*one) for one in messages] for messages in exchanged]
             kinds = [one.kind for messages in asked for one in messages]
             sides["ours"].add(chunk, kinds, imports)
             for server, its in others.items():
-                chunk, took = replayed(server, its, brought, asked)
+                chunk, took = replayed(server, its, shop.machines, brought, asked)
                 sides[server].add(chunk, kinds, took)
         for server, side in sides.items():
             print(f"{name:>10}{machines:9}{server:>7}{side.columns(sides['ours'])}", flush=True)
@@ -335,14 +314,14 @@ def size_of(database: pathlib.Path) -> str:
     return " + ".join(f"{size:.0f}" for size in sizes) + " MiB"
 
 
-def filled(program: str, count: int, cards: int, memory: pathlib.Path) -> Shop:
+def filled(programs: argparse.Namespace, count: int, cards: int, memory: pathlib.Path) -> Shop:
     """A shop that was asked so many requests on a disk in memory; its server is killed."""
-    shop = Shop(Server(program, memory / "shop.db", free_port()), cards)
+    shop = Shop(Server(programs.program, memory / "shop.db", free_port()), cards, Machines(programs.machines, cards))
     shop.stock()
     rates = []
     for _ in range(0, count, STEP):
         shop.ready([])
-        rates.append(ours(shop, max(MACHINES), STEP)[0].rate)
+        rates.append(shop.make(max(MACHINES))[0].rate)
     ends = f"{rates[0]:.0f} a second the first {STEP}, {rates[-1]:.0f} the last"
     peak = f"{shop.batches} batches of {shop.size} bytes; peak {shop.server.peak() >> 20} MiB"
     print(f"{count} requests on a disk in memory: {ends}; {peak}", flush=True)
@@ -352,7 +331,7 @@ def filled(program: str, count: int, cards: int, memory: pathlib.Path) -> Shop:
 
 def over_file(programs: argparse.Namespace, folder: pathlib.Path, count: int, cards: int) -> None:
     with tempfile.TemporaryDirectory(dir=MEMORY) as memory:
-        shop = filled(programs.program, count, cards, pathlib.Path(memory))
+        shop = filled(programs, count, cards, pathlib.Path(memory))
         names = ("ours", "same", "kit")
         database, same, kit = (moved(pathlib.Path(memory), folder / f"{it}.db") for it in names)
     translator = Translator(same)
@@ -395,6 +374,7 @@ def main() -> None:
     words.add_argument("yardstick")
     words.add_argument("same")
     words.add_argument("kit")
+    words.add_argument("machines")
     words.add_argument("--folder")
     words.add_argument("--few", type=int, default=1_000)
     words.add_argument("--many", type=int, default=100_000)

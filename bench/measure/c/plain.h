@@ -1,12 +1,11 @@
 /* What the plain servers of this folder share: they read a message, answer with as many bytes as a
    command takes, and keep what they keep by C's SQLite (WAL, synchronous FULL) on a connection of
    their own. They serve one connection after the other. */
+#include "need.h"
 #include <arpa/inet.h>
 #include <netinet/in.h>
 #include <signal.h>
 #include <sqlite3.h>
-#include <stdio.h>
-#include <stdlib.h>
 #include <string.h>
 #include <sys/socket.h>
 #include <unistd.h>
@@ -17,13 +16,6 @@ static const char reply[] =
     "Content-Length: 81\r\nConnection: close\r\n\r\n"
     "{\"command\":\"80E28000050101027000\",\"index\":1,"
     "\"result\":\"command\",\"session\":100000}\n";
-
-static void need(int holds, const char *what) {
-  if (!holds) {
-    fprintf(stderr, "%s\n", what);
-    exit(3);
-  }
-}
 
 /* Reads a whole message, behind which a byte 0 is put, and answers where its body begins, or 0. */
 static size_t read_message(int peer, size_t *size) {
