@@ -1,6 +1,6 @@
 #!/usr/bin/env bash
-# Builds the tests of `trials` and of `table_trials`, and refuses each of their allocations in turn, each in a child of the test that is made
-# there and goes on to the end. It fails where such a child fails, is killed, or takes over 60 seconds, and names those. A word given here
+# Refuses each allocation of the tests of `trials` and of `table_trials` in turn, each in a child of the test that is made there and goes on
+# to the end. It fails where such a child fails, is killed, or takes over 60 seconds, and names those. A word given here
 # picks the tests whose names have it: bench/run refused memory:: picks those of single calls, and bench/run refused refused:: those over both
 # stores. Of the tests of `faults`, which take far more than the others, it refuses at most some 2000 each, evenly spread. It leaves out
 # those of files that stop at each call or stay, of damaged tables, of earlier versions served and of a file behind a socket, which fail
@@ -20,10 +20,8 @@ refuse() {
 }
 
 tests=0 total=0 failed=0
-for crate in trials table_trials; do
-    (cd "crates/$crate" && rt test)
-    program=crates/$crate/out/${crate}_tests
-    for test in $("$program" --list | sed -n 's/: test$//p' | grep -v -e '::a_stop_at_each_call_' -e '::files_' -e '^damaged::' -e '^carried::' -e '^served::' | grep -F -- "${1:-}"); do
+for program in "$1" "$2"; do
+    for test in $("$program" --list | sed -n 's/: test$//p' | grep -v -e '::a_stop_at_each_call_' -e '::files_' -e '^damaged::' -e '^carried::' -e '^served::' | grep -F -- "${3:-}"); do
         step=1
         if [[ $test == faults::* ]]; then
             read -r asked _ <<<"$(refuse "$test" 1000000000)"
