@@ -1,6 +1,6 @@
 #!/usr/bin/env python3
 """Measures how many requests `persod serve` answers in a second, and how long one takes, beside
-three other servers on the same disk in the same run. It takes about an hour.
+three other servers on the same disk in the same run. It takes five minutes.
 
     bench/run speed [--folder FOLDER] [--few N] [--many N] [--chunks N] [--cards N ..]
 
