@@ -1,10 +1,9 @@
 #!/usr/bin/env bash
 # Refuses each allocation of the tests of `trials` and of `table_trials` in turn, each in a child of the test that is made there and goes on
-# to the end. It fails where such a child fails, is killed, or takes over 60 seconds, and names those. A word given here
-# picks the tests whose names have it: bench/run refused memory:: picks those of single calls, and bench/run refused refused:: those over both
-# stores. Of the tests of `faults`, which take far more than the others, it refuses at most some 2000 each, evenly spread. It leaves out
-# those of files that stop at each call or stay, of damaged tables, of earlier versions served and of a file behind a socket, which fail
-# where memory is refused.
+# to the end. It fails where such a child fails, is killed, or takes over 60 seconds, and names those. A word given here picks the tests whose
+# names have it: bench/run refused memory:: picks those of single calls, and bench/run refused refused:: those over both stores. Of a test that
+# asks for more than 100,000, it refuses some 2000, evenly spread. It leaves out those of files that stop at each call or stay, of damaged
+# tables, of earlier versions served, and of a file on a disk or behind a socket, which fail where memory is refused.
 set -euo pipefail
 cd "$(dirname "$0")/../.."
 folder=$(mktemp -d)
@@ -21,17 +20,14 @@ refuse() {
 
 tests=0 total=0 failed=0
 for program in "$1" "$2"; do
-    for test in $("$program" --list | sed -n 's/: test$//p' | grep -v -e '::a_stop_at_each_call_' -e '::files_' -e '^damaged::' -e '^carried::' -e '^served::' | grep -F -- "${3:-}"); do
-        step=1
-        if [[ $test == faults::* ]]; then
-            read -r asked _ <<<"$(refuse "$test" 1000000000)"
-            step=$((asked / 2000 + 1))
-        fi
+    for test in $("$program" --list | sed -n 's/: test$//p' | grep -v -e '::a_stop_at_each_call_' -e '::files_' -e '^damaged::' -e '^carried::' -e '^served::' -e '^causes::' | grep -F -- "${3:-}"); do
+        read -r asked _ <<<"$(refuse "$test" 1000000000)"
+        step=$((asked > 100000 ? asked / 2000 + 1 : 1))
         read -r asked refused wrong <<<"$(refuse "$test" "$step")"
         echo "$test: $refused of $asked"
         tests=$((tests + 1)) total=$((total + refused)) failed=$((failed + wrong))
     done
 done
-cat "$folder/failed"
+sort -u "$folder/failed"
 echo "$total allocations refused, each in a child of its own, of $tests tests: $((total - failed)) passed, $failed failed"
 [ "$total" -gt 0 ] && [ "$failed" -eq 0 ]
