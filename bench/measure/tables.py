@@ -2,8 +2,7 @@
 """Measures durable commits over a file: what answers, openings and imports take; on a file with
 few sessions and on one with many; beside batch files of some sizes, since an opening and the end
 of a card move their batch's counters, which stand in one row with the file's bytes; and with a
-record of 16 MB. Linux alone. It takes about half an hour, most of it for the file with many
-sessions.
+record of 16 MB. Linux alone. It takes about three minutes.
 
     bench/run tables [FOLDER]
 
