@@ -3,7 +3,8 @@
 # to the end. It fails where such a child fails, is killed, or takes over 60 seconds, and names those. A word given here picks the tests whose
 # names have it: bench/run refused memory:: picks those of single calls, and bench/run refused refused:: those over both stores. Of a test that
 # asks for more than 100,000, it refuses some 2000, evenly spread. It leaves out those of files that stop at each call or stay, of damaged
-# tables, of earlier versions served, and of a file on a disk or behind a socket, which fail where memory is refused.
+# tables, of earlier versions served, of the causes of a file, and of a file behind a socket, which fail where memory is refused. Those of causes
+# fail for the most part since the call says so, and in some allocations since it says something else: docs/TESTED.md has these.
 set -euo pipefail
 cd "$(dirname "$0")/../.."
 folder=$(mktemp -d)
