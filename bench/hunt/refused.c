@@ -4,6 +4,8 @@
  * STEP: of that many allocations, one is refused; 1: each. JOBS: the children at once. REPORT: the file that gets a line for each child
  * that fails, is killed or takes over 60 seconds, and then how many allocations were asked for, refused, and failed so. The program itself
  * is refused nothing. It may have one thread, and no file or socket that a child would share.
+ *
+ * AT: with no STEP, the number of the one allocation that the program itself is refused.
  */
 #include <errno.h>
 #include <fcntl.h>
@@ -22,7 +24,7 @@ static struct {
     unsigned long number;
 } running[MOST_JOBS];
 
-static unsigned long step, jobs, asked, children, failed, at_work;
+static unsigned long step, alone, jobs, asked, children, failed, at_work;
 static int report = -1;
 
 static unsigned long number_of(const char *name)
@@ -51,6 +53,7 @@ static void await(void)
 __attribute__((constructor)) static void begin(void)
 {
     step = number_of("STEP");
+    alone = number_of("AT");
     jobs = number_of("JOBS");
     if (jobs < 1 || jobs > MOST_JOBS)
         jobs = 1;
@@ -67,9 +70,13 @@ __attribute__((destructor)) static void end(void)
     dprintf(report, "%lu %lu %lu\n", asked, children, failed);
 }
 
-/* Whether this allocation is refused, which it is in the child alone. */
+/* Whether this allocation is refused, which it is in the child alone, or in the program by its number. */
 static int is_refused(void)
 {
+    if (report < 0 && ++asked == alone) {
+        errno = ENOMEM;
+        return 1;
+    }
     if (report < 0 || asked++ % step != 0)
         return 0;
     while (at_work >= jobs)

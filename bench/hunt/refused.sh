@@ -2,9 +2,9 @@
 # Refuses each allocation of the tests of `trials` and of `table_trials` in turn, each in a child of the test that is made there and goes on
 # to the end. It fails where such a child fails, is killed, or takes over 60 seconds, and names those. A word given here picks the tests whose
 # names have it: bench/run refused memory:: picks those of single calls, and bench/run refused refused:: those over both stores. Of a test that
-# asks for more than 100,000, it refuses some 2000, evenly spread. It leaves out those of files that stop at each call or stay, of damaged
-# tables, of earlier versions served, of the causes of a file, and of a file behind a socket, which fail where memory is refused. Those of causes
-# fail for the most part since the call says so, and in some allocations since it says something else: docs/TESTED.md has these.
+# asks for more than 100,000, it refuses some 2000, evenly spread. The tests of files in a folder of their own are run anew for each allocation,
+# and such a run may end by saying that memory was refused. It leaves out the tests of files that stop at each call or stay, of damaged tables,
+# of earlier versions served, and of a file behind a socket, which fail where memory is refused.
 set -euo pipefail
 cd "$(dirname "$0")/../.."
 folder=$(mktemp -d)
@@ -19,12 +19,36 @@ refuse() {
     tail -n 1 "$folder/report"
 }
 
+# Refuses each allocation of a test in a run of its own, which has a folder of its own. Prints as `refuse` does.
+refuse_alone() {
+    seq "$2" | xargs -P "$(nproc)" -n 100 bash -c 'run_alone "$@"' "$1" >"$folder/wrong"
+    cat "$folder/wrong" >>"$folder/failed"
+    echo "$2 $2 $(wc -l <"$folder/wrong")"
+}
+
+# The test that is named first is refused the allocations of these numbers, each in one run. Prints those that end wrong.
+run_alone() {
+    local at room said
+    room=$(mktemp -d "$folder/room.XXXXXX")
+    for at; do
+        said=$(timeout 60 env TMPDIR="$room" LD_PRELOAD="$folder/refused.so" AT="$at" "$program" "$0" 2>&1) ||
+            grep -q -x -E 'error: (Memory|AllocError|.*OutOfMemory.*)' <<<"$said" || echo "$0: allocation $at: ${said//$'\n'/; }"
+        rm -rf "$room"/*
+    done
+    rmdir "$room"
+}
+export -f run_alone
+export folder program
+
 tests=0 total=0 failed=0
 for program in "$1" "$2"; do
-    for test in $("$program" --list | sed -n 's/: test$//p' | grep -v -e '::a_stop_at_each_call_' -e '::files_' -e '^damaged::' -e '^carried::' -e '^served::' -e '^causes::' | grep -F -- "${3:-}"); do
+    for test in $("$program" --list | sed -n 's/: test$//p' | grep -v -e '::a_stop_at_each_call_' -e '::files_' -e '^damaged::' -e '^carried::' -e '^served::' | grep -F -- "${3:-}"); do
         read -r asked _ <<<"$(refuse "$test" 1000000000)"
         step=$((asked > 100000 ? asked / 2000 + 1 : 1))
-        read -r asked refused wrong <<<"$(refuse "$test" "$step")"
+        case $test in
+        causes::* | places::*) read -r asked refused wrong <<<"$(refuse_alone "$test" "$asked")" ;;
+        *) read -r asked refused wrong <<<"$(refuse "$test" "$step")" ;;
+        esac
         echo "$test: $refused of $asked"
         tests=$((tests + 1)) total=$((total + refused)) failed=$((failed + wrong))
     done

@@ -1,6 +1,7 @@
 -- What comes of the file at a path: a book of the database that its two files held, or why there is
 -- none.
-use Rattle.std.specs.Prelude.{◌≡◌, ◌⊎◌, Bool, true, false, IsTrue, Option, Some, None}
+use Rattle.std.specs.Prelude.{◌≡◌, ◌⊎◌, Bool, true, false, IsTrue, Option, Some, None, Result}
+use Rattle.std.specs.declared.alloc.AllocError.{AllocError}
 use Rattle.sqlite.specs.Closing.{files_left}
 use Rattle.sqlite.specs.Effect.{Database, IsDatabase}
 use Rattle.sqlite.specs.Files.{AreFoundIn, FailsToOpenFiles, HoldsDatabase, IsCleanLeft, LeavesFiles}
@@ -53,14 +54,14 @@ opens_none (SqliteFailure DatabaseBusy) = true
 opens_none _ = false
 
 -- What the file system says of the path alone: nothing has it, its file has nothing, or its two
--- files can't be opened.
+-- files can't be opened, which refused memory is too.
 abbrev pub IsOfPath : FileFault → Type 0
-IsOfPath fault = (fault ≡ NotOurs NoFile) ⊎ ((fault ≡ empty) ⊎ ((error : Error) × (place : Place) × IsTrue (opens_none error) × (fault ≡ of_opening error place)))
+IsOfPath fault = (fault ≡ NotOurs NoFile) ⊎ ((fault ≡ empty) ⊎ ((error : Error) × (place : Result Place AllocError) × IsTrue (opens_none error) × (fault ≡ of_opening error place)))
 
 -- The fault is that of the error, by what the file system says of the path. Or it is that the file
 -- has nothing: then SQLite was to write to the database file.
 abbrev pub IsSaidOf : {D S : Type 0} {d : disk.Ghosts D} {s : start.Ghosts S} → Error → Files (Guarded D S d s) → FileFault → Type 0
-IsSaidOf error last fault = ((place : Place) × (fault ≡ of_opening error place)) ⊎ (WasToBeWritten last.db × (fault ≡ empty))
+IsSaidOf error last fault = ((place : Result Place AllocError) × (fault ≡ of_opening error place)) ⊎ (WasToBeWritten last.db × (fault ≡ empty))
 
 module _ {D S : Type 0} {d : disk.Ghosts D} {s : start.Ghosts S} (g : disk.Ghosts (Guarded D S d s)) (IsFresh : Bool → D → Type 0) where
   -- SQLite is given two files that were just opened. For this error it opens no database in them, and

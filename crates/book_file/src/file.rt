@@ -14,12 +14,9 @@ use file_causes::Difference;
 use over_tables::{Cause, FileFault};
 use sqlite::{Connection, Error, ErrorCode, FileFrom, FileStore};
 use sqlite_disk::{self, Disk, Start};
-use std::alloc::AllocGlobal;
-use std::fs::{self, Files};
-use store_files::{Place, place_of, unopened};
-
-/// The most bytes of a log that has nothing for its file: a clean end leaves so many.
-const EMPTY_LOG: u64 = 41;
+use std::alloc::{AllocError, AllocGlobal};
+use std::fs::Files;
+use store_files::{Place, has_log, has_more, place_of, unopened};
 
 /// What was read of a file or why it was not, and its two files, where they were opened.
 pub type BookWithFiles<S> = (
@@ -42,9 +39,12 @@ pub fn book_in<S: Start>(rt: &HostRuntime, path: &str, start: S) -> BookWithFile
         (λ fault. IsUnread ⟦<GuardedFile<S> as Disk>⟧ IsFresh fault result.1) }
 {
     match place_of(rt, path) {
-        Place::File { is_sqlite: _ } if is_blank(rt, path) => (Err(empty()), None),
-        Place::File { is_sqlite: _ } => book_at(rt, path, start),
-        Place::NoFile => {
+        Ok(Place::File { is_sqlite: _ }) => match is_blank(rt, path) {
+            Ok(true) => (Err(empty()), None),
+            Ok(false) => book_at(rt, path, start),
+            Err(AllocError) => (Err(FileFault::Memory), None),
+        },
+        Ok(Place::NoFile) => {
             let cause = Cause::NoFile;
             (Err(FileFault::NotOurs { cause }), None)
         }
@@ -64,32 +64,9 @@ fn empty() -> FileFault
     FileFault::NotOurs { cause }
 }
 
-// Whether a file and its log have nothing: SQLite would begin a database in them. The log stands
-// beside the file itself, and not beside a link to it.
-fn is_blank<R: Files + AllocGlobal>(rt: &R, path: &str) -> bool {
-    if bytes_in(rt, path) > 1 {
-        return false;
-    }
-    match fs::canonicalize(rt, path) {
-        Ok(real) => has_empty_log(rt, real.as_str()),
-        Err(_) => has_empty_log(rt, path),
-    }
-}
-
-// Whether the log of a file has nothing for it, or isn't there.
-fn has_empty_log<R: Files + AllocGlobal>(rt: &R, path: &str) -> bool {
-    match format!(in rt.alloc(); "{path}-wal") {
-        Ok(log) => bytes_in(rt, log.as_str()) <= EMPTY_LOG,
-        Err(_) => false,
-    }
-}
-
-// How many bytes a file has: none where it isn't there.
-fn bytes_in<R: Files>(files: &R, path: &str) -> u64 {
-    match fs::metadata(files, path) {
-        Ok(found) => found.len(),
-        Err(_) => 0,
-    }
+// Whether a file and its log have nothing: SQLite would begin a database in them.
+fn is_blank<R: Files + AllocGlobal>(rt: &R, path: &str) -> Result<bool, AllocError> {
+    Ok(!has_more(rt, path, 1)? && !has_log(rt, path)?)
 }
 
 // Reads and audits the file at a path that has one.

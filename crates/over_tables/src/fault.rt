@@ -6,6 +6,7 @@ use crate::cause::Cause;
 use file_causes::Damage;
 use job_facts::StoreFault;
 use sqlite::{Error, ErrorCode};
+use std::alloc::AllocError;
 
 /// The number of the refusal of a file whose tables are not ours.
 pub const NOT_OURS: u16 = 81;
@@ -37,6 +38,17 @@ impl From<StoreFault> for FileFault {
             StoreFault::Memory => FileFault::Memory,
             StoreFault::Device | StoreFault::Full => FileFault::Storage,
         }
+    }
+}
+
+impl From<AllocError> for FileFault {
+    ghost use Rattle.std.specs.Prelude.{◌≡◌};
+    ghost use Rattle.over_tables.specs.declared.fault.FileFault.TheVariants.{Memory};
+
+    ghost from_gives = { λ _ fault. fault ≡ Memory };
+
+    fn from(_error: AllocError) -> FileFault {
+        FileFault::Memory
     }
 }
 

@@ -1,5 +1,6 @@
 -- What comes of the file at a path: a task ran over its store, or why none did.
-use Rattle.std.specs.Prelude.{◌≡◌, ◌⊎◌, ◌↔◌, Bool, true, false, IsTrue, Option, None, IfSome}
+use Rattle.std.specs.Prelude.{◌≡◌, ◌⊎◌, ◌↔◌, Bool, true, false, IsTrue, Option, None, IfSome, Result}
+use Rattle.std.specs.declared.alloc.AllocError.{AllocError}
 use Rattle.sqlite.specs.Files.{FailsToOpenFiles, IsCleanLeft, IsOpened, LeavesFiles, file_state, over_files}
 use Rattle.sqlite.specs.Held.{Held}
 use Rattle.sqlite.specs.Opening.{is_open_error}
@@ -52,11 +53,11 @@ module _ {D : Type 0} (g : Ghosts D) where
   OverFiles image P = (conn : Held (FileStore D g)) × (HasCleanDisk (file_state conn) → IsOpened conn × FindsIn image (file_state conn)) × P conn
 
   -- SQLite doesn't open the files, and the fault is that of its error: why it opens none, or what it
-  -- leaves of those that it opened
+  -- leaves of those that it opened. Memory that was refused as the file system was asked is the first.
   pub record IsUnopened (IsFresh : Bool → D → Type 0) (fault : FileFault) : Type 0 where
     pub error : Error
     pub left : Option (Leftover D g)
-    pub place : Place
+    pub place : Result Place AllocError
     pub cause : fault ≡ of_opening error place
     pub named : IsTrue (is_open_error error)
     pub none : left ≡ None → (error ≡ SqliteFailure CannotOpen) ⊎ ((error ≡ SqliteFailure OutOfMemory) ⊎ (error ≡ SqliteFailure DatabaseBusy))

@@ -1,6 +1,7 @@
 -- Why SQLite doesn't open a file, by its error and by what the file system says of the path (this
 -- project's profile).
-use Rattle.std.specs.Prelude.{false}
+use Rattle.std.specs.Prelude.{false, Result, Ok, Err}
+use Rattle.std.specs.declared.alloc.AllocError.{AllocError}
 use Rattle.sqlite.specs.declared.error.Error.{Error}
 use Rattle.sqlite.specs.declared.error.Error.TheVariants.{SqliteFailure}
 use Rattle.sqlite.specs.declared.error.ErrorCode.TheVariants as code
@@ -33,13 +34,15 @@ abbrev pub unread : Cause → Place → Cause
 unread other (place.File false) = cause.NotSqlite
 unread other _ = other
 
--- what SQLite doesn't open for another cause than memory or the device is not ours
-abbrev pub of_opening : Error → Place → FileFault
+-- What SQLite doesn't open for another cause than memory or the device is not ours. By Err, memory
+-- was refused as the file system was asked of the path.
+abbrev pub of_opening : Error → Result Place AllocError → FileFault
 of_opening (SqliteFailure code.OutOfMemory) p = Memory
 of_opening (SqliteFailure code.SystemIoFailure) p = Storage
 of_opening (SqliteFailure code.DiskFull) p = Storage
 of_opening (SqliteFailure code.Closed) p = Storage
-of_opening (SqliteFailure code.CannotOpen) p = NotOurs (cannot_open p)
 of_opening (SqliteFailure code.DatabaseBusy) p = NotOurs cause.InUse
-of_opening (SqliteFailure code.DatabaseCorrupt) p = NotOurs (unread cause.Corrupt p)
-of_opening _ p = NotOurs (unread cause.Invalid p)
+of_opening _ (Err _) = Memory
+of_opening (SqliteFailure code.CannotOpen) (Ok p) = NotOurs (cannot_open p)
+of_opening (SqliteFailure code.DatabaseCorrupt) (Ok p) = NotOurs (unread cause.Corrupt p)
+of_opening _ (Ok p) = NotOurs (unread cause.Invalid p)

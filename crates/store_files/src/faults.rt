@@ -5,6 +5,7 @@ ghost use Rattle.store_files.specs.Unopened.{absent, cannot_open, of_opening};
 use crate::place::Place;
 use over_tables::{Cause, FileFault};
 use sqlite::{Error, ErrorCode};
+use std::alloc::AllocError;
 
 // Why a file that is not there isn't ours.
 pub(crate) fn absent(place: Place) -> FileFault
@@ -31,8 +32,9 @@ fn cannot_open(place: Place) -> Cause
     }
 }
 
-/// Why SQLite didn't open a file, by its error and by what the file system says of the path.
-pub fn unopened(error: Error, place: Place) -> FileFault
+/// Why SQLite didn't open a file, by its error and by what the file system says of the path, unless
+/// memory was refused as it was asked.
+pub fn unopened(error: Error, place: Result<Place, AllocError>) -> FileFault
     ensures { result ≡ of_opening error place }
 {
     let cause = match (error, place) {
@@ -43,11 +45,12 @@ pub fn unopened(error: Error, place: Place) -> FileFault
             ),
             _,
         ) => return FileFault::Storage,
-        (Error::SqliteFailure(ErrorCode::CannotOpen), place) => cannot_open(place),
         (Error::SqliteFailure(ErrorCode::DatabaseBusy), _) => Cause::InUse,
-        (_, Place::File { is_sqlite: false }) => Cause::NotSqlite,
-        (Error::SqliteFailure(ErrorCode::DatabaseCorrupt), _) => Cause::Corrupt,
-        _ => Cause::Invalid,
+        (_, Err(AllocError)) => return FileFault::Memory,
+        (Error::SqliteFailure(ErrorCode::CannotOpen), Ok(place)) => cannot_open(place),
+        (_, Ok(Place::File { is_sqlite: false })) => Cause::NotSqlite,
+        (Error::SqliteFailure(ErrorCode::DatabaseCorrupt), Ok(_)) => Cause::Corrupt,
+        (_, Ok(_)) => Cause::Invalid,
     };
     FileFault::NotOurs { cause }
 }

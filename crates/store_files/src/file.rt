@@ -6,13 +6,14 @@ ghost use Rattle.over_tables.specs.Refusals.{IsNotOurs};
 ghost use Rattle.store_files.specs.Files.{IsNotTaken, IsTurnedDown, OverFiles, RunsOver};
 
 use crate::faults::{absent, unopened};
-use crate::place::{has_log, place_of};
+use crate::place::{Place, has_log, is_missing, names_no_file, place_of};
 use over_tables::{FileFault, Wanted, begins, store_over};
 use schema::SqlStore;
-use sqlite::{Connection, FileFrom, FileStore};
+use sqlite::{Connection, Error, ErrorCode, FileFrom, FileStore};
 use sqlite_disk::{Disk, Start};
 use std::alloc::Global;
-use std::fs;
+
+const CANNOT_OPEN: Error = Error::SqliteFailure(ErrorCode::CannotOpen);
 
 /// What is done with the store of a file.
 pub trait StoreTask {
@@ -58,10 +59,13 @@ pub fn with_store<T: StoreTask + Drop, S: Start>(
         (IsNotTaken ⟦<FileFrom<S> as Disk>⟧ (image_at S.Start) IsFresh wanted) }
     ensures memory { path.now ≡ codes ":memory:" → IsErrAnd result IsNotOurs }
 {
-    if wanted == Wanted::Ours && is_missing(rt, path) {
-        return Err(absent(place_of(rt, path)));
+    if names_no_file(path) {
+        return Err(unopened(CANNOT_OPEN, Ok(Place::Special)));
     }
-    let has_log = has_log(rt, path);
+    if wanted == Wanted::Ours && is_missing(rt, path)? {
+        return Err(absent(place_of(rt, path)?));
+    }
+    let has_log = has_log(rt, path)?;
     match Connection::open_from(rt, path, false, start) {
         Ok(conn) => run_over(rt.alloc(), conn, has_log, wanted, task),
         Err((error, left)) => {
@@ -88,9 +92,4 @@ fn run_over<T: StoreTask + Drop, D: Disk + Drop>(
         Ok(store) => Ok(task.perform(store, Found { is_new, has_log })),
         Err((_, fault)) => Err(fault),
     }
-}
-
-// Whether no file has this path.
-fn is_missing(rt: &HostRuntime, path: &str) -> bool {
-    matches!(fs::exists(rt, path), Ok(false))
 }

@@ -7,4 +7,4 @@ mod place;
 
 pub use faults::unopened;
 pub use file::{Found, StoreTask, with_store};
-pub use place::{Place, place_of};
+pub use place::{Place, has_log, has_more, place_of};

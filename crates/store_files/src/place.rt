@@ -1,7 +1,10 @@
 //! What the file system says of a path.
+ghost use Rattle.std.specs.Prelude.{◌≡◌, ◌↔◌, codes, IfOk, IsErr, IsErrAnd, IsTrue};
+ghost use Rattle.std.specs.IoError.{error_kind};
+
 use std::alloc::{AllocError, AllocGlobal};
 use std::fs::{self, Files, Metadata, OpenOptions};
-use std::io::{ErrorKind, Read};
+use std::io::{self, ErrorKind, Read};
 use std::os::unix::fs::MetadataExt;
 use std::path::PathBuf;
 
@@ -34,28 +37,58 @@ pub enum Place {
 }
 
 /// What the file system says of a path. A file that has it is opened, its first bytes are read, and
-/// it is closed again.
-pub fn place_of<R: Files + AllocGlobal>(rt: &R, path: &str) -> Place {
-    if path == ":memory:" || path.starts_with("file:") {
-        return Place::Special;
+/// it is closed again. Errors: memory was refused.
+pub fn place_of<R: Files + AllocGlobal>(rt: &R, path: &str) -> Result<Place, AllocError> {
+    if names_no_file(path) {
+        return Ok(Place::Special);
     }
-    match real_path(rt, path) {
-        Ok(real) => place_at(rt, real.as_str()),
-        Err(_) => Place::Unclear,
+    let real = real_path(rt, path)?;
+    place_at(rt, real.as_str())
+}
+
+/// Whether a log with something for its file stands beside a path. Errors: memory was refused.
+pub fn has_log<R: Files + AllocGlobal>(rt: &R, path: &str) -> Result<bool, AllocError> {
+    let log = beside(rt, path, "-wal")?;
+    has_more(rt, log.as_str(), EMPTY_LOG)
+}
+
+/// Whether there are more bytes under a path. Errors: memory was refused.
+pub fn has_more<R: Files>(files: &R, path: &str, most: u64) -> Result<bool, AllocError> {
+    match answer_of(fs::metadata(files, path))? {
+        Ok(found) => Ok(found.len() > most),
+        Err(_) => Ok(false),
     }
 }
 
-/// Whether a log with something for its file stands beside a path.
-pub(crate) fn has_log<R: Files + AllocGlobal>(rt: &R, path: &str) -> bool {
-    match beside(rt, path, "-wal") {
-        Ok(log) => has_more(rt, log.as_str(), EMPTY_LOG),
-        Err(_) => false,
+/// Whether no file has a path. Errors: memory was refused.
+pub(crate) fn is_missing<R: Files>(files: &R, path: &str) -> Result<bool, AllocError> {
+    match answer_of(fs::exists(files, path))? {
+        Ok(is_there) => Ok(!is_there),
+        Err(_) => Ok(false),
+    }
+}
+
+/// Whether a path is one of SQLite's names for what is no file.
+pub(crate) fn names_no_file(path: &str) -> bool
+    ensures { path.now ≡ codes ":memory:" → IsTrue result }
+{
+    path == ":memory:" || path.starts_with("file:")
+}
+
+// What the file system answers a call, if it isn't that memory was refused.
+fn answer_of<T: Drop>(answer: io::Result<T>) -> Result<io::Result<T>, AllocError>
+    ensures same { IfOk result (λ same. same ≡ answer) }
+    ensures refused { IsErr result ↔ IsErrAnd answer (λ e. error_kind e ≡ ErrorKind.OutOfMemory) }
+{
+    match answer {
+        Err(error) if error.kind() == ErrorKind::OutOfMemory => Err(AllocError),
+        answer => Ok(answer),
     }
 }
 
 // The path with no link in it, where something has it.
 fn real_path<R: Files + AllocGlobal>(rt: &R, path: &str) -> Result<PathBuf, AllocError> {
-    match fs::canonicalize(rt, path) {
+    match answer_of(fs::canonicalize(rt, path))? {
         Ok(real) => Ok(real),
         Err(_) => PathBuf::from_str(rt.alloc(), path),
     }
@@ -67,68 +100,73 @@ fn beside<R: Files + AllocGlobal>(rt: &R, path: &str, end: &str) -> Result<Strin
     format!(in rt.alloc(); "{}{end}", real.as_str())
 }
 
-// Whether there are more bytes under a path.
-fn has_more<R: Files>(files: &R, path: &str, most: u64) -> bool {
-    match fs::metadata(files, path) {
-        Ok(found) => found.len() > most,
-        Err(_) => false,
-    }
-}
-
-fn place_at<R: Files + AllocGlobal>(rt: &R, path: &str) -> Place {
-    match fs::metadata(rt, path) {
+fn place_at<R: Files + AllocGlobal>(rt: &R, path: &str) -> Result<Place, AllocError> {
+    match answer_of(fs::metadata(rt, path))? {
         Ok(found) => place_found(rt, path, &found),
         Err(error) => match error.kind() {
             ErrorKind::NotFound | ErrorKind::NotADirectory => place_missing(rt, path),
-            kind => place_refused(kind),
+            kind => Ok(place_refused(kind)),
         },
     }
 }
 
 // Something has the path.
-fn place_found<R: Files + AllocGlobal>(rt: &R, path: &str, found: &Metadata) -> Place {
+fn place_found<R: Files + AllocGlobal>(
+    rt: &R,
+    path: &str,
+    found: &Metadata,
+) -> Result<Place, AllocError> {
     if found.is_dir() {
-        Place::Folder
+        Ok(Place::Folder)
     } else if !found.is_file() || found.nlink() > 1 {
-        Place::Special
-    } else if has_journal(rt, path) {
-        Place::Journal
+        Ok(Place::Special)
+    } else if has_journal(rt, path)? {
+        Ok(Place::Journal)
     } else {
         place_of_file(rt, path, found.len() == 0)
     }
 }
 
 // Whether a journal stands beside a file.
-fn has_journal<R: Files + AllocGlobal>(rt: &R, path: &str) -> bool {
-    match beside(rt, path, "-journal") {
-        Ok(journal) => has_more(rt, journal.as_str(), 0),
-        Err(_) => false,
-    }
+fn has_journal<R: Files + AllocGlobal>(rt: &R, path: &str) -> Result<bool, AllocError> {
+    let journal = beside(rt, path, "-journal")?;
+    has_more(rt, journal.as_str(), 0)
 }
 
 // A file has the path.
-fn place_of_file<R: Files>(files: &R, path: &str, is_empty: bool) -> Place {
-    match OpenOptions::new().read(true).write(true).open(files, path) {
-        Ok(_) if is_empty => Place::File { is_sqlite: true },
-        Ok(mut file) => match is_sqlite(&mut file) {
-            Some(is_sqlite) => Place::File { is_sqlite },
-            None => Place::Unclear,
-        },
-        Err(error) => place_refused(error.kind()),
+fn place_of_file<R: Files>(files: &R, path: &str, is_empty: bool) -> Result<Place, AllocError> {
+    match answer_of(OpenOptions::new().read(true).write(true).open(files, path))? {
+        Ok(_) if is_empty => Ok(Place::File { is_sqlite: true }),
+        Ok(mut file) => place_by_head(&mut file),
+        Err(error) => Ok(place_refused(error.kind())),
+    }
+}
+
+// A file was opened: its first bytes say whether it begins as SQLite's do.
+fn place_by_head<F: Read>(file: &mut F) -> Result<Place, AllocError> {
+    let mut head = [0; 16];
+    match answer_of(file.read_exact(&mut head))? {
+        Ok(()) => Ok(Place::File {
+            is_sqlite: head.as_slice() == HEAD,
+        }),
+        Err(error) if error.kind() == ErrorKind::UnexpectedEof => {
+            Ok(Place::File { is_sqlite: false })
+        }
+        Err(_) => Ok(Place::Unclear),
     }
 }
 
 // Nothing has the path, unless it is a link.
-fn place_missing<R: Files>(files: &R, path: &str) -> Place {
-    if fs::symlink_metadata(files, path).is_ok() {
-        return Place::Special;
+fn place_missing<R: Files>(files: &R, path: &str) -> Result<Place, AllocError> {
+    if answer_of(fs::symlink_metadata(files, path))?.is_ok() {
+        return Ok(Place::Special);
     }
-    match fs::metadata(files, folder_of(path)) {
-        Ok(folder) if folder.is_dir() => Place::NoFile,
-        Ok(_) => Place::NoFolder,
+    match answer_of(fs::metadata(files, folder_of(path)))? {
+        Ok(folder) if folder.is_dir() => Ok(Place::NoFile),
+        Ok(_) => Ok(Place::NoFolder),
         Err(error) => match error.kind() {
-            ErrorKind::NotFound | ErrorKind::NotADirectory => Place::NoFolder,
-            kind => place_refused(kind),
+            ErrorKind::NotFound | ErrorKind::NotADirectory => Ok(Place::NoFolder),
+            kind => Ok(place_refused(kind)),
         },
     }
 }
@@ -147,15 +185,5 @@ fn folder_of(path: &str) -> &str {
         None => ".",
         Some(0) => "/",
         Some(end) => &path[..end],
-    }
-}
-
-// Whether a file begins as SQLite's do, if it can be read.
-fn is_sqlite<F: Read>(file: &mut F) -> Option<bool> {
-    let mut head = [0; 16];
-    match file.read_exact(&mut head) {
-        Ok(()) => Some(head.as_slice() == HEAD),
-        Err(error) if error.kind() == ErrorKind::UnexpectedEof => Some(false),
-        Err(_) => None,
     }
 }

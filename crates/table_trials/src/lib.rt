@@ -29,6 +29,8 @@ mod causes;
 #[cfg(test)]
 mod damaged;
 #[cfg(test)]
+mod places;
+#[cfg(test)]
 mod stops;
 #[cfg(test)]
 mod versions;

@@ -1,0 +1,145 @@
+//! What the file system says of a path: nothing else than that where memory is refused.
+use crate::causes::{folder_of, within, write};
+use std::alloc::{Alloc, AllocError, AllocGlobal, Allocator, Global};
+use std::cell::Cell;
+use std::fs::{self, Files, Metadata, OpenOptions};
+use std::io::{self, ErrorKind};
+use std::path::PathBuf;
+use std::process::Abort;
+use std::test::Fail;
+use store_files::{Place, has_log, place_of};
+
+// A file system that once says that memory was refused, behind so many answers.
+#[derive(Drop)]
+struct OutOfMemory<'a, R> {
+    rt: &'a R,
+    answers: u32,
+    asked: Cell<u32>,
+}
+
+impl<'a, R> OutOfMemory<'a, R> {
+    fn after(rt: &'a R, answers: u32) -> OutOfMemory<'a, R> {
+        OutOfMemory {
+            rt,
+            answers,
+            asked: Cell::new(0),
+        }
+    }
+
+    // Counts what is asked.
+    fn take(&self) -> io::Result<()> {
+        let asked = self.asked.get();
+        self.asked.set(asked.saturating_add(1));
+        if asked == self.answers {
+            return Err(io::Error::from(ErrorKind::OutOfMemory));
+        }
+        Ok(())
+    }
+}
+
+impl<R: AllocGlobal> Alloc for OutOfMemory<'_, R> {
+    type A = Global;
+
+    fn alloc(&self) -> Global {
+        self.rt.alloc()
+    }
+}
+
+impl<R: Files> Files for OutOfMemory<'_, R> {
+    type File = R::File;
+
+    type Dir = R::Dir;
+
+    fn open_file(&self, how: &OpenOptions, path: &str) -> io::Result<R::File> {
+        self.take()?;
+        self.rt.open_file(how, path)
+    }
+
+    fn metadata(&self, path: &str) -> io::Result<Metadata> {
+        self.take()?;
+        self.rt.metadata(path)
+    }
+
+    fn symlink_metadata(&self, path: &str) -> io::Result<Metadata> {
+        self.take()?;
+        self.rt.symlink_metadata(path)
+    }
+
+    fn canonicalize<B: Allocator>(&self, alloc: B, path: &str) -> io::Result<PathBuf<B>> {
+        self.take()?;
+        self.rt.canonicalize(alloc, path)
+    }
+
+    fn open_dir(&self, path: &str) -> io::Result<R::Dir> {
+        self.rt.open_dir(path)
+    }
+
+    fn copy(&self, from: &str, to: &str) -> io::Result<u64> {
+        self.rt.copy(from, to)
+    }
+
+    fn rename(&self, from: &str, to: &str) -> io::Result<()> {
+        self.rt.rename(from, to)
+    }
+
+    fn remove_file(&self, path: &str) -> io::Result<()> {
+        self.rt.remove_file(path)
+    }
+
+    fn create_dir(&self, path: &str) -> io::Result<()> {
+        self.rt.create_dir(path)
+    }
+
+    fn remove_dir(&self, path: &str) -> io::Result<()> {
+        self.rt.remove_dir(path)
+    }
+
+    fn remove_dir_all<B: Allocator>(&self, alloc: B, path: &str) -> io::Result<()> {
+        self.rt.remove_dir_all(alloc, path)
+    }
+}
+
+// Each answer that is asked for may be the one that memory is refused for.
+fn check_place<R: Files + AllocGlobal + Abort>(rt: &R, path: &str, answers: u32, place: Place) {
+    for answers in 0..answers {
+        let refusing = OutOfMemory::after(rt, answers);
+        assert_eq!(rt;
+            place_of(&refusing, path),
+            Err(AllocError),
+            "{path} {answers}"
+        );
+    }
+    assert_eq!(rt; place_of(&OutOfMemory::after(rt, answers), path), Ok(place));
+}
+
+// So it is with the log that stands beside the path.
+fn check_log<R: Files + AllocGlobal + Abort>(rt: &R, path: &str) {
+    for answers in 0..2 {
+        let refusing = OutOfMemory::after(rt, answers);
+        assert_eq!(rt; has_log(&refusing, path), Err(AllocError), "{answers}");
+    }
+    assert_eq!(rt; has_log(&OutOfMemory::after(rt, 2), path), Ok(true));
+}
+
+#[test]
+fn refused_memory_is_no_answer(rt: HostRuntime) -> Result<(), Fail> {
+    let folder = folder_of(&rt, "refused")?;
+    let folder = folder.as_str();
+    let path = within(&rt, folder, "shop.db")?;
+    let path = path.as_str();
+    write(&rt, path, b"SQLite format 3\0")?;
+    let log = format!(in rt.alloc(); "{path}-wal")?;
+    write(&rt, log.as_str(), [0; 42].as_slice())?;
+    check_log(&rt, path);
+    check_place(&rt, path, 5, Place::File { is_sqlite: true });
+    let journal = format!(in rt.alloc(); "{path}-journal")?;
+    write(&rt, journal.as_str(), b"\xd9\xd5\x05\xf9\x20\xa1\x63\xd7")?;
+    check_place(&rt, path, 4, Place::Journal);
+    check_place(&rt, folder, 2, Place::Folder);
+    let none = within(&rt, folder, "none.db")?;
+    check_place(&rt, none.as_str(), 4, Place::NoFile);
+    let lost = within(&rt, folder, "lost/shop.db")?;
+    check_place(&rt, lost.as_str(), 4, Place::NoFolder);
+    fs::remove_dir_all(&rt, folder)?;
+    Ok(())
+}
