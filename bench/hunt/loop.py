@@ -58,7 +58,11 @@ class Loop:
     def kill_server(self) -> None:
         """Kills the one process of the script's group that is the server."""
         for entry in pathlib.Path("/proc").glob("[0-9]*/stat"):
-            name, _, rest = entry.read_text().partition("(")[2].rpartition(")")
+            try:
+                stat = entry.read_text()
+            except (FileNotFoundError, ProcessLookupError):  # a process that has ended since
+                continue
+            name, _, rest = stat.partition("(")[2].rpartition(")")
             if name == "persod" and int(rest.split()[2]) == self.process.pid:
                 os.kill(int(entry.parent.name), signal.SIGKILL)
 
