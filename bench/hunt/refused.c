@@ -5,7 +5,7 @@
  * that fails, is killed or takes over 60 seconds, and then how many allocations were asked for, refused, and failed so. The program itself
  * is refused nothing. It may have one thread, and no file or socket that a child would share.
  *
- * AT: with no STEP, the number of the one allocation that the program itself is refused.
+ * AT: with no STEP, the number of the one allocation that the program itself is refused; it is killed behind 60 seconds.
  */
 #include <errno.h>
 #include <fcntl.h>
@@ -54,6 +54,8 @@ __attribute__((constructor)) static void begin(void)
 {
     step = number_of("STEP");
     alone = number_of("AT");
+    if (alone)
+        alarm(60);
     jobs = number_of("JOBS");
     if (jobs < 1 || jobs > MOST_JOBS)
         jobs = 1;

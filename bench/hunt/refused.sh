@@ -4,22 +4,22 @@
 # names have it: bench/run refused memory:: picks those of single calls, and bench/run refused refused:: those over both stores. Of a test that
 # asks for more than 100,000, it refuses some 2000, evenly spread. The tests of files in a folder of their own are run anew for each allocation,
 # and such a run may end by saying that memory was refused. It leaves out the tests of files that stop at each call or stay, of damaged tables,
-# of earlier versions served, and of a file behind a socket, which fail where memory is refused.
+# of earlier versions served, of a file behind a socket, and of a file system that says itself that memory is refused: these fail where it is.
 set -euo pipefail
 cd "$(dirname "$0")/../.."
 folder=$(mktemp -d)
 trap 'rm -rf "$folder"' EXIT
 cc -O2 -shared -fPIC -o "$folder/refused.so" bench/hunt/refused.c
 ulimit -c 0
+touch "$folder/failed"
 
-# Refuses one in so many allocations of a test. Prints how many it asks for, how many were refused, and how many of those failed.
+# Refuses one in so many allocations of a test. The report's last line says how many it asks for, how many were refused, and how many failed.
 refuse() {
     LD_PRELOAD=$folder/refused.so STEP=$2 JOBS=$(nproc) REPORT=$folder/report "$program" "$1" >/dev/null
-    sed -n "s/^allocation /$1: &/p" "$folder/report" >>"$folder/failed"
     tail -n 1 "$folder/report"
 }
 
-# Refuses each allocation of a test in a run of its own, which has a folder of its own. Prints as `refuse` does.
+# Refuses each of so many allocations of a test in a run of its own, whose folder no other run has. Prints as `refuse` does.
 refuse_alone() {
     seq "$2" | xargs -P "$(nproc)" -n 100 bash -c 'run_alone "$@"' "$1" >"$folder/wrong"
     cat "$folder/wrong" >>"$folder/failed"
@@ -31,28 +31,30 @@ run_alone() {
     local at room said
     room=$(mktemp -d "$folder/room.XXXXXX")
     for at; do
-        said=$(timeout 60 env TMPDIR="$room" LD_PRELOAD="$folder/refused.so" AT="$at" "$program" "$0" 2>&1) ||
-            grep -q -x -E 'error: (Memory|AllocError|.*OutOfMemory.*)' <<<"$said" || echo "$0: allocation $at: ${said//$'\n'/; }"
-        rm -rf "$room"/*
+        said=$(TMPDIR=$room LD_PRELOAD=$folder/refused.so AT=$at "$program" "$0" 2>&1) ||
+            [[ $said =~ ^'error: '[^$'\n']*(Memory|AllocError) ]] || echo "$0: allocation $at: ${said//$'\n'/; }"
     done
-    rmdir "$room"
+    rm -rf "$room"
 }
 export -f run_alone
 export folder program
 
 tests=0 total=0 failed=0
 for program in "$1" "$2"; do
-    for test in $("$program" --list | sed -n 's/: test$//p' | grep -v -e '::a_stop_at_each_call_' -e '::files_' -e '^damaged::' -e '^carried::' -e '^served::' | grep -F -- "${3:-}"); do
+    for test in $("$program" --list | sed -n 's/: test$//p' | grep -v -e '::a_stop_at_each_call_' -e '::files_' -e '^damaged::' -e '^carried::' -e '^served::' -e '^places::' | grep -F -- "${3:-}"); do
         read -r asked _ <<<"$(refuse "$test" 1000000000)"
         step=$((asked > 100000 ? asked / 2000 + 1 : 1))
         case $test in
-        causes::* | places::*) read -r asked refused wrong <<<"$(refuse_alone "$test" "$asked")" ;;
-        *) read -r asked refused wrong <<<"$(refuse "$test" "$step")" ;;
+        causes::*) read -r asked refused wrong <<<"$(refuse_alone "$test" "$asked")" ;;
+        *)
+            read -r asked refused wrong <<<"$(refuse "$test" "$step")"
+            sed -n "s/^allocation /$test: &/p" "$folder/report" >>"$folder/failed"
+            ;;
         esac
         echo "$test: $refused of $asked"
         tests=$((tests + 1)) total=$((total + refused)) failed=$((failed + wrong))
     done
 done
-sort -u "$folder/failed"
+cat "$folder/failed"
 echo "$total allocations refused, each in a child of its own, of $tests tests: $((total - failed)) passed, $failed failed"
 [ "$total" -gt 0 ] && [ "$failed" -eq 0 ]

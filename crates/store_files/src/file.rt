@@ -6,14 +6,12 @@ ghost use Rattle.over_tables.specs.Refusals.{IsNotOurs};
 ghost use Rattle.store_files.specs.Files.{IsNotTaken, IsTurnedDown, OverFiles, RunsOver};
 
 use crate::faults::{absent, unopened};
-use crate::place::{Place, has_log, is_missing, names_no_file, place_of};
+use crate::place::{has_log, is_missing, place_of};
 use over_tables::{FileFault, Wanted, begins, store_over};
 use schema::SqlStore;
-use sqlite::{Connection, Error, ErrorCode, FileFrom, FileStore};
+use sqlite::{Connection, FileFrom, FileStore};
 use sqlite_disk::{Disk, Start};
 use std::alloc::Global;
-
-const CANNOT_OPEN: Error = Error::SqliteFailure(ErrorCode::CannotOpen);
 
 /// What is done with the store of a file.
 pub trait StoreTask {
@@ -59,9 +57,6 @@ pub fn with_store<T: StoreTask + Drop, S: Start>(
         (IsNotTaken ⟦<FileFrom<S> as Disk>⟧ (image_at S.Start) IsFresh wanted) }
     ensures memory { path.now ≡ codes ":memory:" → IsErrAnd result IsNotOurs }
 {
-    if names_no_file(path) {
-        return Err(unopened(CANNOT_OPEN, Ok(Place::Special)));
-    }
     if wanted == Wanted::Ours && is_missing(rt, path)? {
         return Err(absent(place_of(rt, path)?));
     }

@@ -1,5 +1,5 @@
 //! What the file system says of a path.
-ghost use Rattle.std.specs.Prelude.{◌≡◌, ◌↔◌, codes, IfOk, IsErr, IsErrAnd, IsTrue};
+ghost use Rattle.std.specs.Prelude.{◌≡◌, ◌↔◌, codes, false, IfOk, IsErr, IsErrAnd, IsTrue, Ok};
 ghost use Rattle.std.specs.IoError.{error_kind};
 
 use std::alloc::{AllocError, AllocGlobal};
@@ -38,7 +38,9 @@ pub enum Place {
 
 /// What the file system says of a path. A file that has it is opened, its first bytes are read, and
 /// it is closed again. Errors: memory was refused.
-pub fn place_of<R: Files + AllocGlobal>(rt: &R, path: &str) -> Result<Place, AllocError> {
+pub fn place_of<R: Files + AllocGlobal>(rt: &R, path: &str) -> Result<Place, AllocError>
+    ensures memory { path.now ≡ codes ":memory:" → result ≡ Ok Place.Special }
+{
     if names_no_file(path) {
         return Ok(Place::Special);
     }
@@ -47,7 +49,12 @@ pub fn place_of<R: Files + AllocGlobal>(rt: &R, path: &str) -> Result<Place, All
 }
 
 /// Whether a log with something for its file stands beside a path. Errors: memory was refused.
-pub fn has_log<R: Files + AllocGlobal>(rt: &R, path: &str) -> Result<bool, AllocError> {
+pub fn has_log<R: Files + AllocGlobal>(rt: &R, path: &str) -> Result<bool, AllocError>
+    ensures memory { path.now ≡ codes ":memory:" → result ≡ Ok false }
+{
+    if names_no_file(path) {
+        return Ok(false);
+    }
     let log = beside(rt, path, "-wal")?;
     has_more(rt, log.as_str(), EMPTY_LOG)
 }
@@ -60,16 +67,21 @@ pub fn has_more<R: Files>(files: &R, path: &str, most: u64) -> Result<bool, Allo
     }
 }
 
-/// Whether no file has a path. Errors: memory was refused.
-pub(crate) fn is_missing<R: Files>(files: &R, path: &str) -> Result<bool, AllocError> {
+/// Whether a path is one of a file, and no file has it. Errors: memory was refused.
+pub(crate) fn is_missing<R: Files>(files: &R, path: &str) -> Result<bool, AllocError>
+    ensures memory { path.now ≡ codes ":memory:" → result ≡ Ok false }
+{
+    if names_no_file(path) {
+        return Ok(false);
+    }
     match answer_of(fs::exists(files, path))? {
         Ok(is_there) => Ok(!is_there),
         Err(_) => Ok(false),
     }
 }
 
-/// Whether a path is one of SQLite's names for what is no file.
-pub(crate) fn names_no_file(path: &str) -> bool
+// Whether a path is one of SQLite's names for what is no file.
+fn names_no_file(path: &str) -> bool
     ensures { path.now ≡ codes ":memory:" → IsTrue result }
 {
     path == ":memory:" || path.starts_with("file:")

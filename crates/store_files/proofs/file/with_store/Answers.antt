@@ -1,12 +1,12 @@
-use Rattle.std.proofs.Common.{◌≡◌, ◌⊎◌, Bool, IsTrue, Result, Ok, Err, None, IfErr, IsErrAnd, refl, inl, inr}
+use Rattle.std.proofs.Common.{◌≡◌, Bool, Result, Ok, Err, None, IfErr, IsErrAnd, refl, sym, subst, inl, inr}
 use Rattle.std.proofs.lemmas.Result.{IfErr-weaker, IfOk-weaker}
 use Rattle.std.specs.declared.alloc.AllocError.{AllocError}
-use Rattle.sqlite.specs.Opening.{is_open_error}
 use Rattle.sqlite.specs.Recovery.{Image}
 use Rattle.sqlite.specs.declared.error.Error.{Error}
 use Rattle.sqlite.specs.declared.error.Error.TheVariants.{SqliteFailure}
-use Rattle.sqlite.specs.declared.error.ErrorCode.TheVariants.{CannotOpen, DatabaseBusy, OutOfMemory}
+use Rattle.sqlite.specs.declared.error.ErrorCode.TheVariants.{CannotOpen, OutOfMemory}
 use Rattle.sqlite_disk.specs.declared.Disk.{Ghosts}
+use Rattle.over_tables.specs.Refusals.{IsNotOurs}
 use Rattle.over_tables.specs.declared.fault.FileFault.{FileFault}
 use Rattle.over_tables.specs.declared.fault.FileFault.TheVariants.{Memory}
 use Rattle.over_tables.specs.declared.opening.Wanted.{Wanted}
@@ -16,19 +16,16 @@ use Rattle.store_files.specs.declared.place.Place.{Place}
 use Rattle.store_files.specs.declared.place.Place.TheVariants.{Special, Unclear}
 use Rattle.store_files.proofs.file.with_store.Goals as goal
 
--- nothing is opened where the path is none, and where memory is refused
-opens_none :
-    {D : Type 0} (g : Ghosts D) (image : Image) (IsFresh : Bool → D → Type 0) (wanted : Wanted) (fault : FileFault) (error : Error) (place : Result Place AllocError) → IsTrue (is_open_error error)
-    → (error ≡ SqliteFailure CannotOpen) ⊎ ((error ≡ SqliteFailure OutOfMemory) ⊎ (error ≡ SqliteFailure DatabaseBusy)) → fault ≡ of_opening error place → IsNotTaken g image IsFresh wanted fault
-opens_none g image IsFresh wanted fault error place named is cause = inr (inl (record { error = error; left = None; place = place; cause = cause; named = named; none = λ _. is; some = tt }))
-
+-- where memory is refused before SQLite is asked, nothing is opened
 refused :
     {D Done : Type 0} (g : Ghosts D) (image : Image) (IsFresh : Bool → D → Type 0) (wanted : Wanted) (result : Result Done FileFault) → IsErrAnd result (λ fault. fault ≡ Memory) → IfErr result (IsNotTaken g image IsFresh wanted)
 refused g image IsFresh wanted (Ok _) is = absurd is
-refused g image IsFresh wanted (Err fault) is = opens_none g image IsFresh wanted fault (SqliteFailure OutOfMemory) (Ok Unclear) refl (inr (inl refl)) is
+refused g image IsFresh wanted (Err fault) is =
+    inr (inl (record { error = SqliteFailure OutOfMemory; left = None; place = Ok Unclear; cause = is; named = refl; none = λ _. inr (inl refl); some = tt }))
 
-pub returns-then-names_no_file-clause-not_taken : goal.returns-then-names_no_file-clause-not_taken
-returns-then-names_no_file-clause-not_taken g c = opens_none _ _ _ _ _ (SqliteFailure CannotOpen) (Ok Special) refl (inl refl) c.unopened.ensures
+-- what SQLite can't open, and is no file, isn't ours
+cannot_open_is : (error : Error) (place : Result Place AllocError) → error ≡ SqliteFailure CannotOpen → place ≡ Ok Special → IsNotOurs (of_opening error place)
+cannot_open_is error place failed is = subst (λ error. IsNotOurs (of_opening error place)) (sym failed) (subst (λ place. IsNotOurs (of_opening (SqliteFailure CannotOpen) place)) (sym is) tt)
 
 pub returns-in_err-is_missing-clause-not_taken : goal.returns-in_err-is_missing-clause-not_taken
 returns-in_err-is_missing-clause-not_taken g c = refused _ _ _ _ c.from_residual.result c.from_residual.ensures.1
@@ -48,12 +45,19 @@ returns-in-Ok-clause-not_taken g c =
     IfErr-weaker c.run_over.result _ _
     (λ fault refused. inr (inr (c.in-Ok.conn, (λ clean. (c.in-Ok.ensures.opened clean, c.in-Ok.ensures.found clean)), refused))) c.run_over.ensures.turned_down
 
+pub returns-in-Ok-clause-memory : goal.returns-in-Ok-clause-memory
+returns-in-Ok-clause-memory g c is = absurd (c.in-Ok.ensures.memory is)
+
+pub returns-in-Err-clause-memory : goal.returns-in-Err-clause-memory
+returns-in-Err-clause-memory g c is =
+    subst IsNotOurs (sym c.unopened.ensures) (cannot_open_is c.in-Err.error c.place_of-in-Err.result (c.in-Err.ensures.memory is) (c.place_of-in-Err.ensures.memory is))
+
 pub returns-in-Err-clause-not_taken : goal.returns-in-Err-clause-not_taken
 returns-in-Err-clause-not_taken g c = inr (inl (record {
   error = c.in-Err.error;
   left = c.in-Err.left;
   place = c.place_of-in-Err.result;
-  cause = c.unopened-in-Err.ensures;
+  cause = c.unopened.ensures;
   named = c.in-Err.ensures.named;
   none = c.in-Err.ensures.unopened;
   some = c.in-Err.ensures.cause;
