@@ -71,7 +71,7 @@ def grouped(rows: list[Any], key: Callable[[Any], Any]) -> dict[Any, list[Any]]:
     return made
 
 
-# What the rows have to be. Each of these finds what breaks one sentence of docs/TABLES.md, "When rows are taken".
+# The audit rules. Each of these functions finds the rows that break one rule of docs/TABLES.md, "Audit rules".
 
 
 def names_are_in_range(its: Tables) -> Findings:
