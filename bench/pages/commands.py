@@ -379,7 +379,7 @@ def look(name: str, program: str) -> bool:
 
 def dead_links() -> list[str]:
     """The links that lead nowhere, of all pages."""
-    pages = [TOP / "README.md", *sorted((TOP / "docs").glob("*.md")), *sorted((TOP / "examples").glob("*.md"))]
+    pages = [page for folder in (".", "docs", "bench", "examples") for page in sorted((TOP / folder).glob("*.md"))]
     links = [(page, link) for page in pages for link in LINK.findall(page.read_text())]
     return [f"{page.relative_to(TOP)} links to {link}, which isn't there" for page, link in links if not (page.parent / link).exists()]
 

@@ -1,12 +1,12 @@
 #!/usr/bin/env python3
-"""Looks at each link of README.md, docs/, examples/ and bench/README.md, and fails where one leads nowhere.
+"""Checks the links of all pages: those at the top, in docs/ and in examples/, and bench/README.md. Fails if a link is broken.
 
     bench/run links
 
-A link to a file of this repository has to lead to one that is there, and one to a heading of a page to a heading that stands in it. Where the text of a
-link is a name in code and its target is a source file, as in [`Cursor::put`](../crates/store_data/src/cursor.rt), the last part of the name has to stand
-in that file as a word, or it names the crate. In a file of Rattle code it has to stand behind `fn`, `struct`, `enum` or `trait`. Each file that a cell of
-docs/MAP.md names as `crate`: `file.rt` or `S/File.antt` has to be there, too."""
+The target of a link must be an existing file or folder of this repository, and an anchor must be a heading of its page. If the text of a link is a name in
+code and its target is a source file, such as [`Cursor::put`](../crates/store_data/src/cursor.rt), the last part of the name must occur in this file as a
+word, or be the name of the crate. In a file of Rattle code it must follow `fn`, `struct`, `enum` or `trait`. Each file that a cell of CONTRIBUTING.md names
+as `crate`: `file.rt` or `S/File.antt` must exist, too."""
 import pathlib
 import re
 import sys
@@ -18,14 +18,14 @@ NAME = re.compile(r"`([\w:]+)`")
 
 
 def pages() -> list[pathlib.Path]:
-    found = [TOP / "README.md", TOP / "bench" / "README.md"]
+    found = [*sorted(TOP.glob("*.md")), TOP / "bench" / "README.md"]
     for folder in ("docs", "examples"):
         found += sorted((TOP / folder).glob("*.md"))
     return [page for page in found if page.exists()]
 
 
 def anchors(page: pathlib.Path) -> set[str]:
-    """What a link may name of a page: its headings, as a forge spells them."""
+    """The anchors of a page: its headings, in the form that GitHub and GitLab give them."""
     heads = re.findall(r"^#+ (.*)$", page.read_text(), re.M)
     return {re.sub(r"[^\w\- ]", "", head.lower()).replace(" ", "-") for head in heads}
 
@@ -33,7 +33,7 @@ def anchors(page: pathlib.Path) -> set[str]:
 def fault(page: pathlib.Path, text: str, target: str, anchor: str) -> str:
     path = page.parent / target if target else page
     if not path.exists():
-        return "isn't there"
+        return "doesn't exist"
     if anchor and path.suffix == ".md" and anchor not in anchors(path):
         return f"has no heading {anchor}"
     name = NAME.fullmatch(text)
@@ -46,18 +46,18 @@ def fault(page: pathlib.Path, text: str, target: str, anchor: str) -> str:
 
 
 def missing_files(page: pathlib.Path) -> list[str]:
-    """The files that the table of changes names and that aren't there."""
+    """The files that the table of changes names and that don't exist."""
     found = []
     for crate, files in CELL.findall(page.read_text()):
         for name in re.findall(r"`([\w/]+\.(?:rt|antt))`", files):
             path = TOP / "crates" / crate / (name.replace("S/", "specs/") if name.startswith("S/") else f"src/{name}")
             if not path.exists():
-                found.append(f"{page.relative_to(TOP)} names {path.relative_to(TOP)}, which isn't there")
+                found.append(f"{page.relative_to(TOP)} names {path.relative_to(TOP)}, which doesn't exist")
     return found
 
 
 def main() -> int:
-    count, faults = 0, missing_files(TOP / "docs" / "MAP.md")
+    count, faults = 0, missing_files(TOP / "CONTRIBUTING.md")
     for page in pages():
         for text, target, anchor in LINK.findall(page.read_text()):
             count += 1

@@ -1,5 +1,5 @@
 #!/usr/bin/env python3
-"""Counts the words of the sentences of README.md and of each page of docs/, bench/ and examples/, and fails where a page has long ones.
+"""Counts the words in the sentences of each page at the top, in docs/, bench/ and examples/, and fails if a page has long sentences.
 
     bench/run sentences [--show] [PAGE..]
 
@@ -67,7 +67,7 @@ def look(page: pathlib.Path, show: bool) -> bool:
 
 def main() -> int:
     names = [word for word in sys.argv[1:] if word != "--show"]
-    every = [TOP / "README.md", *(page for folder in ("docs", "bench", "examples") for page in sorted((TOP / folder).glob("*.md")))]
+    every = [page for folder in (".", "docs", "bench", "examples") for page in sorted((TOP / folder).glob("*.md"))]
     pages = [TOP / name for name in names] or every
     return 0 if all([look(page, "--show" in sys.argv) for page in pages]) else 1
 
