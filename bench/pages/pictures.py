@@ -63,7 +63,7 @@ def sections() -> dict[str, list[str]]:
 SECTIONS = {
     "Programs": (20, 96, 1060, 74, 7, "arguments, streams, files, sockets, exit status"),
     "Planning": (20, 208, 300, 180, 1, "batch file to planned and printed commands"),
-    "Tables and files": (370, 208, 360, 74, 3, "server and drill over a database file"),
+    "Tables and files": (370, 208, 360, 74, 4, "server and drill over a database file"),
     "Machine": (780, 208, 300, 152, 1, "feeder, feed, drill, and sockets"),
     "Server": (370, 314, 360, 74, 1, "one connection, a list of connections"),
     "Messages": (370, 420, 360, 92, 2, "bytes to requests and back"),
