@@ -11,6 +11,7 @@ use Rattle.arrivals.specs.Meaning.{Arrived, contents_after, http_reply_on, is_re
 abbrev pub IsFirst : Contents → Arrived → Type 0
 IsFirst c a = (is_released c.marks a ≡ false) × (entry_of c.kept a.client a.number ≡ None)
 
+-- the store in state `old` handles the arrival `a` with this `result`, and is then in state `new`
 pub record Handles (old new : State) (a : Arrived) (result : Result Kept StoreFault) : Type 0 where
   pub doubts : old.doubts ≤ new.doubts
   -- it gets the reply that it gets on the contents before it

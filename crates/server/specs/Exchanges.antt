@@ -50,6 +50,7 @@ IsNext c (Refused why) was_decided = ⊤
 IsNext c (Asks (asked.Account w)) was_decided = ⊤
 IsNext c (Asks (asked.Arrival a)) was_decided = was_decided ≡ true → IsFirst c (arrived a) → HandsOutNext c.facts (reply_to c.facts c.marks (arrived a))
 
+-- the store in state `old` serves the connection `e`, and is then in state `new`
 pub record Serves (old new : State) (e : Exchange) : Type 0 where
   pub means : Means e.input e.meant
   pub does : Does e.meant old new e.served.decided
