@@ -2,6 +2,7 @@
 //! empty database, and distinguished from others.
 #![tactic(auto)]
 
+mod adding;
 mod alike;
 mod each;
 mod opening;
