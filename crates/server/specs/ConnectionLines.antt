@@ -1,14 +1,15 @@
 -- The event lines of connections (this project's profile).
-use Rattle.std.specs.Prelude.{ℕ, ◌&&◌, ◌||◌, Bool, true, false, not, List, [], ◌∷◌, ◌++◌, bytes_eq, codes, if◌then◌else◌, Option, Some, None}
+use Rattle.std.specs.Prelude.{ℕ, ◌&&◌, ◌||◌, Bool, true, false, not, List, [], ◌∷◌, ◌++◌, bytes_eq, codes, length, if◌then◌else◌, Option, Some, None}
 use Rattle.job_facts.specs.declared.store.StoreFault.{StoreFault}
 use Rattle.job_facts.specs.declared.store.StoreFault.TheVariants as fault
 use Rattle.http_messages.specs.ReplyParts.{body_behind}
 use Rattle.server.specs.declared.served.End.{End}
 use Rattle.server.specs.declared.served.End.TheVariants.{Answered, Broken, WriteFailed}
-use Rattle.event_lines.specs.Lines.{pair, quoted_pair}
+use Rattle.event_lines.specs.Lines.{number_pair, pair, quoted_pair}
 use Rattle.event_lines.specs.declared.level.Level.{Level}
 use Rattle.event_lines.specs.declared.level.Level.TheVariants.{Off, Usual, All}
-use Rattle.server.specs.Words.{RefusalWords, refusal_in, request_line, status_digits}
+use Rattle.server.specs.Words.{RefusalWords, refusal_in, status_digits}
+use Rattle.server.specs.RequestLines.{request_line}
 use Rattle.server.specs.Observations.{fault_between}
 use Rattle.server.specs.declared.observation.Observation.{Observation}
 
@@ -62,8 +63,17 @@ outcome_text Answered o = codes "answered" ++ status_pair (status_digits o.reply
 outcome_text Broken o = codes "broken"
 outcome_text WriteFailed o = codes "unsent" ++ status_pair (status_digits o.reply)
 
+-- a request line, or otherwise the number of bytes
+abbrev pub line_pair : Option (List ℕ) → ℕ → List ℕ
+line_pair (Some line) count = quoted_pair (codes "request") line
+line_pair None count = number_pair (codes "bytes") count
+
+-- the request line at the front of `bytes`, or otherwise their number
+abbrev pub request_pair : List ℕ → List ℕ
+request_pair bytes = line_pair (request_line bytes) (length bytes)
+
 abbrev pub connection_line : Observation → List ℕ
-connection_line o = outcome_text o.served.end o ++ quoted_pair (codes "request") (request_line o.request)
+connection_line o = outcome_text o.served.end o ++ request_pair o.request
 
 -- ---- the lines of connections, one after the other
 

@@ -7,6 +7,7 @@ pub mod Exchanges
 pub mod Serving
 pub mod Memory
 pub mod Words
+pub mod RequestLines
 pub mod Bytes
 pub mod Observations
 pub mod ConnectionLines

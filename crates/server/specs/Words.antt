@@ -1,17 +1,9 @@
--- What the first bytes of a request and of a reply say (this project's profile).
-use Rattle.std.specs.Prelude.{ℕ, ◌==◌, ◌||◌, Bool, not, List, drop, take, length, bytes_eq, codes, if◌then◌else◌, Option, Some, None, option_map}
+-- What the first bytes of a reply say (this project's profile).
+use Rattle.std.specs.Prelude.{ℕ, ◌==◌, ◌||◌, Bool, List, drop, take, length, bytes_eq, codes, if◌then◌else◌, Option, Some, None, option_map}
 use Rattle.std.specs.List.{take_while}
 use Rattle.std.specs.Option.{option_and_then, option_map_or}
 use Rattle.std.specs.Char.{is_ascii_digit, is_ascii_lowercase}
 use Rattle.http_messages.specs.ReplyParts.{status_in}
-
--- a CR or an LF
-abbrev pub is_line_end : ℕ → Bool
-is_line_end byte = byte == 13 || byte == 10
-
--- a request's first line, without its end
-abbrev pub request_line : List ℕ → List ℕ
-request_line request = take_while (λ byte. not (is_line_end byte)) request
 
 -- the digits at the front
 abbrev pub digits_in : List ℕ → List ℕ

@@ -16,6 +16,7 @@ mod observing;
 mod one;
 mod opening;
 mod reply;
+mod request_line;
 mod run;
 mod sequence;
 mod served;

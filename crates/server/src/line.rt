@@ -2,23 +2,36 @@
 ghost use Rattle.std.specs.Prelude.{◌≡◌, ◌++◌, IfOk};
 ghost use Rattle.event_lines.specs.Views.{text_of};
 ghost use Rattle.server.specs.ConnectionLines.{connection_line, fault_pair, fault_word};
-ghost use Rattle.server.specs.ConnectionLines.{outcome_text, refusal_pairs, status_pair};
+ghost use Rattle.server.specs.ConnectionLines.{outcome_text, refusal_pairs, request_pair};
+ghost use Rattle.server.specs.ConnectionLines.{status_pair};
 
 use crate::observation::Observation;
+use crate::request_line::request_line;
 use crate::served::End;
-use crate::words::{refusal_in, request_line};
+use crate::words::refusal_in;
 use event_lines::EventLine;
 use http_messages::reply_parts;
 use job_facts::StoreFault;
 use std::alloc::{AllocError, Global};
 
-/// The line of a connection: how it ended, its status, and its request line. Of a refusal it has
-/// the code and the name, and of a 503 the fault of the store.
+/// Returns the line of a connection: how it ended, its status, and its request line, or else how
+/// many bytes arrived. The line of a refusal has its code and name, and that of a 503 the fault of
+/// the store.
 pub fn connection_line(alloc: Global, observation: &Observation) -> Result<EventLine, AllocError>
     ensures { IfOk result (λ line. text_of line ≡ connection_line observation.now) }
 {
     let line = outcome_line(alloc, observation)?;
-    line.quoted("request", request_line(observation.request.as_slice()))
+    with_request(line, observation.request.as_slice())
+}
+
+// With the request line at the front of `bytes`, or otherwise with their number.
+fn with_request(line: EventLine, bytes: &[u8]) -> Result<EventLine, AllocError>
+    ensures { IfOk result (λ more. text_of more ≡ text_of line ++ request_pair bytes.now) }
+{
+    match request_line(bytes) {
+        Some(request) => line.quoted("request", request),
+        None => line.number("bytes", bytes.len() as u64),
+    }
 }
 
 // The line without the request.

@@ -1,34 +1,12 @@
-//! What the first bytes of a request and of a reply say.
-ghost use Rattle.std.specs.Prelude.{◌≡◌, ◌≤◌, length, not, option_map};
+//! What the first bytes of a reply say.
+ghost use Rattle.std.specs.Prelude.{◌≡◌, ◌≤◌, length, option_map};
 ghost use Rattle.std.specs.Char.{is_ascii_digit};
 ghost use Rattle.std.specs.List.{prefix_len};
-ghost use Rattle.server.specs.Words.{digits_in, is_line_end, is_word_byte};
-ghost use Rattle.server.specs.Words.{past_mark, refusal_in, request_line, status_digits};
-ghost use Rattle.server.specs.Words.{word_in};
+ghost use Rattle.server.specs.Words.{digits_in, is_word_byte, past_mark, refusal_in};
+ghost use Rattle.server.specs.Words.{status_digits, word_in};
 
 use http_messages::reply_parts;
 use std::str::from_utf8;
-
-/// A request's first line, without its end.
-pub fn request_line(request: &[u8]) -> &[u8]
-    ensures { result.now ≡ request_line request.now }
-{
-    &request[..line_len(request)]
-}
-
-fn line_len(text: &[u8]) -> usize
-    ensures value { result ≡ prefix_len (λ byte. not (is_line_end byte)) text.now }
-    ensures bound { result ≤ length text.now }
-{
-    text.iter().take_while(|b| !is_line_end(**b)).count()
-}
-
-// A CR or an LF.
-fn is_line_end(byte: u8) -> bool
-    ensures { result ≡ is_line_end byte }
-{
-    byte == b'\r' || byte == b'\n'
-}
 
 /// The digits of a reply's status; none where too little of the reply is there.
 pub fn status_digits(reply: &[u8]) -> &str

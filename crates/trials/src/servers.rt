@@ -180,20 +180,66 @@ fn each_refusal_has_its_code_and_its_name(rt: HostRuntime) -> Result<(), Fail> {
     Ok(())
 }
 
-// Bytes of a peer stand escaped, and 256 of them at most.
+// The bytes before CR LF are shown, escaped, only if they have the form of a request line.
 #[test]
-fn a_request_line_is_escaped_and_cut(rt: HostRuntime) -> Result<(), Fail> {
-    let strange = b"GET /\"\\\x80\x1b[2J HTTP/1.1\nHost: x\r\n\r\n";
-    let long = [b'a'; 300];
-    let texts: [&[u8]; 2] = [strange, &long];
+fn only_a_request_line_is_shown(rt: HostRuntime) -> Result<(), Fail> {
+    let texts: [&[u8]; 10] = [
+        b"GET /batch/B1?x=\"\\ HTTP/1.1\r\n\r\n",
+        b"!#$%&'*+-.^_`|~9aZ / HTTP/9.0\r\n",
+        // A line that LF alone ends, and one that hasn't ended.
+        b"GET /batch/B9 HTTP/1.1\nHost: x\r\n\r\n",
+        b"GET /batch/B9 HTTP/1.1",
+        // A byte of a target that isn't visible, two spaces, and no version.
+        b"GET /\x80\x1b[2J HTTP/1.1\r\n\r\n",
+        b"GET  /batch/B9 HTTP/1.1\r\n\r\n",
+        b"GET /batch/B9\r\n\r\n",
+        // A batch's row with a PAN, and a status word, without a head.
+        b"R1,A0000000031010,1,0,0,0101185A0847617390010100105F24",
+        b"{\"do\":\"answer\",\"session\":1,\"index\":0,\"sw\":\"6A80\"}\r\n\r\n",
+        b"",
+    ];
+    let events = b"made db=\"shop.db\"
+answered status=400 code=400 name=malformed request=\"GET /batch/B1?x=\\x22\\x5C HTTP/1.1\"
+broken request=\"!#$%&'*+-.^_`|~9aZ / HTTP/9.0\"
+answered status=400 code=400 name=malformed bytes=34
+broken bytes=22
+answered status=400 code=400 name=malformed bytes=23
+answered status=400 code=400 name=malformed bytes=27
+answered status=400 code=400 name=malformed bytes=17
+broken bytes=54
+answered status=400 code=400 name=malformed bytes=53
+broken bytes=0
+closed connections=10
+";
+    let lines = b"listening 127.0.0.1:8807\nserved 10\n";
+    let run = || {
+        served_over(
+            rt.alloc(),
+            ListStore::new(rt.alloc()),
+            NEW,
+            &texts,
+            10,
+            Level::All,
+        )
+    };
+    assert_ends!(rt; run(), Ok(()), lines, events);
+    Ok(())
+}
+
+// The first 256 bytes are looked at: a request line has its end among them, or isn't shown.
+#[test]
+fn a_long_request_line_is_not_shown(rt: HostRuntime) -> Result<(), Fail> {
+    let mut longest = [b'a'; 256];
+    longest[..5].copy_from_slice(b"GET /");
+    longest[245..].copy_from_slice(b" HTTP/1.1\r\n");
+    let mut longer = [b'a'; 257];
+    longer[..5].copy_from_slice(b"GET /");
+    longer[246..].copy_from_slice(b" HTTP/1.1\r\n");
+    let texts: [&[u8]; 2] = [&longest, &longer];
     let mut events = Limited::new(512, 512);
-    events.write_all(
-        b"made db=\"shop.db\"
-answered status=400 code=400 name=malformed request=\"GET /\\x22\\x5C\\x80\\x1B[2J HTTP/1.1\"
-broken request=\"",
-    )?;
-    events.write_all(&long[..256])?;
-    events.write_all(b"\"\nclosed connections=2\n")?;
+    events.write_all(b"made db=\"shop.db\"\nbroken request=\"")?;
+    events.write_all(&longest[..254])?;
+    events.write_all(b"\"\nbroken bytes=256\nclosed connections=2\n")?;
     let lines = b"listening 127.0.0.1:8807\nserved 2\n";
     let run = || {
         served_over(
