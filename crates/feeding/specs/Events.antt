@@ -1,6 +1,6 @@
 -- The event lines of a feed (this project's profile).
-use Rattle.std.specs.Prelude.{◌≡◌, ℕ, ◌+◌, ◌==◌, ◌||◌, if◌then◌else◌, List, [], ◌∷◌, ◌++◌, map, take, codes, Option, Some, None, Result, Ok, Err}
-use Rattle.std.specs.List.{before_first}
+use Rattle.std.specs.Prelude.{◌≡◌, ℕ, ◌+◌, ◌==◌, ◌||◌, if◌then◌else◌, List, [], ◌∷◌, ◌++◌, map, take, length, codes, nat_eq, Option, Some, None, Result, Ok, Err}
+use Rattle.std.specs.List.{before_first, starts_with}
 use Rattle.std.specs.Io.KnownBytes.{Keeps}
 use Rattle.event_lines.specs.declared.log.EventLog.{EventLog}
 use Rattle.event_lines.specs.Lines.{number_pair, pair, quoted_pair}
@@ -113,11 +113,16 @@ most_of_line = 100
 abbrev pub first_line : List ℕ → List ℕ
 first_line bytes = take most_of_line (before_first (λ b. (b == 13) || (b == 10)) bytes)
 
--- where bytes came, the first line of them
+-- the first line of `bytes` if they begin as a response does (RFC 9112, section 4), and otherwise
+-- their number
+abbrev pub came_pair : List ℕ → List ℕ
+came_pair bytes = if starts_with nat_eq bytes (codes "HTTP/") then quoted_pair (codes "reply") (first_line bytes) else number_pair (codes "bytes") (length bytes)
+
+-- the pair of the bytes that came, if any did
 abbrev pub reply_pair : Option (List ℕ) → List ℕ
 reply_pair None = []
 reply_pair (Some []) = []
-reply_pair (Some (b ∷ bytes)) = quoted_pair (codes "reply") (first_line (b ∷ bytes))
+reply_pair (Some (b ∷ bytes)) = came_pair (b ∷ bytes)
 
 abbrev pub again_line : ℕ → ℕ → Option (List ℕ) → List ℕ
 again_line number tries came = codes "again" ++ number_pair (codes "number") number ++ number_pair (codes "tries") tries ++ reply_pair came

@@ -1,8 +1,9 @@
 //! The event lines of a feed.
-ghost use Rattle.std.specs.Prelude.{◌≡◌, ◌==◌, ◌||◌, IfOk, IfSome, Some, map, option_map, position};
+ghost use Rattle.std.specs.Prelude.{◌≡◌, ◌==◌, ◌||◌, ◌++◌, IfOk, IfSome, Some, map};
+ghost use Rattle.std.specs.Prelude.{option_map, position};
 ghost use Rattle.event_lines.specs.Views.{text_of};
-ghost use Rattle.feeding.specs.Events.{IsNoted, again_line, cards_in, exhausted_line, first_line};
-ghost use Rattle.feeding.specs.Events.{flaw_line, flaw_lines, lines_with, refusal_in};
+ghost use Rattle.feeding.specs.Events.{IsNoted, again_line, came_pair, cards_in, exhausted_line};
+ghost use Rattle.feeding.specs.Events.{first_line, flaw_line, flaw_lines, lines_with, refusal_in};
 ghost use Rattle.feeding.specs.Events.{refusal_lines, refused_line, rejected, rejection_lines};
 ghost use Rattle.feeding.specs.Events.{spoiled_line, used_line};
 ghost use Rattle.feeding.specs.Cards.{card_of};
@@ -212,7 +213,19 @@ fn again_line(
         .number("tries", u64::from(tries))?;
     match came {
         None | Some([]) => Ok(line),
-        Some(bytes) => line.quoted("reply", first_line(bytes)),
+        Some(bytes) => with_came(line, bytes),
+    }
+}
+
+// With the first line of `bytes` if they begin as a response does, or otherwise with their number:
+// a body without a head can be a command of a card.
+fn with_came(line: EventLine, bytes: &[u8]) -> Result<EventLine, AllocError>
+    ensures { IfOk result (λ more. text_of more ≡ text_of line ++ came_pair bytes.now) }
+{
+    if bytes.starts_with(b"HTTP/") {
+        line.quoted("reply", first_line(bytes))
+    } else {
+        line.number("bytes", bytes.len() as u64)
     }
 }
 

@@ -264,29 +264,35 @@ fn a_try_that_changes_nothing_is_noticed(rt: HostRuntime) -> Result<(), Fail> {
     check_each(&rt, rt.alloc(), &cases)
 }
 
-// What someone else sends is escaped, and no more than 100 bytes of it are written.
+// The first line of a response is escaped and cut to 100 bytes. Other bytes are only counted.
 #[test]
 fn a_first_line_is_escaped_and_short(rt: HostRuntime) -> Result<(), Fail> {
     let cases = [
         idle(
             &[
                 "HTTP/1.0 502 Bad Gateway\nServer: x\r\n\r\n",
+                "HTTP/ \"x\"\\ \x00\x7f\u{e4}~",
                 RELEASED,
                 RESET,
             ],
-            b"again number=10000001 tries=1 reply=\"HTTP/1.0 502 Bad Gateway\"\n",
-        ),
-        idle(
-            &["SSH-2.0 \"x\"\\ \x00\x7f\u{e4}~", "\r\n", RELEASED, RESET],
-            b"again number=10000001 tries=1 reply=\"SSH-2.0 \\x22x\\x22\\x5C \\x00\\x7F\\xC3\\xA4~\"\nagain number=10000001 tries=2 reply=\"\"\n",
+            b"again number=10000001 tries=1 reply=\"HTTP/1.0 502 Bad Gateway\"\nagain number=10000001 tries=2 reply=\"HTTP/ \\x22x\\x22\\x5C \\x00\\x7F\\xC3\\xA4~\"\n",
         ),
         idle(
             &[
-                "0123456789012345678901234567890123456789012345678901234567890123456789012345678901234567890123456789X\r\n",
+                "{\"command\":\"80E28000050101027000\"}",
+                "\r\n",
                 RELEASED,
                 RESET,
             ],
-            b"again number=10000001 tries=1 reply=\"0123456789012345678901234567890123456789012345678901234567890123456789012345678901234567890123456789\"\n",
+            b"again number=10000001 tries=1 bytes=34\nagain number=10000001 tries=2 bytes=2\n",
+        ),
+        idle(
+            &[
+                "HTTP/56789012345678901234567890123456789012345678901234567890123456789012345678901234567890123456789X\r\n",
+                RELEASED,
+                RESET,
+            ],
+            b"again number=10000001 tries=1 reply=\"HTTP/56789012345678901234567890123456789012345678901234567890123456789012345678901234567890123456789\"\n",
         ),
     ];
     check_each(&rt, rt.alloc(), &cases)
