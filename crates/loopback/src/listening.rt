@@ -22,16 +22,30 @@ const PAUSE: u64 = 100;
 pub struct Loopback<'a, R: Net + Clock> {
     rt: &'a R,
     listener: R::Listener,
+    port: u16,
 }
 
 impl<'a, R: Net + Clock> Loopback<'a, R> {
-    /// Listens on a port, or on a free one for 0. Errors: the port can't be had.
-    pub fn listen(rt: &'a R, port: u16) -> io::Result<Loopback<'a, R>> {
+    /// Listens on `port`, or on a free port if it is 0.
+    ///
+    /// # Errors
+    ///
+    /// The error of the system if it doesn't give the port. No other port is tried.
+    pub fn listen(rt: &'a R, port: u16) -> io::Result<Loopback<'a, R>>
+        ensures { IfOk result (λ l. l.port ≡ port) }
+    {
         let listener = rt.bind(SocketAddr::V4(SocketAddrV4::new(Ipv4Addr::LOCALHOST, port)))?;
-        Ok(Loopback { rt, listener })
+        Ok(Loopback { rt, listener, port })
     }
 
-    /// Where it listens.
+    /// Returns the port that `listen` was given.
+    pub fn port(&self) -> u16
+        ensures { result ≡ self.now.port }
+    {
+        self.port
+    }
+
+    /// Returns the address that the system listens on.
     pub fn local_addr(&self) -> io::Result<SocketAddr> {
         self.listener.local_addr()
     }

@@ -34,8 +34,12 @@ pub(crate) struct Floor {
     pub(crate) writes: Cell<&'static [Step]>,
     /// How often a connection still can't be had, and why.
     pub(crate) faults: Cell<(u32, ErrorKind)>,
-    /// Where it listens.
+    /// Where it was asked to listen last.
     pub(crate) bound: Cell<Option<SocketAddr>>,
+    /// How often it was asked to listen.
+    pub(crate) binds: Cell<u32>,
+    /// Why it doesn't listen, if it doesn't.
+    pub(crate) unbound: Cell<Option<ErrorKind>>,
     /// What was connected to, and the wait for that.
     pub(crate) connected: Cell<Option<(SocketAddr, Duration)>>,
     /// The wait of a read that was set last.
@@ -59,6 +63,8 @@ impl Floor {
             writes: Cell::new(&[]),
             faults: Cell::new((0, ErrorKind::Other)),
             bound: Cell::new(None),
+            binds: Cell::new(0),
+            unbound: Cell::new(None),
             connected: Cell::new(None),
             read_wait: Cell::new(None),
             write_wait: Cell::new(None),
@@ -178,7 +184,11 @@ impl<'f> Net for Fake<'f> {
 
     fn bind(&self, addr: SocketAddr) -> io::Result<Fake<'f>> {
         self.0.bound.set(Some(addr));
-        Ok(*self)
+        self.0.binds.set(self.0.binds.get().saturating_add(1));
+        match self.0.unbound.get() {
+            Some(kind) => Err(kind.into()),
+            None => Ok(*self),
+        }
     }
 
     // It waits for ever.

@@ -12,8 +12,33 @@ fn only_this_machine_is_listened_to(rt: HostRuntime) -> Result<(), Fail> {
     for port in [8807, 0] {
         let floor = Floor::new(rt.alloc(), b"", 0);
         let fake = Fake(&floor);
-        let _listening = Loopback::listen(&fake, port)?;
+        let listening = Loopback::listen(&fake, port)?;
+        assert_eq!(rt; listening.port(), port);
         assert_eq!(rt; floor.bound.get(), Some(local(port)));
+        assert_eq!(rt; floor.binds.get(), 1);
+    }
+    Ok(())
+}
+
+// A server that took another port instead would wait there for ever, and its machines would talk to
+// whoever has the wanted one.
+#[test]
+fn a_port_that_is_taken_is_asked_for_once(rt: HostRuntime) -> Result<(), Fail> {
+    for kind in [
+        ErrorKind::AddrInUse,
+        ErrorKind::PermissionDenied,
+        ErrorKind::AddrNotAvailable,
+        ErrorKind::OutOfMemory,
+    ] {
+        let floor = Floor::new(rt.alloc(), b"", 0);
+        floor.unbound.set(Some(kind));
+        let refused = match Loopback::listen(&Fake(&floor), 8807) {
+            Ok(_listening) => None,
+            Err(error) => Some(error.kind()),
+        };
+        assert_eq!(rt; refused, Some(kind));
+        assert_eq!(rt; floor.bound.get(), Some(local(8807)));
+        assert_eq!(rt; floor.binds.get(), 1);
     }
     Ok(())
 }
