@@ -6,6 +6,7 @@ ghost use Rattle.over_tables.specs.Refusals.{IsNotOurs};
 ghost use Rattle.store_files.specs.Files.{IsNotTaken, IsTurnedDown, OverFiles, RunsOver};
 
 use crate::faults::{absent, unopened};
+use crate::new_file::create_private;
 use crate::place::{has_log, is_missing, place_of};
 use over_tables::{FileFault, Wanted, begins, store_over};
 use schema::SqlStore;
@@ -61,6 +62,7 @@ pub fn with_store<T: StoreTask + Drop, S: Start>(
         return Err(absent(place_of(rt, path)?));
     }
     let has_log = has_log(rt, path)?;
+    create_private(rt, path, wanted)?;
     match Connection::open_from(rt, path, false, start) {
         Ok(conn) => run_over(rt.alloc(), conn, has_log, wanted, task),
         Err((error, left)) => {

@@ -81,14 +81,14 @@ pub(crate) fn is_missing<R: Files>(files: &R, path: &str) -> Result<bool, AllocE
 }
 
 // Whether a path is one of SQLite's names for what is no file.
-fn names_no_file(path: &str) -> bool
+pub(crate) fn names_no_file(path: &str) -> bool
     ensures { path.now ≡ codes ":memory:" → IsTrue result }
 {
     path == ":memory:" || path.starts_with("file:")
 }
 
 // What the file system answers a call, if it isn't that memory was refused.
-fn answer_of<T: Drop>(answer: io::Result<T>) -> Result<io::Result<T>, AllocError>
+pub(crate) fn answer_of<T: Drop>(answer: io::Result<T>) -> Result<io::Result<T>, AllocError>
     ensures same { IfOk result (λ same. same ≡ answer) }
     ensures refused { IsErr result ↔ IsErrAnd answer (λ e. error_kind e ≡ ErrorKind.OutOfMemory) }
 {

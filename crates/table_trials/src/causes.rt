@@ -8,7 +8,9 @@ use schema::SqlStore;
 use sqlite::{Connection, FileStore};
 use sqlite_disk::{Disk, Unknown};
 use std::alloc::AllocError;
+use std::fs::{OpenFile, Permissions};
 use std::io::{self, Write};
+use std::os::unix::fs::{MetadataExt, PermissionsExt};
 use std::test::Fail;
 use std::{env, fs, process};
 use store_files::{Found, Place, StoreTask, place_of, with_store};
@@ -157,6 +159,45 @@ fn a_file_is_found_new_once(rt: HostRuntime) -> Result<(), Fail> {
         has_log: true,
     };
     assert_eq!(rt; found_at(&rt, path, Wanted::Ours)?, logged);
+    fs::remove_dir_all(&rt, folder.as_str())?;
+    Ok(())
+}
+
+/// The mode of the file at `path`: who may read, write and run it.
+pub(crate) fn mode_of(rt: &HostRuntime, path: &str) -> io::Result<u32> {
+    Ok(fs::metadata(rt, path)?.mode() & 0o777)
+}
+
+/// Gives the file at `path` this mode.
+pub(crate) fn set_mode(rt: &HostRuntime, path: &str, mode: u32) -> io::Result<()> {
+    fs::open(rt, path)?.set_permissions(Permissions::from_mode(mode))
+}
+
+// The file holds card data, so only its owner may read it, and its log. One that is there keeps its
+// mode, even if it is empty, and its log gets that.
+#[test]
+fn a_new_file_is_private(rt: HostRuntime) -> Result<(), Fail> {
+    let folder = folder_of(&rt, "private")?;
+    let path = within(&rt, folder.as_str(), "shop.db")?;
+    let path = path.as_str();
+    let log = within(&rt, folder.as_str(), "shop.db-wal")?;
+    let log = log.as_str();
+    found_at(&rt, path, Wanted::Any)?;
+    assert_eq!(rt; mode_of(&rt, path)?, 0o600);
+    assert_eq!(rt; mode_of(&rt, log)?, 0o600);
+    for mode in [0o640, 0o664] {
+        fs::remove_file(&rt, log)?;
+        set_mode(&rt, path, mode)?;
+        found_at(&rt, path, Wanted::Any)?;
+        assert_eq!(rt; mode_of(&rt, path)?, mode);
+        assert_eq!(rt; mode_of(&rt, log)?, mode);
+    }
+    let empty = within(&rt, folder.as_str(), "empty.db")?;
+    let empty = empty.as_str();
+    write(&rt, empty, b"")?;
+    set_mode(&rt, empty, 0o644)?;
+    assert!(rt; found_at(&rt, empty, Wanted::Any)?.is_new);
+    assert_eq!(rt; mode_of(&rt, empty)?, 0o644);
     fs::remove_dir_all(&rt, folder.as_str())?;
     Ok(())
 }

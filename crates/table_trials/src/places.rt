@@ -1,13 +1,15 @@
 //! What the file system says of a path: nothing else than that where memory is refused.
-use crate::causes::{folder_of, within, write};
+use crate::causes::{folder_of, mode_of, set_mode, within, write};
+use over_tables::Wanted;
 use std::alloc::{Alloc, AllocError, AllocGlobal, Allocator, Global};
 use std::cell::Cell;
 use std::fs::{self, Files, Metadata, OpenOptions};
 use std::io::{self, ErrorKind};
+use std::os::unix::fs::symlink;
 use std::path::PathBuf;
 use std::process::Abort;
 use std::test::Fail;
-use store_files::{Place, has_log, place_of};
+use store_files::{Place, create_private, has_log, place_of};
 
 // A file system that once says that memory was refused, behind so many answers.
 #[derive(Drop)]
@@ -140,6 +142,41 @@ fn refused_memory_is_no_answer(rt: HostRuntime) -> Result<(), Fail> {
     check_place(&rt, none.as_str(), 4, Place::NoFile);
     let lost = within(&rt, folder, "lost/shop.db")?;
     check_place(&rt, lost.as_str(), 4, Place::NoFolder);
+    fs::remove_dir_all(&rt, folder)?;
+    Ok(())
+}
+
+// A file is made only if a new store may begin and nothing has the path, be it a link that leads
+// nowhere. What hinders that is left to the open to find.
+#[test]
+fn a_file_is_made_where_nothing_is(rt: HostRuntime) -> Result<(), Fail> {
+    let folder = folder_of(&rt, "made")?;
+    let folder = folder.as_str();
+    let path = within(&rt, folder, "shop.db")?;
+    let path = path.as_str();
+    let refusing = OutOfMemory::after(&rt, 0);
+    assert_eq!(rt;
+        create_private(&refusing, path, Wanted::Any),
+        Err(AllocError)
+    );
+    assert_eq!(rt; create_private(&rt, path, Wanted::Ours), Ok(()));
+    assert!(rt; !fs::exists(&rt, path)?);
+    assert_eq!(rt; create_private(&rt, path, Wanted::Any), Ok(()));
+    assert_eq!(rt; fs::metadata(&rt, path)?.len(), 0);
+    assert_eq!(rt; mode_of(&rt, path)?, 0o600);
+    write(&rt, path, b"kept")?;
+    set_mode(&rt, path, 0o644)?;
+    assert_eq!(rt; create_private(&rt, path, Wanted::Any), Ok(()));
+    assert_eq!(rt; fs::metadata(&rt, path)?.len(), 4);
+    assert_eq!(rt; mode_of(&rt, path)?, 0o644);
+    let link = within(&rt, folder, "link.db")?;
+    let none = within(&rt, folder, "none.db")?;
+    symlink(&rt, none.as_str(), link.as_str())?;
+    let lost = within(&rt, folder, "lost/shop.db")?;
+    for path in [link.as_str(), lost.as_str(), folder] {
+        assert_eq!(rt; create_private(&rt, path, Wanted::Any), Ok(()), "{path}");
+    }
+    assert!(rt; !fs::exists(&rt, none.as_str())?);
     fs::remove_dir_all(&rt, folder)?;
     Ok(())
 }

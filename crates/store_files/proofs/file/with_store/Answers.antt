@@ -36,6 +36,9 @@ returns-in_err-place_of-clause-not_taken g c = refused _ _ _ _ c.from_residual-i
 pub returns-in_err-has_log-clause-not_taken : goal.returns-in_err-has_log-clause-not_taken
 returns-in_err-has_log-clause-not_taken g c = refused _ _ _ _ c.from_residual-in_err-has_log.result c.from_residual-in_err-has_log.ensures.1
 
+pub returns-in_err-create_private-clause-not_taken : goal.returns-in_err-create_private-clause-not_taken
+returns-in_err-create_private-clause-not_taken g c = refused _ _ _ _ c.from_residual-in_err-create_private.result c.from_residual-in_err-create_private.ensures.1
+
 pub returns-in-Ok-clause-done : goal.returns-in-Ok-clause-done
 returns-in-Ok-clause-done g c =
     IfOk-weaker c.run_over.result _ _ (λ done ran. (c.in-Ok.conn, (λ clean. (c.in-Ok.ensures.opened clean, c.in-Ok.ensures.found clean)), ran)) c.run_over.ensures.done
