@@ -1,6 +1,8 @@
 -- What a task over the store of a file comes to (this project's profile). Of the process's own
 -- streams no bytes are known.
-use Rattle.std.specs.Prelude.{◌≡◌, ◌⊎◌, List, false, length, None, OnOk, Result, Ok, Err, ⊤}
+use Rattle.std.specs.Prelude.{◌≡◌, ◌⊎◌, List, [], ◌∷◌, false, length, None, OnOk, Result, Ok, Err, ⊤}
+use Rattle.std.specs.declared.io.ErrorKind.{ErrorKind}
+use Rattle.event_lines.specs.Notes.{NotesAll}
 use Rattle.job_facts.specs.declared.refusal.Refusal.TheVariants.{BatchUnknown}
 use Rattle.job_facts.specs.declared.store.StoreFault.{StoreFault}
 use Rattle.job_facts.specs.Store.{CountsFaults, State, Stays}
@@ -15,8 +17,9 @@ use Rattle.server.specs.declared.stopping.ServeStop.{ServeStop}
 use Rattle.store_files.specs.declared.file.Found.{Found}
 use Rattle.subcommands.specs.Ends.{end_of_account, end_of_serve_stop}
 use Rattle.subcommands.specs.Joins.{end_of_close}
+use Rattle.subcommands.specs.Unstarted.{end_of_port, unstarted_line}
 use Rattle.subcommands.specs.declared.end.End.{End}
-use Rattle.subcommands.specs.declared.end.End.TheVariants.{Done, PortFailed}
+use Rattle.subcommands.specs.declared.end.End.TheVariants.{Done}
 use Rattle.persod.specs.declared.tasks.ReportTask.{ReportTask}
 use Rattle.persod.specs.declared.tasks.ServeTask.{ServeTask}
 
@@ -45,9 +48,16 @@ pub record ServesFile (task : ServeTask) (found : Found) (old last : State) (who
   pub notes : NotesRun whole old last false opened exchanges result task.level None None
   pub ends : end ≡ end_of_serve result
 
--- or there was no port, and nothing was done
+-- The system didn't give the port, for a reason of this kind: its event line was written, and
+-- nothing was done over the store before it was closed.
+pub record LacksPort (task : ServeTask) (old last : State) (whole : Type 0) (end : End) : Type 0 where
+  pub why : ErrorKind
+  pub stays : Stays old last
+  pub notes : NotesAll task.level None None (unstarted_line why task.port ∷ [])
+  pub ends : EndsClosed whole (end_of_port why) end
+
 abbrev pub Serves : ServeTask → Found → State → ((State → Type 0 → Type 0) → Type 0) → End → Type 0
-Serves task found old at_end end = at_end (λ last whole. ServesFile task found old last whole end ⊎ (Stays old last × EndsClosed whole PortFailed end))
+Serves task found old at_end end = at_end (λ last whole. ServesFile task found old last whole end ⊎ LacksPort task old last whole end)
 
 -- ---- `report`
 

@@ -15,7 +15,7 @@ use std::alloc::Global;
 use std::io::{self, Write};
 use store_data::Name;
 use store_files::{Found, StoreTask};
-use subcommands::{End, end_of_close, run_feed};
+use subcommands::{End, end_of_close, note_unstarted, run_feed};
 
 /// Bytes of a block that glibc, with its head and the allocator's, still counts among those up to
 /// 32 MiB: of no larger one it learns when it is let go.
@@ -59,8 +59,13 @@ impl StoreTask for ServeTask<'_> {
         keep_large_blocks(rt.alloc());
         let mut connections = match Loopback::listen(rt, port) {
             Ok(connections) => connections,
-            Err(_) => return end_of_close(End::PortFailed, store.finish()),
+            Err(error) => {
+                let mut events = EventLog::new(level, rt.stderr());
+                let end = note_unstarted(rt.alloc(), error, port, &mut events);
+                return end_of_close(end, store.finish());
+            }
         };
+        let port = connections.port();
         let opened = Opened {
             path: path.as_bytes(),
             is_new: found.is_new,

@@ -6,12 +6,16 @@ use audit_rows::Rule;
 use event_lines::{EventLog, Level};
 use file_causes::{Damage, Difference};
 use job_facts::StoreFault;
+use loopback::Loopback;
 use over_tables::{Cause, FileFault, Wanted};
 use std::alloc::{AllocError, Global};
 use std::env::VarError;
+use std::io::{self, ErrorKind};
 use std::process::Abort;
 use std::test::Fail;
-use subcommands::{End, end_of_close, end_of_words, explain, level_by, note_refusal, wanted_of};
+use subcommands::{
+    End, end_of_close, end_of_words, explain, level_by, note_refusal, note_unstarted, wanted_of,
+};
 
 // What words that give no subcommand print into two pages, and how much of each is used.
 fn explained(
@@ -214,5 +218,66 @@ fn a_refused_file_has_its_event_line(rt: HostRuntime) -> Result<(), Fail> {
         text,
     );
     check_noted(&rt, alloc, Level::All, &FileFault::Storage, "");
+    Ok(())
+}
+
+// A server that isn't given its port writes this event line and ends with this word, at once or
+// when it comes again.
+fn check_unstarted(
+    rt: &impl Abort,
+    alloc: Global,
+    error: io::Error,
+    port: u16,
+    text: &str,
+    words: &str,
+) -> Result<(), AllocError> {
+    let mut page = [0; 64];
+    let mut end = End::Done;
+    for _ in 0..2 {
+        let mut events = EventLog::new(Level::Usual, &mut page[..]);
+        end = note_unstarted(alloc, error, port, &mut events);
+        if events.writer.len() < 64 {
+            break;
+        }
+    }
+    assert_eq!(rt; page.get(..text.len()), Some(text.as_bytes()), "at {text}");
+    check_exit(rt, alloc, end, 3, words)
+}
+
+#[test]
+fn a_port_that_is_not_given_has_its_event_line(rt: HostRuntime) -> Result<(), Fail> {
+    let alloc = rt.alloc();
+    let held = Loopback::listen(&rt, 0)?;
+    let port = held.local_addr()?.port();
+    let error = match Loopback::listen(&rt, port) {
+        Ok(_listening) => return Err(Fail::new("two servers have the port")),
+        Err(error) => error,
+    };
+    let text = at_last!(format!(in alloc; "unstarted cause=port-in-use port={port}\n"))?;
+    check_unstarted(&rt, alloc, error, port, text.as_str(), "device")?;
+    for (kind, text, words) in [
+        (
+            ErrorKind::PermissionDenied,
+            "unstarted cause=no-right port=80\n",
+            "device",
+        ),
+        (
+            ErrorKind::AddrNotAvailable,
+            "unstarted cause=no-address port=80\n",
+            "device",
+        ),
+        (
+            ErrorKind::OutOfMemory,
+            "unstarted cause=memory port=80\n",
+            "memory",
+        ),
+        (
+            ErrorKind::Uncategorized,
+            "unstarted cause=device port=80\n",
+            "device",
+        ),
+    ] {
+        check_unstarted(&rt, alloc, io::Error::from(kind), 80, text, words)?;
+    }
     Ok(())
 }
