@@ -43,9 +43,12 @@ class Ran(NamedTuple):
     errors: list[str]
 
 
-def run(program: str, *words: object, typed: str = "", level: str = "1", user: str | None = None, seconds: float = 600) -> Ran:
-    """Runs it to its end. `user` is a name whose rights it has."""
+def run(
+    program: str, *words: object, typed: str = "", level: str = "1", user: str | None = None, seconds: float = 600, umask: int = -1
+) -> Ran:
+    """Runs it to its end. `user` is a name whose rights it has, and -1 stands for the umask of this process."""
     ran = subprocess.run(
-        [program, *map(str, words)], input=typed, capture_output=True, text=True, env=environment(level), user=user, timeout=seconds
+        [program, *map(str, words)], input=typed, capture_output=True, text=True, env=environment(level), user=user, timeout=seconds,
+        umask=umask,
     )
     return Ran(ran.returncode, ran.stdout.splitlines(), ran.stderr.splitlines())
