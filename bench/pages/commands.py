@@ -7,12 +7,11 @@ A block is what stands between fences, or what is indented by four spaces. Its l
 `..` at the end of a line stands for its rest, and alone for any lines. A comment in front of a block says otherwise:
 
     <!-- not run: WHY -->        nothing of it is run
-    <!-- file: NAME -->          it is the text of a file, which is made
     <!-- prints -->              the last command of the block before prints it
     <!-- after the set-up -->    first a server is started on a new file, and gets the set-up of docs/PROTOCOL.md, section 8
     <!-- runs on -->             the command goes on in a terminal of its own; the next such block stops it first, by Ctrl-C
     <!-- runs on, with the set-up -->    the same, and the server gets the set-up
-    <!-- runs on, N turns -->    the same with --turns N in it and in the page's files, and its turns are used up twice
+    <!-- runs on, N turns -->    the same with --turns N or TURNS=N in it, and its turns are used up twice
     <!-- once it is stopped -->  what ran on is stopped first
     <!-- exchange -->            requests and replies of section 8, over a server
     <!-- drill -->               lines of a drill behind the set-up, and beside each what it prints
@@ -43,10 +42,10 @@ from served import exchange, free_port, get
 
 TOP = pathlib.Path(__file__).resolve().parents[2]
 PAGES = "README.md", "docs/OPERATING.md", "docs/EVENTS.md", "docs/PROTOCOL.md", "docs/SHOP_FLOOR.md", "docs/TABLES.md", "examples/README.md"
-COMMANDS = set("awk bash cat cp curl date echo export for grep kill ls mkdir mv nginx persod printf python3 rm sh sleep sqlite3 tail test until wait while".split())
+COMMANDS = set("awk bash cat cp curl date echo export for grep install kill ls mkdir mv persod printf python3 rm sh sleep sqlite3 tail test umask until wait while".split())
 COMMANDS |= {"systemd-analyze", "journalctl", "systemctl"}
-MAY_LACK = {"systemd-analyze", "nginx"}
-HERE = "bench", "crates", "data", "docs", "examples", "first-look", "install", "test"
+MAY_LACK = {"systemd-analyze"}
+HERE = "bench", "crates", "data", "docs", "examples", "first-look", "install", "service", "test"
 LINK = re.compile(r"\]\(([^)#:]+)(?:#[^)]*)?\)")
 COMMENT = re.compile(r"<!-- (.*) -->")
 SECONDS = 300
@@ -183,17 +182,17 @@ class Job:
 class Page:
     """A page, its folder, and what runs beside its commands."""
 
-    def __init__(self, name: str, program: str, folder: pathlib.Path) -> None:
+    def __init__(self, name: str, program: str, shopbook: str, folder: pathlib.Path) -> None:
         self.name, self.folder, self.port = name, folder, free_port()
         self.program, self.terminal, self.exchanges = program, None, ""
         self.jobs: list[Job] = []
-        self.files: dict[str, str] = {}
         self.last: list[str] = []
         self.ran = self.compared = self.lacking = 0
         self.reasons: list[str] = []
         bin_folder = folder / "bin"
         bin_folder.mkdir()
         (bin_folder / "persod").symlink_to(program)
+        (bin_folder / "shopbook").symlink_to(shopbook)
         (bin_folder / ".curlrc").write_text("no-progress-meter\n")
         for entry in HERE:
             (folder / entry).symlink_to(TOP / entry)
@@ -222,9 +221,6 @@ class Page:
         kind, _, rest = block.comment.partition(": ")
         if kind == "not run":
             self.reasons.append(f"{self.name}:{block.line} isn't run: {rest}")
-        elif kind == "file":
-            self.files[rest] = block.text()
-            (self.folder / rest).write_text(block.text())
         elif kind == "prints":
             self.compare(block.lines, self.last)
         elif kind == "exchange":
@@ -321,9 +317,7 @@ class Page:
         self.stop_terminal()
         text = block.text()
         if turns:
-            text = re.sub(r"--turns \d+", f"--turns {turns[1]}", text)
-            for name, whole in self.files.items():
-                (self.folder / name).write_text(re.sub(r"--turns \d+", f"--turns {turns[1]}", whole))
+            text = re.sub(r"(--turns |TURNS=)\d+", rf"\g<1>{turns[1]}", text)
         self.terminal = Job(text, self.folder, self.environment)
         self.terminal.listens()
         for count in range(2 if turns else 0):
@@ -362,10 +356,10 @@ class Page:
         self.shell.wait()
 
 
-def look(name: str, program: str) -> bool:
+def look(name: str, program: str, shopbook: str) -> bool:
     """Whether a page says what comes."""
     with tempfile.TemporaryDirectory() as folder:
-        page = Page(name, program, pathlib.Path(folder))
+        page = Page(name, program, shopbook, pathlib.Path(folder))
         try:
             page.run((TOP / name).read_text())
         except Stale as stale:
@@ -385,10 +379,11 @@ def dead_links() -> list[str]:
 
 
 def main() -> int:
-    program = sys.argv[1]
-    if not os.access(program, os.X_OK):
-        sys.exit(f"{program} is no program: ./install makes one, and PERSOD names another")
-    looked = [look(name, os.path.abspath(program)) for name in sys.argv[2:] or PAGES]
+    programs = [os.path.abspath(program) for program in sys.argv[1:3]]
+    for program in programs:
+        if not os.access(program, os.X_OK):
+            sys.exit(f"{program} is no program: ./install makes one, and PERSOD or SHOPBOOK names another")
+    looked = [look(name, *programs) for name in sys.argv[3:] or PAGES]
     dead = dead_links()
     print("\n".join([*dead, f"{len(looked)} pages, {looked.count(False)} of them stale; {len(dead)} links that lead nowhere"]))
     return 0 if all(looked) and not dead else 1
