@@ -4,7 +4,8 @@
     bench/run proxy               attacks both files as they are
     bench/run proxy --without     also removes each line of both files in turn, and expects that an attack or an honest request then goes wrong
 
-Loopback addresses 127.0.7.x replace 10.0.7.x. The office imports batches, machines make cards, and the office frees a machine that is gone. Then come:
+Loopback addresses 127.0.7.x replace 10.0.7.x. The office imports batches, machines make cards, and the office ends the session of a machine that is gone.
+Then come:
 
 - a machine that acts as the office: under the office's name, under its own with every spelling of `do`, in pieces, in chunks, and in large bodies;
 - a machine that makes a card, reports its last command as failed, and asks for the remake;
@@ -139,7 +140,9 @@ def bodies_of_office() -> list[str]:
         f'{{"do":"reset",{DISCARD}}}', f'{{{DISCARD},"do":"reset"}}', f'{{"x":{{"do":"reset"}},{DISCARD}}}', f'{{{DISCARD},"x":["do","reset"]}}',
         f'{{"do" :"reset"\n,\t{DISCARD}}}', f'{{"do":"open","\\u0064o":"discard","blank":{FIRST + 9}}}', f'{{"\\u0064o":"discard","blank":{FIRST + 9}}}',
         f'{{"do":"\\u0064iscard","blank":{FIRST + 9}}}', f'{{{DISCARD},"x":"\\"do\\":\\"reset\\""}}', f'{{{DISCARD}}}//"do":"reset"', f'[{{{DISCARD}}}]',
-        f"{{{DISCARD}}}\n", f'\n{{\n"do"\n:\n"discard"\n,"blank":{FIRST + 9}}}', f"{{{DISCARD}," + " " * (MOST_OF_MACHINE - 70) + '"x":"reset"}',
+        f"{{{DISCARD}}}\n", f"\ufeff{{{DISCARD}}}", f"{{{DISCARD}}}\0", f'\n{{\n"do"\n:\n"discard"\n,"blank":{FIRST + 9}}}',
+        # long
+        f'{{{DISCARD},"x":[' + '"do" ,' * 600 + '"reset"]}', f"{{{DISCARD}," + " " * (MOST_OF_MACHINE - 70) + '"x":"reset"}',
     ]
 
 
@@ -231,6 +234,8 @@ def pages(shop: Shop) -> None:
         expect(f"the office's browser reads with {headers}", proxy.ask("office", "GET", "/batch/B1/report", headers=headers).status, 403)
     for host in ("evil.example", HOST, f"x.{NAME}", "", None):
         shop.changes_nothing(f"as {host}", lambda: closed(proxy.post("office", f"{{{DISCARD}}}", host=host)), True)
+    for target in ("http://evil.example/c/office/910", "http://evil.example:80/c/m1/910"):
+        shop.changes_nothing(f"as {target}", lambda: closed(proxy.ask("office", "POST", target, f"{{{DISCARD}}}")), True)
     if shop.tls:
         certificates(shop)
 
