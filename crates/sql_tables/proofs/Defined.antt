@@ -38,11 +38,11 @@ earlier_defined = (
   ),
 )
 
-pub one_defined : AreDefined no_schema (texts_of One) (tables_in One)
+one_defined : AreDefined no_schema (texts_of One) (tables_in One)
 unfolding understood everything
 one_defined = more_defined earlier_texts (version_one_text ∷ []) earlier_tables (numbered_version_at 1 0 ∷ []) no_schema earlier_defined (((refl, refl), refl), tt)
 
-pub two_defined : AreDefined no_schema (texts_of Two) (tables_in Two)
+two_defined : AreDefined no_schema (texts_of Two) (tables_in Two)
 unfolding understood everything
 two_defined =
     more_defined earlier_texts (mark_text ∷ version_two_text ∷ []) earlier_tables (mark_at 0 ∷ numbered_version_at 2 0 ∷ []) no_schema earlier_defined
@@ -50,7 +50,7 @@ two_defined =
 
 -- ---- our own
 
-abbrev pub our_indices : List Keyed
+abbrev our_indices : List Keyed
 our_indices =
     record { at = 6; table = session_table; index = session_running_at 0 }
     ∷ record { at = 5; table = grouping_table; index = grouping_place_at 0 }
@@ -59,10 +59,10 @@ our_indices =
     ∷ record { at = 3; table = batch_table; index = batch_named_at 0 }
     ∷ []
 
-abbrev pub with_tables : Schema
+abbrev with_tables : Schema
 with_tables = fold created no_schema (tables_in Three)
 
-pub tables_defined : AreDefined no_schema our_table_texts (tables_in Three)
+tables_defined : AreDefined no_schema our_table_texts (tables_in Three)
 unfolding understood everything
 tables_defined = (
   ((refl, refl), refl),
@@ -84,11 +84,11 @@ tables_defined = (
   ),
 )
 
-pub indices_defined : AreIndexed with_tables our_index_texts our_indices
+indices_defined : AreIndexed with_tables our_index_texts our_indices
 unfolding understood everything
 indices_defined = (((refl, refl), refl), (((refl, refl), refl), (((refl, refl), refl), (((refl, refl), refl), (((refl, refl), refl), tt)))))
 
-pub all_made : fold with_index with_tables our_indices ≡ our_schema
+all_made : fold with_index with_tables our_indices ≡ our_schema
 all_made = refl
 
 -- ---- what they make

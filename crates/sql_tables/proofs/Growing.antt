@@ -31,16 +31,16 @@ one_more (u ∷ tables) t trees empty new = (empty.0, one_more tables t trees em
 
 -- ---- tables
 
-abbrev pub all_four : {A B C D : Type 0} → A → B → C → D → A × (B × (C × D))
+abbrev all_four : {A B C D : Type 0} → A → B → C → D → A × (B × (C × D))
 all_four a b c d = (a, (b, (c, d)))
 
 -- all that shows that a text defines a table at a schema, so that `refl` computes it at once
-abbrev pub IsRead : List ℕ → Schema → Table → Type 0
+abbrev IsRead : List ℕ → Schema → Table → Type 0
 IsRead sql s t =
     IsPlain (understood s sql)
     × (all_four (command_of (understood s sql)) (statement_of sql (understood s sql)) (table_defined_by sql) (lacks_sequence (created s t)) ≡ all_four CreateTable sql (Ok t) false)
 
-pub read_defines : (sql : List ℕ) (s : Schema) (t : Table) → IsRead sql s t → Defines sql s t
+read_defines : (sql : List ℕ) (s : Schema) (t : Table) → IsRead sql s t → Defines sql s t
 read_defines sql s t it = record { command = ap (λ x. x.0) it.1; text = ap (λ x. x.1.0) it.1; plain = it.0; table_is = ap (λ x. x.1.1.0) it.1; uncounted = ap (λ x. x.1.1.1) it.1 }
 
 -- the texts define these tables, one each, after those of the schema
@@ -81,12 +81,12 @@ pub record Keyed : Type 0 where
 abbrev pub with_index : Schema → Keyed → Schema
 with_index s k = indexed s k.table k.index
 
-abbrev pub IsReadIndex : List ℕ → Schema → Keyed → Type 0
+abbrev IsReadIndex : List ℕ → Schema → Keyed → Type 0
 IsReadIndex sql s k =
     IsPlain (understood s sql)
     × (all_four (command_of (understood s sql)) (statement_of sql (understood s sql)) (slice_get s.tables k.at) (index_defined_by k.table sql) ≡ all_four (CreateIndex k.at) sql (Some k.table) (Ok k.index))
 
-pub read_indexes : (sql : List ℕ) (s : Schema) (k : Keyed) → IsReadIndex sql s k → DefinesIndex sql s k.at k.table k.index
+read_indexes : (sql : List ℕ) (s : Schema) (k : Keyed) → IsReadIndex sql s k → DefinesIndex sql s k.at k.table k.index
 read_indexes sql s k it = record { command = ap (λ x. x.0) it.1; text = ap (λ x. x.1.0) it.1; plain = it.0; listed = ap (λ x. x.1.1.0) it.1; index_is = ap (λ x. x.1.1.1) it.1 }
 
 abbrev pub AreIndexed : Schema → List (List ℕ) → List Keyed → Type 0

@@ -4,4 +4,4 @@ pub mod EachLemmas
 pub mod Growing
 pub mod Defined
 pub mod VersionRow
-pub mod AddingLemmas
+pub mod Memory

@@ -3,7 +3,6 @@ pub mod Alike
 pub mod Texts
 pub mod Tables
 pub mod Versions
-pub mod Adding
 pub mod Finds
 pub mod Ours
 pub mod Each

@@ -2,7 +2,6 @@
 //! empty database, and distinguished from others.
 #![tactic(auto)]
 
-mod adding;
 mod alike;
 mod each;
 mod opening;

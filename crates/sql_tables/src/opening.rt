@@ -1,7 +1,8 @@
 //! The tables are made in an empty database.
 ghost use Rattle.std.specs.Prelude.{◌≡◌, ◌↔◌, ⊤, false, IfErr, IsTrue, OnErr, OnOk};
 ghost use Rattle.sqlite.specs.Held.{state};
-ghost use Rattle.sqlite.specs.State.{HasCleanDisk, Survives};
+ghost use Rattle.sqlite.specs.State.{HasCleanDisk, Survives, is_disk_error};
+ghost use Rattle.sqlite.specs.Steps.{over_memory};
 ghost use Rattle.sql_base.specs.Causes.{HadCause, ReportsCause};
 ghost use Rattle.sql_base.specs.Ends.{Ends, IsKept, IsLeft, Wrote};
 ghost use Rattle.sql_tables.specs.Opening.{AddsVersion, Makes, MakesAll, MakesVersion};
@@ -12,7 +13,7 @@ use crate::parts::are_same;
 use crate::texts::texts_of;
 use crate::versions::Version;
 use sql_base::{UnitOfWork, make, transact};
-use sqlite::{Alter, Connection, Error, Transaction};
+use sqlite::{Alter, Connection, Error, MemStore, Transaction};
 use sqlite_schema::schema::Schema;
 
 // The statements that make tables and indices, by their texts.
@@ -102,6 +103,19 @@ pub fn make_tables<S: Alter>(conn: &mut Connection<S>) -> Result<(), Error>
         (HadCause S.Store (state S.Store conn.old) (state S.Store conn.new)) }
 {
     transact(conn, &All)
+}
+
+// Makes the tables and the indices of a version in memory, in one transaction. There is no disk, so
+// no error is one of the disk.
+pub(crate) fn make_in_memory(conn: &mut Connection<MemStore>, version: Version) -> Result<(), Error>
+    requires { conn.old.in_transaction ≡ false }
+    ensures made { OnOk result (MakesVersion version (state over_memory conn.old).now
+        (state over_memory conn.new).now) }
+    ensures cause { IfErr result (λ e. is_disk_error e ≡ false) }
+{
+    let mut tx = conn.transaction();
+    make_version(&mut tx, version)?;
+    tx.commit()
 }
 
 /// Whether a database has our tables, as `make_tables` makes them, and nothing beside them.

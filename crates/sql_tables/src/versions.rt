@@ -1,4 +1,4 @@
-//! The versions of our tables, each with the schema that its texts make.
+//! The versions of our tables, each made in memory.
 ghost use Rattle.std.specs.Prelude.{◌≡◌, ◌↔◌, false, IfErr, IfOk, IfSome, IsTrue};
 ghost use Rattle.std.specs.Prelude.{MatchOption, MatchResult};
 ghost use Rattle.sqlite.specs.Held.{state};
@@ -7,9 +7,8 @@ ghost use Rattle.sql_tables.specs.Alike.{HasJust};
 ghost use Rattle.sql_tables.specs.Ours.{AreThere};
 ghost use Rattle.sql_tables.specs.Versions.{schema_of};
 
-use crate::adding::add_each;
 use crate::alike::has_just;
-use crate::texts::texts_of;
+use crate::opening::make_in_memory;
 use sqlite::{Alter, Connection, Error};
 use sqlite_schema::schema::Schema;
 use std::alloc::Global;
@@ -25,17 +24,15 @@ pub enum Version {
     Three,
 }
 
-/// Returns the schema that the texts of `version` make in an empty database. No database is opened,
-/// and no error is one of the disk.
+/// The schema of a version, by making its tables in memory, where no error is one of the disk.
+/// Their order and numbers are of no matter.
 pub fn tables_of(alloc: Global, version: Version) -> Result<Schema, Error>
     ensures { MatchResult result (λ schema. schema ≡ schema_of version)
         (λ e. is_disk_error e ≡ false) }
 {
-    let (first, rest) = texts_of(version);
-    let mut schema = Schema::new(alloc);
-    add_each(alloc, &mut schema, first)?;
-    add_each(alloc, &mut schema, rest)?;
-    Ok(schema)
+    let mut conn = Connection::open_in_memory(alloc)?;
+    make_in_memory(&mut conn, version)?;
+    Ok(conn.schema().copy(alloc)?)
 }
 
 fn has_version<S: Alter>(
