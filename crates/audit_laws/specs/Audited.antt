@@ -1,5 +1,5 @@
 -- When the rows of the tables are those of sound contents, given row by row: the audit
--- (docs/TABLES.md, "Audit rules").
+-- (docs/TABLES.md, "When rows are taken").
 use Rattle.std.specs.Prelude.{◌≡◌, ◌≢◌, ◌≤◌, ◌==◌, ◌&&◌, ◌||◌, ℕ, Bool, true, false, not, nat_lt, List, [], ◌∷◌, map, flat_map, filter, find, length, count_by, bytes_eq, All, AllPairs, IsPermutation, IsTrue, Some}
 use Rattle.std.specs.List.{enumerate_from, range_with_len}
 use Rattle.store_data.specs.declared.row.Product.{Product}

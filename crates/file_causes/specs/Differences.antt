@@ -1,4 +1,4 @@
--- How the tables of a database differ from ours (docs/TABLES.md, "Accepted tables").
+-- How the tables of a database differ from ours (docs/TABLES.md, "When rows are taken").
 use Rattle.std.specs.Prelude.{◌≡◌, ◌<◌, ◌∷◌, ◌&&◌, ◌||◌, ℕ, Bool, true, false, not, if◌then◌else◌, List, codes, length, slice_index_or}
 use Rattle.std.specs.List.{AllWithin, list_any}
 use Rattle.sqlite_schema.specs.Names.{same_name}
