@@ -1,8 +1,8 @@
 -- The words by which people read why a file is not ours (this project's profile).
-use Rattle.std.specs.Prelude.{ℕ, List, codes, Option, None}
+use Rattle.std.specs.Prelude.{ℕ, List, codes, Option, None, Some}
 use Rattle.file_causes.specs.Words as tables
 use Rattle.over_tables.specs.declared.cause.Cause.{Cause}
-use Rattle.over_tables.specs.declared.cause.Cause.TheVariants.{NoFile, NoFolder, Folder, Special, NoRight, Journal, InUse, NotSqlite, Invalid, Corrupt, CannotOpen, Tables}
+use Rattle.over_tables.specs.declared.cause.Cause.TheVariants.{NoFile, NoFolder, Folder, Special, NoRight, Journal, InUse, NotSqlite, Invalid, Corrupt, CannotOpen, DamagedWal, Tables}
 
 abbrev pub word_of : Cause → List ℕ
 word_of NoFile = codes "no-file"
@@ -16,9 +16,15 @@ word_of NotSqlite = codes "not-sqlite"
 word_of Invalid = codes "invalid-database"
 word_of Corrupt = codes "corrupt"
 word_of CannotOpen = codes "cannot-open"
+word_of (DamagedWal commits) = codes "damaged-wal"
 word_of (Tables difference) = tables.word_of difference
 
 -- the name of the table, the index or the view that differs
 abbrev pub name_in : Cause → Option (List ℕ)
 name_in (Tables difference) = tables.name_in difference
 name_in _ = None
+
+-- how many durable commits a damaged WAL still has behind the damage
+abbrev pub commits_in : Cause → Option ℕ
+commits_in (DamagedWal commits) = Some commits
+commits_in _ = None

@@ -1,6 +1,6 @@
 //! Why a file is not ours.
 ghost use Rattle.std.specs.Prelude.{◌≡◌, Some, option_map};
-ghost use Rattle.over_tables.specs.Causes.{name_in, word_of};
+ghost use Rattle.over_tables.specs.Causes.{commits_in, name_in, word_of};
 
 use file_causes::Difference;
 use std::fmt;
@@ -31,6 +31,9 @@ pub enum Cause {
     Corrupt,
     /// It can't be opened for another cause.
     CannotOpen,
+    /// Its WAL is damaged: behind the damage, this many durable commits are still there, which
+    /// SQLite's recovery would drop.
+    DamagedWal { commits: u64 },
     /// Its tables differ from ours.
     Tables { difference: Difference },
 }
@@ -52,6 +55,7 @@ impl Cause {
             Cause::Invalid => "invalid-database",
             Cause::Corrupt => "corrupt",
             Cause::CannotOpen => "cannot-open",
+            Cause::DamagedWal { commits: _ } => "damaged-wal",
             Cause::Tables { difference } => difference.word(),
         }
     }
@@ -62,6 +66,16 @@ impl Cause {
     {
         match self {
             Cause::Tables { difference } => difference.name(),
+            _ => None,
+        }
+    }
+
+    /// How many durable commits recovery would drop, if the WAL is damaged.
+    pub fn commits(&self) -> Option<u64>
+        ensures { result ≡ commits_in self.now }
+    {
+        match self {
+            Cause::DamagedWal { commits } => Some(*commits),
             _ => None,
         }
     }
