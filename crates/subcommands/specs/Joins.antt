@@ -10,7 +10,7 @@ use Rattle.event_lines.specs.declared.level.Level.TheVariants.{Off, Usual}
 use Rattle.event_lines.specs.Lines.{number_pair, pair, quoted_pair}
 use Rattle.file_causes.specs.Words.{damage_word}
 use Rattle.job_facts.specs.declared.store.StoreFault.{StoreFault}
-use Rattle.over_tables.specs.Causes.{name_in, word_of}
+use Rattle.over_tables.specs.Causes.{commits_in, name_in, word_of}
 use Rattle.over_tables.specs.declared.fault.FileFault.{FileFault}
 use Rattle.over_tables.specs.declared.fault.FileFault.TheVariants as file
 use Rattle.subcommands.specs.Ends.{end_of_store}
@@ -65,15 +65,20 @@ abbrev pub table_pair : Option (List ℕ) → List ℕ
 table_pair None = []
 table_pair (Some name) = quoted_pair (codes "table") name
 
-abbrev pub refusal_line : ℕ → List ℕ → Option (List ℕ) → List ℕ → List ℕ
-refusal_line code cause table path =
+-- how many durable commits a damaged WAL still has behind the damage
+abbrev pub commits_pair : Option ℕ → List ℕ
+commits_pair None = []
+commits_pair (Some commits) = number_pair (codes "commits") commits
+
+abbrev pub refusal_line : ℕ → List ℕ → Option ℕ → Option (List ℕ) → List ℕ → List ℕ
+refusal_line code cause commits table path =
     codes "refused" ++ number_pair (codes "code") code ++ pair (codes "cause") cause
-    ++ table_pair table ++ quoted_pair (codes "db") path
+    ++ commits_pair commits ++ table_pair table ++ quoted_pair (codes "db") path
 
 abbrev pub refusal_lines : FileFault → List ℕ → List (List ℕ)
 refusal_lines (file.NotOurs cause) path =
-    refusal_line 81 (word_of cause) (name_in cause) path ∷ []
+    refusal_line 81 (word_of cause) (commits_in cause) (name_in cause) path ∷ []
 refusal_lines (file.Damaged cause) path =
-    refusal_line 82 (damage_word cause) None path ∷ []
+    refusal_line 82 (damage_word cause) None None path ∷ []
 refusal_lines file.Storage path = []
 refusal_lines file.Memory path = []

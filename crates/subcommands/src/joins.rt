@@ -2,8 +2,8 @@
 ghost use Rattle.std.specs.Prelude.{◌≡◌, ◌++◌, IfOk, option_map};
 ghost use Rattle.event_lines.specs.Notes.{NotesAll};
 ghost use Rattle.event_lines.specs.Views.{text_of};
-ghost use Rattle.subcommands.specs.Joins.{Explains, end_of_close, level_by, refusal_line};
-ghost use Rattle.subcommands.specs.Joins.{refusal_lines, table_pair, wanted_of};
+ghost use Rattle.subcommands.specs.Joins.{Explains, commits_pair, end_of_close, level_by};
+ghost use Rattle.subcommands.specs.Joins.{refusal_line, refusal_lines, table_pair, wanted_of};
 
 use crate::end::End;
 use arguments::{Words, WordsFault};
@@ -69,8 +69,8 @@ pub fn end_of_close(end: End, closed: Result<(), StoreFault>) -> End
     }
 }
 
-/// Writes the event line of a file that is refused: the refusal's code, the cause, the table that
-/// it names, and the file's path. Of a fault of the device or of memory nothing is written.
+/// Writes the event line of a file that is refused: the refusal's code, the cause, the commits or
+/// the table that it names, and the file's path. Of a fault of the device or of memory nothing is written.
 pub fn note_refusal<E: Write + Drop>(
     alloc: Global,
     fault: &FileFault,
@@ -83,11 +83,12 @@ pub fn note_refusal<E: Write + Drop>(
 {
     match fault {
         FileFault::NotOurs { cause } => {
-            let line = refusal_line(alloc, NOT_OURS, cause.word(), cause.name(), path);
+            let (word, commits) = (cause.word(), cause.commits());
+            let line = refusal_line(alloc, NOT_OURS, word, commits, cause.name(), path);
             events.note(line);
         }
         FileFault::Damaged { cause } => {
-            events.note(refusal_line(alloc, DAMAGED, cause.word(), None, path));
+            events.note(refusal_line(alloc, DAMAGED, cause.word(), None, None, path));
         }
         FileFault::Storage | FileFault::Memory => (),
     }
@@ -97,16 +98,27 @@ fn refusal_line(
     alloc: Global,
     code: u16,
     cause: &str,
+    commits: Option<u64>,
     table: Option<&[u8]>,
     path: &[u8],
 ) -> Result<EventLine, AllocError>
-    ensures { IfOk result (λ line. text_of line
-        ≡ refusal_line code cause.now (option_map (λ name. name.now) table.entry) path.now) }
+    ensures { IfOk result (λ line. text_of line ≡ refusal_line code cause.now commits
+        (option_map (λ name. name.now) table.entry) path.now) }
 {
     let line = EventLine::new(alloc, "refused")?
         .number("code", u64::from(code))?
         .word("cause", cause)?;
-    with_table(line, table)?.quoted("db", path)
+    with_table(with_commits(line, commits)?, table)?.quoted("db", path)
+}
+
+// With the number of commits, if there is one.
+fn with_commits(line: EventLine, commits: Option<u64>) -> Result<EventLine, AllocError>
+    ensures { IfOk result (λ more. text_of more ≡ text_of line ++ commits_pair commits) }
+{
+    match commits {
+        Some(commits) => line.number("commits", commits),
+        None => Ok(line),
+    }
 }
 
 // With the table, if there is one.
