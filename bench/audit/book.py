@@ -3,8 +3,9 @@
 
     bench/run book [--cases N] [--seed TEXT]
 
-The sound files are those of contents.py in each shape of sound_files.py, and N that drawn.py draws by the seed. The status is 1 where a line is
-another, where an exit status is, or where a file or its log holds other bytes afterwards.
+The sound files are those of contents.py in each shape of sound_files.py, N that drawn.py draws by the seed, and one that a killed server leaves. Some have their
+rows in a WAL. SQL never reads the file that `shopbook` reads, since SQLite's library would copy and delete the WAL: it reads one with the same rows. The status is
+1 if a line or an exit status is wrong, or if a file or its WAL has other bytes afterwards; `is_left` says which change of a WAL is allowed.
 """
 import argparse
 import json
@@ -19,13 +20,15 @@ from typing import Any, Iterator, NamedTuple
 from contents import FOR_VERSION, WORKED_ROWS, rows
 from drawn import drawn
 from schema import VERSIONS, tables_of
+from sheet import make_cards
 from sheet_page import Page, page_lines
-from sound_files import OTHERS, change, make, shapes, Shape
+from sound_files import OTHERS, Shape, beside, copied, make, shapes, with_wal
 
 CASES = 200
 SECONDS = 120
 PER_BOOT = 10 ** 7
 MOST_BOOT = 10 ** 10 - 1
+WAL_HEAD, FRAME_HEAD, GATE = 32, 24, 9
 STATES = "running", "good", "spoiled", "discarded"
 STATE = "CASE WHEN kind = 1 THEN 'discarded' ELSE CASE session.state WHEN 0 THEN 'running' WHEN 1 THEN 'good' ELSE 'spoiled' END END"
 COLUMNS = {
@@ -96,9 +99,9 @@ def machine_lines(conn: sqlite3.Connection, version: int) -> list[Line]:
     return found
 
 
-def runs(path: pathlib.Path, version: int, rule: str | None) -> Iterator[tuple[list[str], Wanted]]:
-    """The words of each run over a file with our tables, and what is wanted of it."""
-    conn = sqlite3.connect(path)
+def runs(twin: pathlib.Path, version: int, rule: str | None) -> Iterator[tuple[list[str], Wanted]]:
+    """The words of each run over a file with our tables and the rows of its twin, and what is wanted of it."""
+    conn = sqlite3.connect(twin)
     products = [name for name, in conn.execute("SELECT name FROM product")]
     if rule:
         yield ["check"], Wanted(check_lines(conn, version, rule), 1, "refused 82")
@@ -123,9 +126,19 @@ def runs(path: pathlib.Path, version: int, rule: str | None) -> Iterator[tuple[l
 
 
 def files_of(path: pathlib.Path) -> dict[str, bytes]:
-    """A file and its log, byte for byte; an empty log is none."""
-    found = {end: path.with_name(path.name + end) for end in ("", "-wal", "-journal")}
-    return {end: its.read_bytes() for end, its in found.items() if its.exists() and (end == "" or its.stat().st_size > 41)}
+    """The bytes of a file and of what is next to it. A WAL without a frame is none."""
+    found = {end: beside(path, end) for end in ("", "-wal", "-shm", "-journal")}
+    return {end: its.read_bytes() for end, its in found.items() if its.exists() and (end == "" or its.stat().st_size > WAL_HEAD + GATE)}
+
+
+def is_left(before: dict[str, bytes], after: dict[str, bytes]) -> bool:
+    """Whether the bytes are as before. Only, if a WAL ends with a frame, as those of SQLite's library do, an open adds nine bytes, as those of ours have: the last
+    of them isn't the first byte of the salt, so that the bytes begin no frame."""
+    wal = before.get("-wal", b"")
+    page, salt = int.from_bytes(wal[8:12], "big"), wal[16:17]
+    ends_with_frame = len(wal) > WAL_HEAD and (len(wal) - WAL_HEAD) % (FRAME_HEAD + page) == 0
+    gate = bytes(GATE - 1) + (b"\1" if salt == b"\0" else b"\0")
+    return after == before or ends_with_frame and after == {**before, "-wal": wal + gate}
 
 
 def text_of(line: Line) -> str:
@@ -149,7 +162,7 @@ def difference(program: str, path: pathlib.Path, words: list[str], wanted: Wante
         return next((f"{one} in place of {other}" for one, other in zip(found, texts) if one != other), f"{len(found)} lines in place of {len(texts)}")
     if (run.returncode, error) != (wanted.status, [wanted.error] if wanted.error else []):
         return f"status {run.returncode} and {error}"
-    return None if files_of(path) == before else "the file has other bytes"
+    return None if is_left(before, files_of(path)) else "the file or its WAL has other bytes"
 
 
 DAMAGES = {
@@ -162,57 +175,92 @@ DAMAGES = {
 }
 
 
-def cases(folder: pathlib.Path, count: int, seed: str) -> Iterator[tuple[str, pathlib.Path, list[str], Wanted]]:
+Case = tuple[str, pathlib.Path, list[str], Wanted]
+
+
+def sound_cases(folder: pathlib.Path, count: int, seed: str) -> Iterator[Case]:
+    twin = folder / "twin.db"
     for version in VERSIONS:
         for made, its in (("worked", WORKED_ROWS), ("rich", rows(FOR_VERSION[version]))):
+            make(twin, its, Shape(version))
             for shape, how in shapes(version).items():
                 make(path := folder / f"{made}-{version}-{shape}.db".replace(" ", "-"), its, how)
-                for words, wanted in runs(path, version, None):
+                for words, wanted in runs(twin, version, None):
                     yield f"{made}, version {version}, {shape}", path, words, wanted
-        for number, (name, (sql, rule)) in enumerate(DAMAGES.items()):
-            make(path := folder / f"damaged-{version}-{number}.db", WORKED_ROWS, Shape(version))
-            change(path, sql)
-            for words, wanted in runs(path, version, rule):
-                yield f"{name}, version {version}", path, words, wanted
     for number in range(count):
         draw = random.Random(f"{seed} {number}")
         version = draw.choice(VERSIONS)
-        its = drawn(draw, version)
+        its = rows(drawn(draw, version))
         shape, how = draw.choice(list(shapes(version).items()))
-        make(path := folder / f"drawn-{number}.db", rows(its), how)
-        for words, wanted in runs(path, version, None):
+        make(twin, its, Shape(version))
+        make(path := folder / f"drawn-{number}.db", its, how)
+        for words, wanted in runs(twin, version, None):
             yield f"drawn {number}, version {version}, {shape}", path, words, wanted
         path.unlink()
+
+
+def killed_cases(persod: str, folder: pathlib.Path) -> Iterator[Case]:
+    """A server's file and its WAL, which it had no time to copy."""
+    make_cards(persod, path := folder / "killed.db")
+    copied(path, twin := folder / "killed-twin.db")
+    for words, wanted in runs(twin, 3, None):
+        yield "a killed server", path, words, wanted
+
+
+def damaged_cases(folder: pathlib.Path) -> Iterator[Case]:
+    twin = folder / "twin.db"
+    for version in VERSIONS:
+        for number, (name, (sql, rule)) in enumerate(DAMAGES.items()):
+            make(twin, WORKED_ROWS, Shape(version), sql)
+            for shape, how in (("", Shape(version)), (", with a WAL", with_wal(version))):
+                make(path := folder / f"damaged-{version}-{number}{'-wal' if shape else ''}.db", WORKED_ROWS, how, sql)
+                for words, wanted in runs(twin, version, rule):
+                    yield f"{name}, version {version}{shape}", path, words, wanted
+
+
+def other_cases(folder: pathlib.Path) -> Iterator[Case]:
     for number, (name, sql) in enumerate(OTHERS.items()):
-        make(path := folder / f"other-{number}.db", WORKED_ROWS)
-        change(path, sql)
-        yield name, path, ["check"], Wanted([], 1, "refused 81")
+        for shape, how in (("", Shape()), (", with a WAL", with_wal(3))):
+            make(path := folder / f"other-{number}{'-wal' if shape else ''}.db", WORKED_ROWS, how, sql)
+            yield f"{name}{shape}", path, ["check"], Wanted([], 1, "refused 81")
     for number, (name, text) in enumerate((("no file", None), ("an empty file", b""), ("a file of one byte", b"\0"), ("other bytes", b"no database\n" * 100))):
         path = folder / f"bytes-{number}.db"
         if text is not None:
             path.write_bytes(text)
         yield name, path, ["list"], Wanted([], 1, "refused 81")
+    make(path := folder / "emptied.db", WORKED_ROWS, with_wal(3))
+    path.write_bytes(b"")
+    yield "an empty file, with a WAL", path, ["list"], Wanted([], 1, "refused 81")
+
+
+def cases(persod: str, folder: pathlib.Path, count: int, seed: str) -> Iterator[Case]:
+    yield from killed_cases(persod, folder)
+    yield from sound_cases(folder, count, seed)
+    yield from damaged_cases(folder)
+    yield from other_cases(folder)
 
 
 def main() -> None:
     parser = argparse.ArgumentParser(description=__doc__.splitlines()[0])
+    parser.add_argument("persod")
     parser.add_argument("program")
     parser.add_argument("--cases", type=int, default=CASES)
     parser.add_argument("--seed", default="1")
     words_of = parser.parse_args()
-    tried = wrong = 0
+    tried = beside_wal = wrong = 0
     with tempfile.TemporaryDirectory() as folder:
-        for name, path, words, wanted in cases(pathlib.Path(folder), words_of.cases, words_of.seed):
+        for name, path, words, wanted in cases(words_of.persod, pathlib.Path(folder), words_of.cases, words_of.seed):
             was_there = path.exists()
             for is_json in (False, True) if words[0] != "sheet" else (False,):
                 tried += 1
+                beside_wal += "-wal" in files_of(path)
                 found = difference(words_of.program, path, words, wanted, is_json)
                 if found is None and path.exists() != was_there:
                     found = "a file was made"
                 if found is not None:
                     wrong += 1
                     print(f"{name}, {' '.join(words)}{' --json' if is_json else ''}: {found}")
-    print(f"book: {tried} runs, {wrong} wrong")
+    print(f"book: {tried} runs, {beside_wal} of them next to a WAL with rows, {wrong} wrong")
     sys.exit(wrong > 0)
 
 

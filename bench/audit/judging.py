@@ -68,11 +68,13 @@ def report(program: str, path: pathlib.Path) -> str:
 def by_program(program: str, path: pathlib.Path) -> str:
     """The program's verdict, and whether the copy holds afterwards what it held before, in our own tables where it was taken."""
     with tempfile.TemporaryDirectory() as folder:
-        copy = pathlib.Path(folder) / "copy.db"
+        copy, same = pathlib.Path(folder) / "copy.db", pathlib.Path(folder) / "same.db"
         for end in ("", "-wal"):
             if (its := path.with_name(path.name + end)).exists():
                 shutil.copyfile(its, copy.with_name(copy.name + end))
-        before = held(copy)
+                # SQLite's library copies and deletes the WAL of what it reads.
+                shutil.copyfile(its, same.with_name(same.name + end))
+        before = held(same)
         answer = report(program, copy)
         if held(copy) != before:
             return f"{answer}, but the file holds something else"

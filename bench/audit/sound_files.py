@@ -22,7 +22,8 @@ from schema import INDICES, VERSIONS, Table, other_text_of, tables_of, text_of
 
 
 class Shape(NamedTuple):
-    """How a file is made: its version, the order and the spelling of its tables, gaps in their numbers, its indices, and a pragma before all."""
+    """How a file is made: its version, the order and the spelling of its tables, gaps in their numbers, its indices, and a pragma before all. With a WAL, the
+    tables and the rows are two commits in the WAL next to the file, as a killed writer leaves them."""
 
     version: int = 3
     order: str = "document"
@@ -30,6 +31,11 @@ class Shape(NamedTuple):
     has_gaps: bool = False
     indices: tuple[str, ...] = ()
     pragma: str = "journal_mode = DELETE"
+    has_wal: bool = False
+
+
+def with_wal(version: int, indices: tuple[str, ...] = ()) -> Shape:
+    return Shape(version, indices=indices, pragma="journal_mode = WAL", has_wal=True)
 
 
 def mixed(tables: list[Table]) -> list[Table]:
@@ -61,11 +67,27 @@ def fill(conn: sqlite3.Connection, made: Rows) -> None:
             conn.executemany(f"INSERT INTO {name} VALUES ({', '.join('?' * len(its[0]))})", its)
 
 
-def make(path: pathlib.Path, made: Rows, shape: Shape = Shape()) -> None:
-    """Makes a file of these rows."""
-    path.unlink(missing_ok=True)
-    conn = sqlite3.connect(path, isolation_level=None)
+def beside(path: pathlib.Path, end: str) -> pathlib.Path:
+    """The path with an ending: `-wal` for the WAL."""
+    return path.with_name(path.name + end)
+
+
+def copied(path: pathlib.Path, to: pathlib.Path) -> None:
+    """Copies a file and the WAL or the journal next to it, if there is one."""
+    for end in ("", "-wal", "-journal"):
+        if (its := beside(path, end)).exists():
+            shutil.copyfile(its, beside(to, end))
+
+
+def make(path: pathlib.Path, made: Rows, shape: Shape = Shape(), *statements: str) -> None:
+    """Makes a file of these rows, and runs the statements. SQLite copies and deletes a WAL when its last connection is closed, so one that is to be left is
+    copied before that, with the file."""
+    for end in ("", "-wal"):
+        beside(path, end).unlink(missing_ok=True)
+    written = beside(path, "-open") if shape.has_wal else path
+    conn = sqlite3.connect(written, isolation_level=None)
     conn.execute("PRAGMA synchronous = OFF")
+    conn.execute("PRAGMA wal_autocheckpoint = 0")
     conn.execute(f"PRAGMA {shape.pragma}")
     conn.execute("BEGIN")
     tables = ORDERS[shape.order](tables_of(shape.version))
@@ -78,9 +100,17 @@ def make(path: pathlib.Path, made: Rows, shape: Shape = Shape()) -> None:
             conn.execute(f"DROP TABLE gap{number}")
     for index in shape.indices:
         conn.execute(index)
+    conn.execute("COMMIT")
+    conn.execute("BEGIN")
     fill(conn, in_version(made, shape.version))
     conn.execute("COMMIT")
+    for statement in statements:
+        conn.execute(statement)
+    if shape.has_wal:
+        copied(written, path)
     conn.close()
+    if shape.has_wal:
+        written.unlink()
 
 
 def change(path: pathlib.Path, *statements: str) -> None:
@@ -116,7 +146,7 @@ def shapes(version: int) -> dict[str, Shape]:
         "with gaps in the numbers of the tables": Shape(version, "mixed", has_gaps=True),
         "with gaps and a further plain index": Shape(version, "backward", has_gaps=True, indices=(FURTHER,)),
         "spelt in another way": Shape(version, text=other_text_of),
-        "with a log": Shape(version, indices=ours, pragma="journal_mode = WAL"),
+        "with a WAL": with_wal(version, ours),
         "in small pages": Shape(version, indices=ours, pragma="page_size = 512"),
         "in large pages": Shape(version, indices=ours, pragma="page_size = 65536"),
     }
