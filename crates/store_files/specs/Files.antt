@@ -1,7 +1,8 @@
 -- What comes of the file at a path: a task ran over its store, or why none did.
 use Rattle.std.specs.Prelude.{◌≡◌, ◌⊎◌, ◌↔◌, Bool, true, false, IsTrue, Option, None, IfSome, Result}
 use Rattle.std.specs.declared.alloc.AllocError.{AllocError}
-use Rattle.sqlite.specs.Files.{FailsToOpenFiles, IsCleanLeft, IsOpened, LeavesFiles, file_state, over_files}
+use Rattle.sqlite.specs.FileStore.{view}
+use Rattle.sqlite.specs.Files.{FailsToOpenFiles, IsBlankAs, IsCleanLeft, IsOpened, LeavesFiles, file_state, over_files}
 use Rattle.sqlite.specs.Held.{Held}
 use Rattle.sqlite.specs.Opening.{is_open_error}
 use Rattle.sqlite.specs.Recovery.{Image}
@@ -47,10 +48,15 @@ module _ {D : Type 0} {g : Ghosts D} where
   IsTurnedDown conn wanted fault = (left : Held (FileStore D g)) × IsRefused wanted (file_state conn) (file_state left) fault
 
 module _ {D : Type 0} (g : Ghosts D) where
-  -- this holds of a connection. Where its disk has returned what was written, it was opened to what
-  -- the files held
+  -- if there was no database, the new one has no page checksums
+  abbrev pub IsPlainIfNew : Image → Held (FileStore D g) → Type 0
+  IsPlainIfNew image conn = IsBlankAs false image → (view conn.store).has_sums ≡ false
+
+  -- `P` is true of a connection. If its disk has returned what was written, the connection was opened to
+  -- the database that the files held, or to a new one without page checksums.
   abbrev pub OverFiles : Image → (Held (FileStore D g) → Type 0) → Type 0
-  OverFiles image P = (conn : Held (FileStore D g)) × (HasCleanDisk (file_state conn) → IsOpened conn × FindsIn image (file_state conn)) × P conn
+  OverFiles image P =
+      (conn : Held (FileStore D g)) × (HasCleanDisk (file_state conn) → IsOpened conn × FindsIn image (file_state conn) × IsPlainIfNew image conn) × P conn
 
   -- SQLite doesn't open the files, and the fault is that of its error: why it opens none, or what it
   -- leaves of those that it opened. Memory that was refused as the file system was asked is the first.

@@ -41,12 +41,12 @@ returns-in_err-create_private-clause-not_taken g c = refused _ _ _ _ c.from_resi
 
 pub returns-in-Ok-clause-done : goal.returns-in-Ok-clause-done
 returns-in-Ok-clause-done g c =
-    IfOk-weaker c.run_over.result _ _ (λ done ran. (c.in-Ok.conn, (λ clean. (c.in-Ok.ensures.opened clean, c.in-Ok.ensures.found clean)), ran)) c.run_over.ensures.done
+    IfOk-weaker c.run_over.result _ _ (λ done ran. (c.in-Ok.conn, (λ clean. (c.in-Ok.ensures.opened clean, c.in-Ok.ensures.found clean, c.in-Ok.ensures.sums clean)), ran)) c.run_over.ensures.done
 
 pub returns-in-Ok-clause-not_taken : goal.returns-in-Ok-clause-not_taken
 returns-in-Ok-clause-not_taken g c =
     IfErr-weaker c.run_over.result _ _
-    (λ fault refused. inr (inr (c.in-Ok.conn, (λ clean. (c.in-Ok.ensures.opened clean, c.in-Ok.ensures.found clean)), refused))) c.run_over.ensures.turned_down
+    (λ fault refused. inr (inr (c.in-Ok.conn, (λ clean. (c.in-Ok.ensures.opened clean, c.in-Ok.ensures.found clean, c.in-Ok.ensures.sums clean)), refused))) c.run_over.ensures.turned_down
 
 pub returns-in-Ok-clause-memory : goal.returns-in-Ok-clause-memory
 returns-in-Ok-clause-memory g c is = absurd (c.in-Ok.ensures.memory is)
