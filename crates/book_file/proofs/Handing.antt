@@ -1,27 +1,33 @@
 -- What is read of a connection over files, and handed back with them.
-use Rattle.std.proofs.Common.{◌≡◌, ◌⊎◌, ◌≤◌, ◌∙◌, Bool, IsTrue, Option, Some, None, Result, Ok, Err, IfOk, IfErr, inl, inr, refl, sym, ap, subst, arith}
+use Rattle.std.proofs.Common.{◌≡◌, ◌⊎◌, ◌∙◌, Bool, IsTrue, Option, Some, None, Result, Ok, Err, IfOk, IfErr, inl, inr, refl, sym, ap, subst, arith}
+use Rattle.std.proofs.Math.Logic.{∥∥₁_map}
 use Rattle.std.specs.Prelude.{IfSome, MatchOption}
+use Rattle.sqlite.proofs.Theorems.{opens_again}
 use Rattle.sqlite.specs.Effect.{Database}
-use Rattle.sqlite.specs.Files.{AreFoundIn, HoldsDatabase, file_state}
+use Rattle.sqlite.specs.FileStore.{files, recovers, view}
+use Rattle.sqlite.specs.Files.{AreFoundIn, HoldsDatabase, IsOpened, file_state}
 use Rattle.sqlite.specs.Held.{Held}
 use Rattle.sqlite.specs.Recovery.{Image}
-use Rattle.sqlite.specs.State.{HasCleanDisk, IsLive, Opens, State}
+use Rattle.sqlite.specs.State.{HasCleanDisk, IsLive, Opens, State, Survives}
 use Rattle.sqlite.specs.Tree.{Trees}
-use Rattle.sqlite.specs.View.{doubt}
-use Rattle.sqlite.specs.WalFiles.{image_at}
+use Rattle.sqlite.specs.View.{IsClean}
+use Rattle.sqlite.specs.WalFiles.{image_at, outcomes}
 use Rattle.sqlite.specs.WalReads.{AreClean}
 use Rattle.sqlite.specs.declared.FileStore.{FileStore}
 use Rattle.sqlite.specs.declared.error.Error.{Error}
 use Rattle.sqlite_disk.specs.declared.Disk as disk
 use Rattle.sqlite_disk.specs.declared.Files.{Files}
 use Rattle.sqlite_disk.specs.declared.Start as start
-use Rattle.sqlite_pool.proofs.StateLemmas.{clean_is}
+use Rattle.sqlite_pool.proofs.StateLemmas.{clean_is, may_leave_is}
+use Rattle.sqlite_store.specs.Laws.{settled_at}
 use Rattle.sqlite_trees.proofs.Doubt.{no_doubt}
 use Rattle.over_tables.specs.Refusals.{Explains}
 use Rattle.over_tables.specs.declared.fault.FileFault.{FileFault}
 use Rattle.over_tables.specs.declared.fault.FileFault.TheVariants.{Storage}
-use Rattle.book_file.specs.Files.{FailsToOpen, InFiles, IsIn, IsSaidOf, IsUnread, opens_none}
-use Rattle.book_file.specs.Left.{IsLeft, unguarded}
+use Rattle.book_file.specs.Files.{FailsToOpen, HoldNow, InFiles, IsIn, IsReadOf, IsSaidOf, IsUnread, opens_none}
+use Rattle.book_file.specs.Found.{IsFound}
+use Rattle.book_file.specs.Left.{IsLeft, IsLog, WereClosed, unguarded}
+use Rattle.book_file.specs.declared.book.Book.{Book}
 use Rattle.book_file.specs.declared.guarded.Guarded.{Guarded}
 
 -- ---- a connection that was opened
@@ -33,40 +39,60 @@ found_in image seen s same opens live holds reads = subst (λ i. IsIn i s.now) s
   reads = subst (λ (db : Database). AreFoundIn seen db.trees) (sym opens.clean) reads;
 })
 
--- ---- a connection that is closed
+-- ---- a connection that was read and closed
 
-pub clean_before : {D : Type 0} {g : disk.Ghosts D} (conn : Held (FileStore D g)) (left : Files D) → IsLeft conn left → AreClean g left.log left.db → HasCleanDisk (file_state conn)
-clean_before {D} {g} conn left is clean =
-    let sure = clean_is is.last.pool ∙ subst (λ (files : D × D). AreClean g files.0 files.1) is.given clean in
-    omega (arith, is.quiet.clean, no_doubt _ sure)
+module _ {D : Type 0} {g : disk.Ghosts D} (stays : (file : D) → g.may_leave file (g.seen file)) (first last : Held (FileStore D g)) (survives : Survives (file_state first) (file_state last) (λ _. ⊥)) (left : Files D) (is : IsLeft last left)
+    (clean : AreClean g left.log left.db) where
+  sure_now : AreClean g (files is.last).0 (files is.last).1
+  sure_now = subst (λ (pair : D × D). AreClean g pair.0 pair.1) is.given clean
 
--- ---- what was read from it, where its files are clean as they come back
+  none : IsClean (view is.last)
+  none = no_doubt _ (clean_is is.last.pool ∙ sure_now)
 
-module _ (image : Image) (Clean : Type 0) (first last : State) (opened : HasCleanDisk first → IsIn image first.now) (down : doubt first.is_clean ≤ doubt last.is_clean) (back : Clean → HasCleanDisk last) where
-  was_clean : Clean → HasCleanDisk first
-  was_clean clean = omega (arith, back clean, down)
+  pub clean_last : HasCleanDisk (file_state last)
+  clean_last = omega (arith, is.quiet.clean, none)
 
-  pub book_in_files : {A E : Type 0} (P : A → Database → Type 0) (read : Result A E) → (HasCleanDisk last → IfOk read (λ x. P x first.now)) → IfOk read (λ x. Clean → (db : Database) × IsIn image db × P x db)
-  book_in_files P (Ok x) value = λ clean. (first.now, opened (was_clean clean), value (back clean))
-  book_in_files P (Err e) value = tt
+  pub clean_first : HasCleanDisk (file_state first)
+  clean_first = omega (arith, survives.clean, clean_last)
 
-  pub fault_in_files : {A E : Type 0} (P : E → Database → Type 0) (read : Result A E) → (HasCleanDisk last → IfErr read (λ e. P e first.now)) → IfErr read (λ e. Clean → (db : Database) × IsIn image db × P e db)
-  fault_in_files P (Ok x) value = tt
-  fault_in_files P (Err e) value = λ clean. (first.now, opened (was_clean clean), value (back clean))
+  -- whatever the files recover to after a crash was there when they were opened
+  same : IsOpened first → (trees : Trees) → recovers is.last trees → trees ≡ (file_state first).now.trees
+  same opened trees may =
+      let before : recovers first.store trees = elim (survives.crash clean_last trees (is.quiet.outcomes trees may)) [ inl old ↦ old | inr never ↦ absurd never ] in
+      settled_at first.store stays trees opened.0.is_open before ∙ sym (ap (λ (db : Database). db.trees) opened.0.clean)
+
+  pub holds_now : IsOpened first → HoldNow g (file_state first).now.trees left
+  holds_now opened =
+      let each = λ (image : Image) (may : outcomes g left.log left.db image).
+      ∥∥₁_map (opens_again is.last (is.numbered none) (is.sound none) image (may_leave_is is.last.pool image sure_now (subst (λ (pair : D × D). outcomes g pair.0 pair.1 image) is.given may)))
+      (λ found. subst (HoldsDatabase image) (same opened found.0 found.1) found.2) in
+      record { read = each _ (stays _, stays _); left = each }
+
+-- ---- what was read from it, of the database that the files held
+
+module _ {D : Type 0} {g : disk.Ghosts D} (image : Image) (conn : Held (FileStore D g)) (opened : HasCleanDisk (file_state conn) → IsOpened conn) (found : HasCleanDisk (file_state conn) → IsIn image (file_state conn).now)
+    (left : Files D) where
+  pub book_in_files : (read : Result Book FileFault) → (AreClean g left.log left.db → IsReadOf conn read left) → IfOk read (λ book. InFiles g image (λ db. IsFound db book) left)
+  book_in_files (Ok book) is = λ clean. let of = is clean in ((file_state conn).now, found of.was_clean, of.kept (opened of.was_clean), of.found)
+  book_in_files (Err fault) is = tt
+
+  pub fault_in_files : (read : Result Book FileFault) → (AreClean g left.log left.db → IsReadOf conn read left) → IfErr read (λ fault. InFiles g image (λ db. Explains db fault) left)
+  fault_in_files (Ok book) is = tt
+  fault_in_files (Err fault) is = λ clean. let of = is clean in ((file_state conn).now, found of.was_clean, of.kept (opened of.was_clean), of.why)
 
 -- ---- the files that are handed back
 
-module _ {A E F : Type 0} (answer : Result A E × Option F) (read : Result A E) (files : F) (lost : E) (same : (answer ≡ (read, Some files)) ⊎ (answer ≡ (Err lost, None))) where
+module _ {A E F : Type 0} (answer : Result A E × Option F) (read : Result A E) (files : F) (lost : E) (Lost : Type 0) (same : (answer ≡ (read, Some files)) ⊎ (Lost × (answer ≡ (Err lost, None)))) where
   pub found_with : (P : A → F → Type 0) → IfOk read (λ x. P x files) → IfOk answer.0 (λ x. IfSome answer.1 (P x))
   found_with P value = elim same [
     | inl is ↦ subst (λ (a : Result A E × Option F). IfOk a.0 (λ x. IfSome a.1 (P x))) (sym is) value
-    | inr is ↦ subst (λ (a : Result A E × Option F). IfOk a.0 (λ x. IfSome a.1 (P x))) (sym is) tt
+    | inr is ↦ subst (λ (a : Result A E × Option F). IfOk a.0 (λ x. IfSome a.1 (P x))) (sym is.1) tt
   ]
 
-  refused_with : (Q : E → Option F → Type 0) → IfErr read (λ e. Q e (Some files)) → Q lost None → IfErr answer.0 (λ e. Q e answer.1)
+  refused_with : (Q : E → Option F → Type 0) → IfErr read (λ e. Q e (Some files)) → (Lost → Q lost None) → IfErr answer.0 (λ e. Q e answer.1)
   refused_with Q value without = elim same [
     | inl is ↦ subst (λ (a : Result A E × Option F). IfErr a.0 (λ e. Q e a.1)) (sym is) value
-    | inr is ↦ subst (λ (a : Result A E × Option F). IfErr a.0 (λ e. Q e a.1)) (sym is) without
+    | inr is ↦ subst (λ (a : Result A E × Option F). IfErr a.0 (λ e. Q e a.1)) (sym is.1) (without is.0)
   ]
 
 -- ---- why there is no book
@@ -77,12 +103,13 @@ weaker P Q (Err e) f value = f e value
 
 module _ {D S C A : Type 0} {d : disk.Ghosts D} {s : start.Ghosts S} (g : disk.Ghosts (Guarded D S d s)) (IsFresh : Bool → D → Type 0) (opened : Result C (Error × Option (Files (Guarded D S d s))))
     (failed : IfErr opened (λ e. MatchOption e.1 (IsTrue (opens_none e.0)) (FailsToOpen g IsFresh e.0))) (answer : Result A FileFault × Option (Files D)) (read : Result A FileFault) (files : Files (Guarded D S d s))
-    (same : (answer ≡ (read, Some (unguarded files))) ⊎ (answer ≡ (Err Storage, None))) where
+    (same : (answer ≡ (read, Some (unguarded files))) ⊎ (IsLog files.db × (answer ≡ (Err Storage, None)))) where
   -- a database was opened in the files
-  pub unread_in_files : IfErr read (λ fault. InFiles d (image_at s) (λ db. Explains db fault) (unguarded files)) → IfErr answer.0 (λ fault. IsUnread g IsFresh fault answer.1)
-  unread_in_files value =
-      refused_with answer read (unguarded files) Storage same (λ fault back. IsUnread g IsFresh fault back)
-      (weaker (λ fault. InFiles d (image_at s) (λ db. Explains db fault) (unguarded files)) (λ fault. IsUnread g IsFresh fault (Some (unguarded files))) read (λ fault h. inr h) value) (inr refl)
+  pub unread_in_files : WereClosed g files → IfErr read (λ fault. InFiles d (image_at s) (λ db. Explains db fault) (unguarded files)) → IfErr answer.0 (λ fault. IsUnread g IsFresh fault answer.1)
+  unread_in_files closed value =
+      refused_with answer read (unguarded files) Storage (IsLog files.db) same (λ fault back. IsUnread g IsFresh fault back)
+      (weaker (λ fault. InFiles d (image_at s) (λ db. Explains db fault) (unguarded files)) (λ fault. IsUnread g IsFresh fault (Some (unguarded files))) read (λ fault h. inr h) value)
+      (λ log. inr (refl, (files, log, inl closed)))
 
   -- none was
   pub unopened_in_files : (error : Error) (some : Option (Files (Guarded D S d s))) → opened ≡ Err (error, some) → some ≡ Some files → (fault : FileFault) → read ≡ Err fault → IsSaidOf error files fault
@@ -91,5 +118,6 @@ module _ {D S C A : Type 0} {d : disk.Ghosts D} {s : start.Ghosts S} (g : disk.G
       let fails : FailsToOpen g IsFresh error files =
       subst (λ (o : Option (Files (Guarded D S d s))). MatchOption o (IsTrue (opens_none error)) (FailsToOpen g IsFresh error)) has
       (subst (λ (r : Result C (Error × Option (Files (Guarded D S d s)))). IfErr r (λ e. MatchOption e.1 (IsTrue (opens_none e.0)) (FailsToOpen g IsFresh e.0))) is failed) in
-      refused_with answer read (unguarded files) Storage same (λ fault back. IsUnread g IsFresh fault back)
-      (subst (λ (r : Result A FileFault). IfErr r (λ fault. IsUnread g IsFresh fault (Some (unguarded files)))) (sym so) (inl (error, files, fails, refl, said))) (inr refl)
+      refused_with answer read (unguarded files) Storage (IsLog files.db) same (λ fault back. IsUnread g IsFresh fault back)
+      (subst (λ (r : Result A FileFault). IfErr r (λ fault. IsUnread g IsFresh fault (Some (unguarded files)))) (sym so) (inl (error, files, fails, refl, said)))
+      (λ log. inr (refl, (files, log, inr (error, fails))))

@@ -1,15 +1,18 @@
 -- What comes of the file at a path: a book of the database that its two files held, or why there is
 -- none.
-use Rattle.std.specs.Prelude.{◌≡◌, ◌⊎◌, Bool, true, false, IsTrue, Option, Some, None, Result}
+use Rattle.std.specs.Prelude.{◌≡◌, ◌⊎◌, Bool, true, false, IfErr, IfOk, IsTrue, Option, Some, None, Result}
 use Rattle.std.specs.declared.alloc.AllocError.{AllocError}
 use Rattle.sqlite.specs.Closing.{files_left}
 use Rattle.sqlite.specs.Effect.{Database, IsDatabase}
-use Rattle.sqlite.specs.Files.{AreFoundIn, FailsToOpenFiles, HoldsDatabase, IsCleanLeft, LeavesFiles}
+use Rattle.sqlite.specs.Files.{AreFoundIn, FailsToOpenFiles, HoldsDatabase, IsCleanLeft, IsOpened, LeavesFiles, file_state, image_of}
+use Rattle.sqlite.specs.Held.{Held}
 use Rattle.sqlite.specs.Opening.{is_open_error}
 use Rattle.sqlite.specs.Recovery.{Image}
+use Rattle.sqlite.specs.State.{HasCleanDisk}
 use Rattle.sqlite.specs.Tree.{Trees}
-use Rattle.sqlite.specs.WalFiles.{image_at}
+use Rattle.sqlite.specs.WalFiles.{image_at, outcomes}
 use Rattle.sqlite.specs.WalReads.{AreClean}
+use Rattle.sqlite.specs.declared.FileStore.{FileStore}
 use Rattle.sqlite.specs.declared.error.Error.{Error}
 use Rattle.sqlite.specs.declared.error.Error.TheVariants.{SqliteFailure}
 use Rattle.sqlite.specs.declared.error.ErrorCode.TheVariants.{CannotOpen, DatabaseBusy, OutOfMemory}
@@ -24,7 +27,9 @@ use Rattle.over_tables.specs.declared.fault.FileFault.{FileFault}
 use Rattle.over_tables.specs.declared.fault.FileFault.TheVariants.{NotOurs, Storage}
 use Rattle.store_files.specs.Unopened.{of_opening}
 use Rattle.store_files.specs.declared.place.Place.{Place}
-use Rattle.book_file.specs.Left.{WasToBeWritten, file_of, unguarded}
+use Rattle.book_file.specs.Found.{IsFound}
+use Rattle.book_file.specs.Left.{IsLog, KeepsDatabase, WasToBeWritten, WereClosed, file_of, unguarded}
+use Rattle.book_file.specs.declared.book.Book.{Book}
 use Rattle.book_file.specs.declared.guarded.Guarded.{Guarded}
 
 -- ---- the database in two files
@@ -35,10 +40,21 @@ pub record IsIn (image : Image) (db : Database) : Type 0 where
   pub holds : (trees : Trees) → HoldsDatabase image trees → db.trees ≡ trees
   pub reads : AreFoundIn image db.trees
 
--- Where the two files, as they are handed back, have returned what was written, this holds of the
--- database that they held as they were opened.
+-- The two files hold a database with these trees: as they read, and whatever a crash leaves of them.
+abbrev pub HoldNow : {D : Type 0} → disk.Ghosts D → Trees → Files D → Type 0
+HoldNow g trees files = KeepsDatabase (image_of g files) (outcomes g files.log files.db) trees
+
+-- If the two files, as they are handed back, have returned what was written, `P` is true of the
+-- database that they held when they were opened, and they still hold it.
 abbrev pub InFiles : {D : Type 0} → disk.Ghosts D → Image → (Database → Type 0) → Files D → Type 0
-InFiles g image P files = AreClean g files.log files.db → (db : Database) × IsIn image db × P db
+InFiles g image P files = AreClean g files.log files.db → (db : Database) × IsIn image db × HoldNow g db.trees files × P db
+
+-- `read` is true of the database of the connection, and the files that are left still hold it
+pub record IsReadOf {D : Type 0} {g : disk.Ghosts D} (conn : Held (FileStore D g)) (read : Result Book FileFault) (left : Files D) : Type 0 where
+  pub was_clean : HasCleanDisk (file_state conn)
+  pub found : IfOk read (IsFound (file_state conn).now)
+  pub why : IfErr read (Explains (file_state conn).now)
+  pub kept : IsOpened conn → HoldNow g (file_state conn).now.trees left
 
 -- ---- why there is no book
 
@@ -78,9 +94,13 @@ module _ {D S : Type 0} {d : disk.Ghosts D} {s : start.Ghosts S} (g : disk.Ghost
   abbrev pub IsUnopened : FileFault → Files D → Type 0
   IsUnopened fault files = (error : Error) × (last : Files (Guarded D S d s)) × FailsToOpen error last × (files ≡ unguarded last) × IsSaidOf error last fault
 
-  -- Why there is no book. No file is handed back: it is what the file system says of the path, or the
-  -- log came back in the database file's place. Files are handed back: SQLite opens no database in
-  -- them, or the fault says what their database is.
+  -- SQLite was given two files, and gave the WAL back as the database file
+  abbrev pub HasSwapped : Type 0
+  HasSwapped = (last : Files (Guarded D S d s)) × IsLog last.db × (WereClosed g last ⊎ ((error : Error) × FailsToOpen error last))
+
+  -- Why there is no book. If no file is handed back, the fault is what the file system says of the
+  -- path, or SQLite has swapped the two files. Otherwise SQLite opens no database in the files that are
+  -- handed back, or the fault describes their database.
   abbrev pub IsUnread : FileFault → Option (Files D) → Type 0
-  IsUnread fault None = IsOfPath fault ⊎ (fault ≡ Storage)
+  IsUnread fault None = IsOfPath fault ⊎ ((fault ≡ Storage) × HasSwapped)
   IsUnread fault (Some files) = IsUnopened fault files ⊎ InFiles d (image_at s) (λ db. Explains db fault) files

@@ -1,8 +1,11 @@
 -- How the files of a database are left that was read.
-use Rattle.std.specs.Prelude.{◌≡◌, ◌<◌, ℕ, List}
+use Rattle.std.specs.Prelude.{◌≡◌, ◌<◌, ℕ, true, IsTrue, List}
 use Rattle.sqlite.specs.FileStore.{faults, files, is_shielded, recovers, view}
-use Rattle.sqlite.specs.Held.{Held}
-use Rattle.sqlite.specs.View.{IsQuiet, IsRolledBack}
+use Rattle.sqlite.specs.Files.{HoldsDatabase}
+use Rattle.sqlite.specs.Held.{AreDatabases, Held}
+use Rattle.sqlite.specs.Recovery.{Image}
+use Rattle.sqlite.specs.Tree.{Trees}
+use Rattle.sqlite.specs.View.{IsClean, IsQuiet, IsRolledBack}
 use Rattle.sqlite.specs.declared.FileStore.{FileStore}
 use Rattle.sqlite_disk.specs.Disk.{Only}
 use Rattle.sqlite_disk.specs.declared.Disk as disk
@@ -15,12 +18,23 @@ pub record HoldsStill {D : Type 0} (g : disk.Ghosts D) (bytes : List ℕ) (file 
   pub seen : g.seen file ≡ bytes
   pub left : Only bytes (g.may_leave file)
 
--- they are the files of its store, rolled back and no more
+-- `seen` and each image that a crash may leave hold a database with these trees
+pub record KeepsDatabase (seen : Image) (MayLeave : Image → Type 0) (trees : Trees) : Type 0 where
+  pub read : ∥ HoldsDatabase seen trees ∥₁
+  pub left : (image : Image) → MayLeave image → ∥ HoldsDatabase image trees ∥₁
+
+-- `left` are the files of the connection's store, which was rolled back: nothing else was done to them
 pub record IsLeft {D : Type 0} {g : disk.Ghosts D} (conn : Held (FileStore D g)) (left : Files D) : Type 0 where
   pub last : FileStore D g
   pub given : (left.log, left.db) ≡ files last
   pub undone : IsRolledBack (view conn.store) (view last)
   pub quiet : IsQuiet view faults recovers is_shielded conn.store last
+  pub numbered : IsClean (view last) → IsTrue (view last).is_numbered
+  pub sound : IsClean (view last) → AreDatabases (recovers last)
+
+-- `left` are the files of a connection that was closed in this way
+abbrev pub WereClosed : {D : Type 0} → disk.Ghosts D → Files D → Type 0
+WereClosed {D} g left = (conn : Held (FileStore D g)) × IsLeft conn left
 
 abbrev pub file_of : {D S : Type 0} {g : disk.Ghosts D} {s : start.Ghosts S} → Guarded D S g s → D
 file_of f = f.file
@@ -28,6 +42,10 @@ file_of f = f.file
 -- the two files without their guard
 abbrev pub unguarded : {D S : Type 0} {g : disk.Ghosts D} {s : start.Ghosts S} → Files (Guarded D S g s) → Files D
 unguarded files = record { log = file_of files.log; db = file_of files.db }
+
+-- the file is the WAL
+abbrev pub IsLog : {D S : Type 0} {g : disk.Ghosts D} {s : start.Ghosts S} → Guarded D S g s → Type 0
+IsLog f = f.is_log ≡ true
 
 -- a write to the file was refused
 abbrev pub WasToBeWritten : {D S : Type 0} {g : disk.Ghosts D} {s : start.Ghosts S} → Guarded D S g s → Type 0

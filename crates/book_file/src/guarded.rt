@@ -21,8 +21,8 @@ pub struct Guarded<D: Disk, S: Start> {
 }
 
 impl<D: Disk, S: Start> Guarded<D, S> {
-    ghost use Rattle.std.specs.Prelude.{◌↔◌, IsTrue};
-    ghost use Rattle.book_file.specs.Left.{HoldsStill, WasToBeWritten, file_of};
+    ghost use Rattle.std.specs.Prelude.{◌↔◌, IsTrue, None};
+    ghost use Rattle.book_file.specs.Left.{HoldsStill, IsLog, WasToBeWritten, file_of};
 
     /// Guards a file that was just opened.
     pub(crate) fn new(file: D, is_log: bool) -> Guarded<D, S>
@@ -50,6 +50,7 @@ impl<D: Disk, S: Start> Guarded<D, S> {
         D: Drop,
         ensures file { IfSome result (λ file. file ≡ file_of self) }
         ensures left { IfSome result (HoldsStill D.Disk S.Start.db) }
+        ensures none { result ≡ None → IsLog self }
     {
         if self.is_log {
             return None;

@@ -1,6 +1,6 @@
 //! A database opened over files of which the database file is never written.
 ghost use Rattle.std.specs.Prelude.{◌≡◌, true, false, IfErr, IfOk, IsTrue, MatchOption};
-ghost use Rattle.sqlite.specs.Files.{file_state};
+ghost use Rattle.sqlite.specs.Files.{IsOpened, file_state};
 ghost use Rattle.sqlite.specs.State.{HasCleanDisk};
 ghost use Rattle.sqlite.specs.WalFiles.{image_at};
 ghost use Rattle.sqlite_std_file.specs.File.{IsFresh};
@@ -28,6 +28,7 @@ pub(crate) fn open_guarded<S: Start>(
     start: S,
 ) -> Result<Connection<FileStore<GuardedFile<S>>>, (Error, Option<Files<GuardedFile<S>>>)>
     ensures idle { IfOk result (λ conn. conn.in_transaction ≡ false) }
+    ensures opened { IfOk result (λ conn. HasCleanDisk (file_state conn) → IsOpened conn) }
     ensures found { IfOk result (λ conn. HasCleanDisk (file_state conn)
         → IsIn (image_at S.Start) (file_state conn).now) }
     ensures failed { IfErr result (λ e. MatchOption e.1 (IsTrue (opens_none e.0))
