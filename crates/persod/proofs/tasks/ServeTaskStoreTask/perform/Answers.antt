@@ -36,12 +36,15 @@ served task found old last whole opened es result port level end opening serves 
 }
 
 pub returns-in-Err : goal.returns-in-Err
-returns-in-Err g c = (c.args.store, inr (record {
-  why = error_kind c.in-Err.error;
-  stays = Stays-refl (stands_for over_files c.args.store);
-  notes = subst (λ level. NotesAll level None None (unstarted_line (error_kind c.in-Err.error) c.args.self.port ∷ [])) c.new-events.ensures.level c.note_unstarted-end.ensures.noted;
-  ends = (c.finish.result, c.finish.ensures.closed, subst (λ end. c.end_of_close.result ≡ end_of_close end c.finish.result) c.note_unstarted-end.ensures.end c.end_of_close.ensures);
-}))
+returns-in-Err g c = (
+  c.args.store,
+  inr (record {
+    why = error_kind c.in-Err.error;
+    stays = Stays-refl (stands_for over_files c.args.store);
+    notes = subst (λ level. NotesAll level None None (unstarted_line (error_kind c.in-Err.error) c.args.self.port ∷ [])) c.new-events.ensures.level c.note_unstarted-end.ensures.noted;
+    ends = (c.finish.result, c.finish.ensures.closed, subst (λ end. c.end_of_close.result ≡ end_of_close end c.finish.result) c.note_unstarted-end.ensures.end c.end_of_close.ensures);
+  }),
+)
 
 pub returns-in-Ok-serve_over_tables : goal.returns-in-Ok-serve_over_tables
 returns-in-Ok-serve_over_tables g c =
