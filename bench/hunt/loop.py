@@ -27,7 +27,7 @@ from events import expect
 from served import environment, exchange, free_port, get
 from small_shop import kept, set_up
 
-SECONDS = 120
+SECONDS = 300
 SCRIPT = TOP / "service" / "serve.sh"
 SHELLS = [words for words in (["sh"], ["bash"], ["busybox", "sh"]) if shutil.which(words[0])]
 DAMAGING_CP = """#!/bin/sh
