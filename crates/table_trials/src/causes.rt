@@ -70,8 +70,8 @@ fn cause_at(rt: &HostRuntime, path: &str, wanted: Wanted) -> Result<Cause, Fail>
     cause_of(with_store(rt, path, Unknown, wanted, Closed))
 }
 
-// Why a file is not read for its book.
-fn book_cause_at(rt: &HostRuntime, path: &str) -> Result<Cause, Fail> {
+/// Returns why a file is not read for its book.
+pub(crate) fn book_cause_at(rt: &HostRuntime, path: &str) -> Result<Cause, Fail> {
     cause_of(book_in(rt, path, Unknown).0)
 }
 
@@ -108,6 +108,10 @@ fn what_is_no_database_is_not_ours(rt: HostRuntime) -> Result<(), Fail> {
         Cause::NotSqlite
     );
     assert_eq!(rt; book_cause_at(&rt, text.as_str())?, Cause::NotSqlite);
+    let link = within(&rt, folder, "link.db")?;
+    fs::hard_link(&rt, text.as_str(), link.as_str())?;
+    assert_eq!(rt; cause_at(&rt, link.as_str(), Wanted::Any)?, Cause::Special);
+    assert_eq!(rt; book_cause_at(&rt, link.as_str())?, Cause::Special);
     let cut = within(&rt, folder, "cut.db")?;
     write(&rt, cut.as_str(), b"SQLite format 3\0")?;
     assert_eq!(rt; cause_at(&rt, cut.as_str(), Wanted::Any)?, Cause::Invalid);

@@ -34,6 +34,8 @@ mod places;
 mod stops;
 #[cfg(test)]
 mod versions;
+#[cfg(test)]
+mod wals;
 
 // The program, and the server behind a socket.
 #[cfg(test)]

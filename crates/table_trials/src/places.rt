@@ -133,6 +133,7 @@ fn refused_memory_is_no_answer(rt: HostRuntime) -> Result<(), Fail> {
     let log = format!(in rt.alloc(); "{path}-wal")?;
     write(&rt, log.as_str(), [0; 42].as_slice())?;
     check_log(&rt, path);
+    assert_eq!(rt; fs::read(&rt, log.as_str())?.as_slice(), [0; 42].as_slice());
     check_place(&rt, path, 5, Place::File { is_sqlite: true });
     let journal = format!(in rt.alloc(); "{path}-journal")?;
     write(&rt, journal.as_str(), b"\xd9\xd5\x05\xf9\x20\xa1\x63\xd7")?;

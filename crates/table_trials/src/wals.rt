@@ -1,0 +1,88 @@
+//! A file next to its WAL, as a crash of the server leaves them: a book is read from both, and
+//! neither is changed. Each test has a folder of its own on the disk.
+use crate::causes::{book_cause_at, folder_of, within, write};
+use crate::stops::created;
+use crate::stories::{MADE_AGAIN, SET_UP};
+use crate::versions::send_all;
+use book_file::book_in;
+use file_causes::Difference;
+use job_facts::ServerStore;
+use over_tables::Cause;
+use schema::SqlStore;
+use sqlite::{Connection, FileFrom, FileStore};
+use sqlite_disk::Unknown;
+use std::fs;
+use std::process::Abort;
+use std::test::Fail;
+use store_files::has_log;
+
+// A store in the file at `path`, with the set-up and a card that is spoiled and made again.
+fn served(
+    ends: &impl Abort,
+    rt: &HostRuntime,
+    path: &str,
+) -> Result<SqlStore<FileStore<FileFrom<Unknown>>>, Fail> {
+    let conn = Connection::open(rt, path)?;
+    let mut store = created(rt.alloc(), conn).ok().ok_or("no tables")?;
+    send_all(ends, rt.alloc(), &mut store, &SET_UP)?;
+    send_all(ends, rt.alloc(), &mut store, MADE_AGAIN.exchanges)?;
+    Ok(store)
+}
+
+// The book of the file at `path` has both sessions of the card. It leaves the file and the WAL.
+fn check_book(ends: &impl Abort, rt: &HostRuntime, path: &str, wal: &str) -> Result<(), Fail> {
+    let (db_before, wal_before) = (fs::read(rt, path)?, fs::read(rt, wal)?);
+    let book = book_in(rt, path, Unknown).0?;
+    assert_eq!(ends; book.tables.sessions.len(), 2);
+    assert!(ends; book.failing.is_none());
+    assert!(ends; fs::read(rt, path)? == db_before, "the file changed");
+    assert!(ends; fs::read(rt, wal)? == wal_before, "the WAL changed");
+    Ok(())
+}
+
+#[test]
+fn a_book_leaves_the_wal_of_a_killed_server(rt: HostRuntime) -> Result<(), Fail> {
+    let folder = folder_of(&rt, "killed")?;
+    let path = within(&rt, folder.as_str(), "shop.db")?;
+    let wal = within(&rt, folder.as_str(), "shop.db-wal")?;
+    drop(served(&rt, &rt, path.as_str())?);
+    assert!(rt; has_log(&rt, path.as_str())?);
+    check_book(&rt, &rt, path.as_str(), wal.as_str())?;
+    fs::remove_dir_all(&rt, folder.as_str())?;
+    Ok(())
+}
+
+#[test]
+fn a_book_leaves_the_wal_of_a_finished_server(rt: HostRuntime) -> Result<(), Fail> {
+    let folder = folder_of(&rt, "finished")?;
+    let path = within(&rt, folder.as_str(), "shop.db")?;
+    let wal = within(&rt, folder.as_str(), "shop.db-wal")?;
+    served(&rt, &rt, path.as_str())?.finish()?;
+    assert!(rt; !has_log(&rt, path.as_str())?);
+    check_book(&rt, &rt, path.as_str(), wal.as_str())?;
+    // SQLite overwrites a WAL without a valid header.
+    write(&rt, wal.as_str(), [0; 42].as_slice())?;
+    let before = fs::read(&rt, path.as_str())?;
+    assert!(rt; book_in(&rt, path.as_str(), Unknown).0.is_ok());
+    assert!(rt; fs::read(&rt, path.as_str())? == before, "the file changed");
+    fs::remove_dir_all(&rt, folder.as_str())?;
+    Ok(())
+}
+
+#[test]
+fn a_book_leaves_the_wal_of_an_empty_file(rt: HostRuntime) -> Result<(), Fail> {
+    let folder = folder_of(&rt, "emptied")?;
+    let path = within(&rt, folder.as_str(), "shop.db")?;
+    let wal = within(&rt, folder.as_str(), "shop.db-wal")?;
+    drop(served(&rt, &rt, path.as_str())?);
+    write(&rt, path.as_str(), b"")?;
+    let before = fs::read(&rt, wal.as_str())?;
+    let difference = Difference::Empty;
+    assert_eq!(rt;
+        book_cause_at(&rt, path.as_str())?,
+        Cause::Tables { difference }
+    );
+    assert!(rt; fs::read(&rt, wal.as_str())? == before, "the WAL changed");
+    fs::remove_dir_all(&rt, folder.as_str())?;
+    Ok(())
+}
