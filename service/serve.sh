@@ -6,6 +6,7 @@
 # After TURNS connections the server exits. The script then copies the file to backup/, checks the copy, deletes all copies except
 # the last KEEP, and starts the server again. After an error it waits one second and starts the server again.
 # Exit status 82: an operator must act. The file is missing or damaged, its WAL is damaged, or an argument or a program is wrong.
+# Only an event line reports a damaged WAL.
 : "${PORT:=8807}" "${TURNS:=100000}" "${KEEP:=14}" "${PERSOD_LOG:=1}"
 export PERSOD_LOG
 umask 077

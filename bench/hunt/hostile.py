@@ -4,9 +4,9 @@
     bench/run hostile [--folder FOLDER] [--connections N] [--slow N] [--patience N] [--seed N]
 
 Half of them are reset midway. Each of the others gets the reply that its bytes have to get, or none. N more say nothing or stop within their message,
-and as many send a byte now and then: these hold the server for 5 s and for 10 s, as docs/PROTOCOL.md says, and get no reply. Each request of a
-machine has to be answered in the time that those before it may take, and a quarter of a second for every one that isn't slow; an import and a body of
-16 MiB have 3 s. All but slow peers have --patience times as much, which a build that isn't proved needs. What is in memory may grow by 1 MiB from the
+and as many send a byte now and then: these are closed after 5 s and after 10 s, as docs/PROTOCOL.md says, get no reply, and keep nobody waiting. Each
+request of a machine has to be answered in the time that those before it may take, a quarter of a second for every one; an import and a body of
+16 MiB have 3 s. All have --patience times as much, which a build that isn't proved needs. What is in memory may grow by 1 MiB from the
 first tenth of the connections to the last, and by one body of 16 MiB, which the C library may keep, in a hundred connections with such bodies. In the
 end the machines' requests are asked of a server on a new file without any peer: each reply is the same byte by byte, and so are accounts, reports and
 the rows of all tables."""
@@ -41,7 +41,6 @@ class Answered(NamedTuple):
 
     took: float
     allowed: float
-    behind_slow: bool
 
 
 class Crowd(Shop):
@@ -53,13 +52,15 @@ class Crowd(Shop):
         self.holds: dict[int, float] = {}
         self.answered: list[Answered] = []
 
-    def begin(self, hold: float) -> tuple[socket.socket, int, float, float]:
-        """Connects, and answers its place, the time that all may take up to it, and when it began."""
+    def begin(self, hold: float, message: bytes = b"") -> tuple[socket.socket, int, float, float]:
+        """Connects and sends a message, and answers its place, the time that all may take up to it, and when it began."""
         with self.lock:
             peer = connect(self.port)
             self.turns += 1
             self.holds[self.turns] = hold
-            return peer, self.turns, sum(self.holds.values()), time.monotonic()
+            began = time.monotonic()
+            peer.sendall(message)
+            return peer, self.turns, sum(self.holds.values()), began
 
     def end(self, turn: int) -> None:
         """It is over, and so are all before it."""
@@ -68,14 +69,13 @@ class Crowd(Shop):
                 del self.holds[place]
 
     def once(self, sent: Sent) -> bytes:
-        peer, turn, allowed, begun = self.begin(self.long if b"/batch/" in sent.message[:60] else self.short)
+        peer, turn, allowed, begun = self.begin(self.long if b"/batch/" in sent.message[:60] else self.short, sent.message)
         sent.turns.append(turn)
         with peer:
-            peer.sendall(sent.message)
             reply = received(peer)
         took = time.monotonic() - begun
         self.end(turn)
-        self.answered.append(Answered(took, allowed, allowed > SILENT))
+        self.answered.append(Answered(took, allowed))
         if took > allowed:
             self.wrong.append(f"{sent.message!r} took {took:.2f} s, and {allowed:.2f} s were allowed")
         if parts(reply) is None or parts(reply)[0] == 503:
@@ -118,14 +118,14 @@ class Peers:
     def slow(self, count: int, way: Callable[..., bytes], hold: float) -> None:
         draw = random.Random(f"{self.seed}/{count}/{way.__name__}")
         for _ in range(count):
-            link, turn, allowed, begun = self.shop.begin(hold + SLOWNESS)
+            link, turn, _, begun = self.shop.begin(0.0)
             came = way(link, draw)
             took = time.monotonic() - begun
             link.close()
             self.shop.end(turn)
             self.count(way.__name__)
-            if came or not hold - SLOWNESS < took < allowed + SLOWNESS:
-                self.shop.wrong.append(f"{way.__name__}: got {came!r} after {took:.2f} s, of at most {allowed:.2f}")
+            if came or not hold - SLOWNESS < took < hold + self.shop.short + SLOWNESS:
+                self.shop.wrong.append(f"{way.__name__}: got {came!r} after {took:.2f} s, and not after {hold:.2f}")
             time.sleep(draw.uniform(0, 10))
 
     def count(self, kind: str) -> None:
@@ -159,12 +159,10 @@ def memory(peers: Peers, server: Server, connections: int, slow: int) -> None:
 
 
 def times_line(answered: list[Answered]) -> str:
-    plain = [one.took for one in answered if not one.behind_slow]
-    slow = [one for one in answered if one.behind_slow]
+    took = [one.took for one in answered]
     nearest = max((one.took / one.allowed for one in answered), default=0)
-    text = f"{len(plain)} answered with none slow before them: median {statistics.median(plain) * 1e3:.0f} ms, longest {max(plain):.2f} s; "
-    longest = max((one.took for one in slow), default=0)
-    return text + f"{len(slow)} behind slow ones, longest {longest:.2f} s; at most {nearest:.0%} of what was allowed"
+    text = f"{len(took)} answered: median {statistics.median(took) * 1e3:.0f} ms, longest {max(took):.2f} s; "
+    return text + f"at most {nearest:.0%} of what was allowed"
 
 
 def run(program: str, folder: pathlib.Path, connections: int, slow: int, patience: float, seed: str) -> None:

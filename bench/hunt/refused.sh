@@ -4,8 +4,8 @@
 # names have it: bench/run refused memory:: picks those of single calls, and bench/run refused refused:: those over both stores. Of a test that
 # asks for more than 100,000, it refuses some 2000, evenly spread. The tests of files in a folder of their own are run anew for each allocation,
 # and such a run may end by saying that memory was refused. It leaves out the tests of files that stop at each call or stay, of damaged tables,
-# of earlier versions served, of a file next to its WAL, of a file behind a socket, and of a file system that says itself that memory is refused:
-# these fail where it is.
+# of earlier versions served, of a file next to its WAL, of a damaged WAL, of power cuts, of a file behind a socket, and of a file system that
+# says itself that memory is refused: these fail if it is.
 set -euo pipefail
 cd "$(dirname "$0")/../.."
 folder=$(mktemp -d)
@@ -42,7 +42,7 @@ export folder program
 
 tests=0 total=0 failed=0
 for program in "$1" "$2"; do
-    for test in $("$program" --list | sed -n 's/: test$//p' | grep -v -e '::a_stop_at_each_call_' -e '::files_' -e '^damaged::' -e '^carried::' -e '^served::' -e '^places::' -e '^wals::' | grep -F -- "${3:-}"); do
+    for test in $("$program" --list | sed -n 's/: test$//p' | grep -v -e '::a_stop_at_each_call_' -e '::files_' -e '^damaged::' -e '^carried::' -e '^served::' -e '^places::' -e '^wals::' -e '^flipped::' -e '^power_cuts::' | grep -F -- "${3:-}"); do
         read -r asked _ <<<"$(refuse "$test" 1000000000)"
         step=$((asked > 100000 ? asked / 2000 + 1 : 1))
         case $test in

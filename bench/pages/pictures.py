@@ -1,218 +1,198 @@
 #!/usr/bin/env python3
-"""Draws the two pictures of ARCHITECTURE.md. docs/house.svg shows the sections of crates.txt with their crates, and docs/contracts.svg shows which contract
-depends on which.
+"""Draws the two pictures of ARCHITECTURE.md. All arrows come from edges.py, and this script has the places of the boxes.
 
-    bench/run pictures            writes both
-    bench/run pictures --check    fails if a picture is outdated, for example after a change of crates.txt
+    bench/run pictures            writes docs/architecture.svg and docs/contracts.svg
+    bench/run pictures --check    fails if a picture differs from the sources, for example if it has an arrow without an edge
 
-The sections and their crates come from crates.txt. The positions of the boxes, and the arrows, are in this script."""
-import pathlib
+In docs/architecture.svg an arrow points from a section of crates.txt to a section that it uses. In docs/contracts.svg it points from a box to a box with names
+that the first one uses in its code, contracts or definitions, directly or through names without a box. An arrow is left out if other arrows already lead there.
+The script also fails if an arrow crosses a box, or if a text doesn't fit."""
+from __future__ import annotations
+
 import sys
-from html import escape
+from html import escape, unescape
+from re import findall
+from typing import NamedTuple
 
-TOP = pathlib.Path(__file__).resolve().parents[2]
-PAPER, INK, DIM, BOX = "#fbfaf7", "#1c1c1c", "#5a5a5a", "#ffffff"
-PLAN, REQUEST, OLDER = "#2f6f3e", "#1f5fa8", "#a04a12"
-LETTER = {"PLAN": PLAN, "REQUEST": REQUEST, "OLDER": OLDER}
+from edges import TOP, depends, reduced, sections
+
+PAPER, INK, DIM, WHITE, OUTSIDE = "#fbfaf7", "#1c1c1c", "#5a5a5a", "#ffffff", "#f0ede4"
+GREEN, BLUE, ORANGE = "#2f6f3e", "#1f5fa8", "#a04a12"
+
+# A section of crates.txt: position, width and height, number of columns of crates, and purpose.
+SECTIONS = {
+    "Tests": (20, 20, 1060, 56, 7, "worked examples, and tests of faults"),
+    "Programs": (20, 106, 1060, 56, 7, "arguments, streams, files, sockets, exit status"),
+    "Tables and files": (20, 192, 1060, 56, 7, "server and drill over a database file"),
+    "SQL": (20, 280, 290, 190, 2, "rows to a database and back"),
+    "Rows": (20, 570, 290, 150, 2, "contents to rows of tables; audit"),
+    "Auditors": (352, 628, 196, 92, 1, "lines and sheets from rows"),
+    "Machine": (590, 280, 260, 92, 2, "feeder, feed, drill, and sockets"),
+    "Server": (590, 402, 260, 74, 1, "one connection, a list of connections"),
+    "Messages": (590, 506, 260, 92, 2, "bytes to requests and back"),
+    "Repeated requests": (590, 628, 260, 92, 2, "each request number has one effect"),
+    "Other stores": (892, 280, 188, 92, 1, "lists; a faulty device"),
+    "Reference model": (20, 752, 1060, 56, 7, "a request to a reply and a change"),
+    "Planning": (20, 838, 1060, 56, 7, "batch file to planned and printed commands"),
+    "Rattle toolchain": (20, 924, 1060, 107, 8, "libraries that the crates use"),
+}
+# Functions and types: column, row and width in columns, crates, and what their contracts state. Definitions have a file of specs.
+CONTRACTS = {
+    "serve_over_tables": (0, 0, 2, "over_tables", "the main theorem with SqlStore; complete file at exit"),
+    "serve_inputs": (2, 0, 1, "drill", "the same with ListStore"),
+    "serve_and_report": (0, 1, 2, "server", "the main theorem, the first and last line, event lines"),
+    "serve_all": (2, 1, 1, "server", "the main theorem"),
+    "serve_one, serve_by": (0, 2, 3, "server", "one connection: reads a message, handles its request, writes the response"),
+    "report_of, batch_counts": (0, 3, 1, "reports", "reports and accounts"),
+    "read_meaning": (1, 3, 1, "http_requests", "the meaning of the bytes"),
+    "handle": (2, 3, 1, "reply_store", "one effect per number"),
+    "read_message": (1, 4, 1, "http_messages", "a message, in any pieces"),
+    "decide": (2, 4, 1, "job_core", "the reply and the change"),
+    "JobStore": (0, 5, 3, "job_facts", "the interface of a store: reads, commit, release"),
+    "SqlStore": (0, 6, 4, "schema", "the store over SQLite"),
+    "ListStore, FaultyStore": (4, 6, 1, "list_store, faulty_store", "stores of lists"),
+    "rows_after_change": (0, 7, 1, "image_laws", "contents and their rows"),
+    "batch, session, segment": (1, 7, 1, "store_reads", "the result of each read"),
+    "commit": (2, 7, 1, "change_writes", "one transaction"),
+    "adopt": (3, 7, 1, "adoption", "opens sound databases"),
+    "sort_and_audit": (4, 7, 1, "audit_rows", "finds whether rows are sound"),
+    "rows_of, run_each": (1, 8, 2, "sql_base, sql_tables", "the effect of a statement, for any schema"),
+    "remake": (3, 8, 1, "remaking", "rebuilds the tables"),
+    "Connection, Transaction": (1, 9, 2, "sqlite", "trusted contracts of the toolchain; premise: a correct device"),
+    "feed_engine": (3, 0, 2, "feeding", "what a feed sends and prints"),
+    "request_text, parse_reply": (3, 1, 1, "wire", "the client's messages"),
+    "Feeder": (4, 1, 1, "feeder", "the next act of a driver"),
+    "every_world": (4, 2, 1, "feeder", "the shop-floor theorem"),
+    "Serves, ServesAll": (3, 2, 1, "server", "Exchanges.antt"),
+    "contents_after": (3, 3, 1, "arrivals", "Meaning.antt"),
+    "world_after": (4, 3, 1, "feeder", "World.antt"),
+    "step": (3, 4, 1, "job_facts", "Steps.antt"),
+    "after_card, after_reply": (4, 4, 1, "feeder", "Table.antt"),
+}
+BENDS = {
+    ("Server", "Repeated requests"): ((850, 439), (871, 439), (871, 674), (850, 674)),  # drawn although Server leads there through Messages
+    ("Feeder", "after_card, after_reply"): ((1110, 159), (1126, 159), (1126, 429), (1110, 429)),
+    ("ListStore, FaultyStore", "JobStore"): ((1010, 580), (1010, 564), (566, 564), (566, 548)),
+}
+LEFT_OUT = {("serve_over_tables", "SqlStore"), ("serve_inputs", "ListStore, FaultyStore")}  # the texts of these functions name the stores
+
+
+class Box(NamedTuple):
+    x: int
+    y: int
+    width: int
+    height: int
+
+    def arrow_to(self, other: Box) -> tuple:
+        """The ends of a straight arrow to a box that faces this one, or nothing."""
+        left, right = max(self.x, other.x), min(self.x + self.width, other.x + other.width)
+        top, bottom = max(self.y, other.y), min(self.y + self.height, other.y + other.height)
+        x, y = (left + right) // 2, (top + bottom) // 2
+        if left < right:
+            return ((x, bottom), (x, top)) if self.y < other.y else ((x, top), (x, bottom))
+        if top < bottom:
+            return ((right, y), (left, y)) if self.x < other.x else ((left, y), (right, y))
+        return ()
+
+    def is_crossed(self, points: tuple) -> bool:
+        return any(min(x, u) < self.x + self.width and max(x, u) > self.x and min(y, v) < self.y + self.height and max(y, v) > self.y
+                   for (x, y), (u, v) in zip(points, points[1:]))
 
 
 class Picture:
-    def __init__(self, width: int, height: int, says: str) -> None:
-        self.parts = [
-            f'<svg xmlns="http://www.w3.org/2000/svg" viewBox="0 0 {width} {height}" width="{width}" height="{height}" role="img" aria-label="{escape(says)}">',
-            f"<title>{escape(says)}</title>",
-            '<defs>' + "".join(
-                f'<marker id="{name}" viewBox="0 0 10 10" refX="9" refY="5" markerWidth="7" markerHeight="7" orient="auto-start-reverse">'
-                f'<path d="M0 0L10 5L0 10z" fill="{colour}"/></marker>' for name, colour in [*LETTER.items(), ("DIM", DIM)]) + "</defs>",
-            f'<rect width="{width}" height="{height}" rx="10" fill="{PAPER}"/>',
-        ]
+    """An SVG of boxes, texts and arrows, and the faults that were found while it was drawn."""
 
-    def box(self, x: int, y: int, width: int, height: int, edge: str = DIM, fill: str = BOX, dash: str = "") -> None:
-        dashed = f' stroke-dasharray="{dash}"' if dash else ""
-        self.parts.append(f'<rect x="{x}" y="{y}" width="{width}" height="{height}" rx="6" fill="{fill}" stroke="{edge}" stroke-width="1.3"{dashed}/>')
+    def __init__(self, file: str, width: int, height: int, description: str, edges: set) -> None:
+        self.file, self.edges, self.boxes, self.arrows, self.faults = f"docs/{file}", edges, {}, set(), []
+        heads = "".join(f'<marker id="m{colour[1:]}" viewBox="0 0 10 10" refX="9" refY="5" markerWidth="7" markerHeight="7" orient="auto">'
+                        f'<path d="M0 0L10 5L0 10z" fill="{colour}"/></marker>' for colour in (GREEN, BLUE, ORANGE, DIM))
+        self.parts = [f'<svg xmlns="http://www.w3.org/2000/svg" viewBox="0 0 {width} {height}" width="{width}" height="{height}" role="img" '
+                      f'aria-label="{escape(description)}">', f"<defs>{heads}</defs>", f'<rect width="{width}" height="{height}" rx="10" fill="{PAPER}"/>']
 
-    def text(self, x: float, y: float, text: str, size: int = 13, colour: str = INK, bold: bool = False, mono: bool = False, middle: bool = False) -> None:
-        family = "DejaVu Sans Mono, Menlo, Consolas, monospace" if mono else "DejaVu Sans, Verdana, Arial, sans-serif"
-        weight = ' font-weight="bold"' if bold else ""
-        anchor = ' text-anchor="middle"' if middle else ""
-        self.parts.append(f'<text x="{x}" y="{y}" font-family="{family}" font-size="{size}" fill="{colour}"{weight}{anchor}>{escape(text)}</text>')
+    def box(self, name: str, box: Box, edge: str = DIM, fill: str = WHITE) -> None:
+        self.boxes[name] = box
+        place = f'x="{box.x}" y="{box.y}" width="{box.width}" height="{box.height}" rx="6"' + ' stroke-dasharray="5 4"' * (fill == OUTSIDE)
+        self.parts.append(f'<rect {place} fill="{fill}" stroke="{edge}" stroke-width="1.3"/>')
 
-    def way(self, kind: str, *points: tuple[int, int], both: bool = False, dash: str = "") -> None:
-        path = "M" + "L".join(f"{x} {y}" for x, y in points)
-        colour = LETTER.get(kind, DIM)
-        more = (f' marker-start="url(#{kind})"' if both else "") + (f' stroke-dasharray="{dash}"' if dash else "")
-        self.parts.append(f'<path d="{path}" fill="none" stroke="{colour}" stroke-width="2" marker-end="url(#{kind})"{more}/>')
+    def text(self, x: int, y: int, text: str, size: int = 11, colour: str = DIM, font: str = "", space: int = 1000) -> None:
+        family = "DejaVu Sans Mono, Menlo, Consolas, monospace" if "mono" in font else "DejaVu Sans, Verdana, Arial, sans-serif"
+        more = ' font-weight="bold"' * ("bold" in font) + ' text-anchor="end"' * ("right" in font)
+        self.parts.append(f'<text x="{x}" y="{y}" font-family="{family}" font-size="{size}" fill="{colour}"{more}>{escape(text)}</text>')
+        if len(text) * size * (0.605 if "mono" in font else 0.55) > space:
+            self.faults.append(f"{self.file} has no space for {text}")
+
+    def line(self, points: tuple, colour: str, title: str = "") -> None:
+        path, dash = "L".join(f"{x} {y}" for x, y in points), ' stroke-dasharray="5 4"' * (colour == DIM)
+        self.parts.append(f'<path d="M{path}" fill="none" stroke="{colour}" stroke-width="2" marker-end="url(#m{colour[1:]})"{dash}>{title}</path>')
+
+    def arrow(self, name: str, other: str, colour: str, bends: tuple = ()) -> None:
+        points = bends or self.boxes[name].arrow_to(self.boxes[other])
+        if not points or any(box.is_crossed(points) for box in self.boxes.values()):
+            self.faults.append(f"{self.file}: the arrow from {name} to {other} would cross a box; move boxes, or add BENDS")
+        self.arrows.add((name, other))
+        self.line(points, colour, f"<title>{escape(f'{name} → {other}')}</title>")
 
     def whole(self) -> str:
-        return "\n".join([*self.parts, "</svg>"]) + "\n"
+        return "\n".join([*self.parts, "</svg>\n"])
+
+    def differences(self) -> list:
+        text = (TOP / self.file).read_text() if (TOP / self.file).exists() else ""
+        shown = {(unescape(name), unescape(other)) for name, other in findall("<title>(.*) → (.*)</title>", text)}
+        found = [f"{self.file} has an arrow without an edge, from {name} to {other}" for name, other in sorted(shown - self.edges)]
+        found += [f"{self.file} lacks the arrow from {name} to {other}" for name, other in sorted(self.arrows - shown)]
+        return found + [f"{self.file} is outdated: run bench/run pictures"] * (text != self.whole())
 
 
-def sections() -> dict[str, list[str]]:
-    """The crates of each section of crates.txt."""
-    found: dict[str, list[str]] = {}
-    crates: list[str] = []
-    for line in (TOP / "crates.txt").read_text().split("\n"):
-        if line.startswith("# ---- "):
-            crates = found.setdefault(line[7:].split(":")[0], [])
-        elif line and not line.startswith("#"):
-            crates.append(line.split(":")[0])
-    return found
+def architecture() -> Picture:
+    crates, edges = sections()
+    picture = Picture("architecture.svg", 1100, 1076, "The sections of crates.txt with their crates, and an arrow to each section that a section uses", edges)
+    for section, names in crates.items():
+        x, y, width, height, columns, purpose = SECTIONS.get(section) or sys.exit(f"pictures.py has no place for the section {section}")
+        picture.box(section, Box(x, y, width, height), fill=OUTSIDE if section == "Rattle toolchain" else WHITE)
+        picture.text(x + 12, y + 21, section, 15, INK, "bold", width - 24)
+        picture.text(*((x + width - 12, y + 20, purpose, 11, DIM, "right") if columns > 2 else (x + 12, y + 38, purpose, 11, DIM, "", width - 24)))
+        rows, first, space = -(-len(names) // columns), 42 if columns > 2 else 60, (width - 16) // columns
+        if first + rows * 17 - 10 > height:
+            picture.faults.append(f"{picture.file} has no space for the crates of {section}")
+        for place, name in enumerate(names):
+            picture.text(x + 12 + place // rows * space, y + first + place % rows * 17, name, 12, INK, "mono", space)
+    for name, other in sorted(reduced(edges) | {*BENDS} & edges):
+        picture.arrow(name, other, BLUE, BENDS.get((name, other), ()))
+    picture.text(20, 1058, "An arrow points to a section that is used. If other arrows lead there, it is left out, except from Server to Repeated requests.")
+    return picture
 
 
-# A section: position, width and height, number of columns of crates, and purpose.
-SECTIONS = {
-    "Programs": (20, 96, 1060, 74, 7, "arguments, streams, files, sockets, exit status"),
-    "Planning": (20, 208, 300, 180, 1, "batch file to planned and printed commands"),
-    "Tables and files": (370, 208, 360, 74, 4, "server and drill over a database file"),
-    "Machine": (780, 208, 300, 152, 1, "feeder, feed, drill, and sockets"),
-    "Server": (370, 314, 360, 74, 1, "one connection, a list of connections"),
-    "Messages": (370, 420, 360, 92, 2, "bytes to requests and back"),
-    "Repeated requests": (370, 544, 360, 92, 2, "each request number has one effect"),
-    "Auditors": (20, 544, 300, 92, 1, "lines and sheets from rows"),
-    "Reference model": (370, 668, 360, 92, 2, "a request to a reply and a change"),
-    "Other stores": (780, 668, 300, 92, 1, "lists; a faulty device"),
-    "Rows": (20, 792, 300, 192, 2, "contents to rows of tables; audit"),
-    "SQL": (370, 792, 360, 192, 2, "rows to a database and back"),
-    "Tests": (780, 792, 300, 192, 1, "worked examples, and tests of faults"),
-}
-
-
-def workspace() -> str:
-    picture = Picture(1100, 1100, "The crates by section, with arrows for the flow of data")
-    for x, width, text in ((20, 300, "a batch file, on standard input"), (370, 360, "a message, on a socket"), (780, 300, "a list of cards, or a script")):
-        picture.box(x, 20, width, 34, fill="#f0ede4")
-        picture.text(x + width / 2, 42, text, middle=True)
-    picture.box(370, 1030, 360, 50, fill="#f0ede4")
-    picture.text(550, 1051, "database file and WAL", middle=True)
-    picture.text(550, 1069, "with the toolchain's sqlite and sqlite_disk", 11, DIM, middle=True)
-    picture.box(20, 1030, 300, 50, fill=PAPER, edge=PAPER)
-    picture.text(20, 1050, "A crate uses only crates that are listed before it", 11, DIM)
-    picture.text(20, 1066, "in crates.txt.", 11, DIM)
-    for name, crates in sections().items():
-        x, y, width, height, columns, says = SECTIONS[name]
-        picture.box(x, y, width, height)
-        picture.text(x + 12, y + 21, name, 15, bold=True)
-        picture.text(x + 12, y + 38, says, 11, DIM)
-        rows = -(-len(crates) // columns)
-        assert y + 58 + (rows - 1) * 17 < y + height, f"the box of {name} is too small for {len(crates)} crates"
-        for place, crate in enumerate(crates):
-            column, row = divmod(place, rows)
-            picture.text(x + 14 + column * ((width - 14) / columns), y + 60 + row * 17, crate, 12, mono=True)
-    picture.way("PLAN", (110, 54), (110, 96))
-    picture.way("PLAN", (110, 170), (110, 208))
-    picture.way("PLAN", (230, 208), (230, 170))
-    picture.way("PLAN", (230, 96), (230, 54))
-    picture.text(120, 194, "plan", 11, PLAN)
-    picture.text(238, 78, "its commands", 11, PLAN)
-    for top, bottom in ((54, 96), (170, 208), (282, 314), (388, 420), (512, 544), (636, 668), (760, 792), (984, 1030)):
-        picture.way("REQUEST", (520, top), (520, bottom), both=True)
-    picture.text(532, 78, "requests down, replies up", 11, REQUEST)
-    picture.way("REQUEST", (370, 700), (350, 700), (350, 350), (320, 350))
-    picture.text(216, 410, "rows of an import", 11, REQUEST)
-    picture.way("REQUEST", (780, 350), (730, 350), both=True)
-    picture.text(784, 380, "sockets; messages of the drill", 11, REQUEST)
-    picture.way("REQUEST", (930, 54), (930, 96))
-    picture.way("REQUEST", (930, 170), (930, 208))
-    picture.way("REQUEST", (730, 730), (780, 730), both=True, dash="5 4")
-    picture.text(784, 650, "stores instead of SQL", 11, REQUEST)
-    picture.way("OLDER", (690, 282), (690, 298), (764, 298), (764, 850), (730, 850))
-    picture.text(774, 470, "opening a file:", 11, OLDER)
-    picture.text(774, 486, "read, audited,", 11, OLDER)
-    picture.text(774, 502, "rebuilt", 11, OLDER)
-    picture.way("OLDER", (370, 890), (320, 890), both=True)
-    picture.text(323, 912, "audit", 11, OLDER)
-    return picture.whole()
-
-
-# A contract: position and width of its box, functions, crates, and what it states.
-CONTRACTS = {
-    "over": (110, 60, 320, "serve_over_tables", "over_tables", "main theorem over SQLite; complete file at exit"),
-    "inputs": (460, 60, 320, "serve_inputs", "drill", "main theorem over lists, without a premise"),
-    "run": (110, 140, 320, "serve_and_report", "server", "ServesAll, event lines, listening and served N"),
-    "all": (460, 140, 320, "serve_all", "server", "ServesAll: a list of connections"),
-    "one": (250, 220, 340, "serve_one, serve_by", "server", "Serves: one connection"),
-    "meaning": (20, 310, 240, "read_meaning", "http_requests", "the meaning of the bytes"),
-    "handle": (300, 310, 240, "handle", "reply_store", "each request number has one effect"),
-    "reports": (580, 310, 240, "close_report, ..", "reports", "accounts and reports"),
-    "message": (20, 400, 240, "read_message", "http_messages", "a message, in any pieces"),
-    "decide": (300, 400, 240, "decide", "job_core", "the reply and the change"),
-    "store": (300, 490, 240, "JobStore: reads, commit", "job_facts", "the interface of a store"),
-    "sql": (300, 600, 240, "SqlStore", "schema", "implements JobStore over tables"),
-    "lists": (580, 600, 240, "ListStore, FaultyStore", "list_store, faulty_store", "implement JobStore over lists"),
-    "rows": (20, 600, 240, "rows_after_change, ..", "image_laws, row_laws", "contents and their rows"),
-    "reads": (20, 700, 240, "batch, session, segment, ..", "store_reads, row_reads", "the result of each SELECT"),
-    "commit": (300, 700, 240, "commit", "change_writes, row_writes", "change and reply: one transaction"),
-    "adopt": (580, 700, 240, "adopt", "adoption", "opens sound rows, refuses others"),
-    "base": (160, 800, 380, "rows_of, make, ..", "sql_base, sql_tables", "the effect of a statement, for any schema"),
-    "audit": (580, 800, 240, "sort_and_audit, remake", "audit_rows, remaking", "audits rows; rebuilds tables"),
-    "kit": (160, 890, 380, "Connection, Transaction", "sqlite (Rattle toolchain)", "trusted contracts"),
-    "disk": (160, 980, 380, "the device", "sqlite_disk (Rattle toolchain)", "premise: it returned what was written"),
-    "world": (860, 140, 260, "every_world", "feeder", "the shop-floor theorem"),
-    "feeder": (860, 310, 260, "Feeder", "feeder", "the table of states"),
-    "feed": (860, 220, 260, "feed_engine", "feeding", "what a feed sends and prints"),
-    "wire": (860, 400, 260, "request_text, parse_reply", "wire", "the client's half of the messages"),
-    "arrivals": (860, 490, 260, "body_of, status_of, ..", "arrivals", "the meaning of requests; replies"),
-    "laws": (860, 600, 260, "sound_facts_stay_sound, ..", "step_laws", "lemmas about the reference model"),
-    "planning": (860, 710, 260, "plan, Cursor, check_batch", "store_data, batch_import", "the commands of a record"),
-}
-# The first contract of each pair depends on the second.
-RESTS = (
-    ("over", "run"), ("inputs", "all"), ("run", "one"), ("all", "one"), ("one", "meaning"), ("one", "handle"), ("one", "reports"), ("meaning", "message"),
-    ("handle", "decide"), ("decide", "store"),
-    ("sql", "rows"), ("sql", "reads"), ("sql", "commit"), ("sql", "adopt"), ("reads", "base"), ("commit", "base"), ("adopt", "audit"), ("base", "kit"),
-    ("audit", "base"), ("kit", "disk"), ("feed", "feeder"), ("feeder", "wire"), ("wire", "arrivals"), ("arrivals", "laws"), ("laws", "planning"),
-)
-
-
-def edge(name: str, other: str) -> tuple[tuple[int, int], tuple[int, int]]:
-    """The ends of an arrow between two boxes, on the sides that face each other."""
-    x, y, width = CONTRACTS[name][:3]
-    u, v, wide = CONTRACTS[other][:3]
-    if y == v:
-        return ((x + width, y + 30), (u, v + 30)) if u > x else ((x, y + 30), (u + wide, v + 30))
-    begin, end = max(x, u), min(x + width, u + wide)
-    if begin < end:
-        middle = (begin + end) // 2
-        return (middle, y + 60), (middle, v)
-    return (x + width - 30 if u > x else x + 30, y + 60), (u + 30 if u > x else u + wide - 30, v)
-
-
-def contracts() -> str:
-    picture = Picture(1140, 1060, "Contracts and the contracts that they depend on: the main theorem down to the device, and the shop-floor theorem")
-    picture.text(20, 32, "Server", 16, REQUEST, bold=True)
-    picture.text(150, 32, "An arrow points from a contract to another contract that it depends on.", 11, DIM)
-    picture.text(860, 124, "Shop floor", 16, OLDER, bold=True)
-    picture.text(312, 575, "implemented by", 11, DIM)
-    for name, other in RESTS:
-        kind = "OLDER" if CONTRACTS[name][0] == 860 else "REQUEST"
-        picture.way(kind, *edge(name, other))
-    picture.way("OLDER", (1120, 170), (1130, 170), (1130, 520), (1120, 520))
-    picture.way("OLDER", (1130, 340), (1120, 340))
-    picture.way("REQUEST", (540, 355), (562, 355), (562, 390), (845, 390), (845, 520), (860, 520))
-    picture.way("REQUEST", (540, 445), (835, 445), (835, 740), (860, 740))
-    picture.way("REQUEST", (660, 370), (660, 420), (555, 420), (555, 510), (540, 510))
-    picture.way("DIM", *edge("store", "sql"), dash="5 4")
-    picture.way("DIM", *edge("store", "lists"), dash="5 4")
-    picture.way("REQUEST", (140, 600), (140, 580), (820, 580), (820, 590), (850, 590), (850, 630), (860, 630))
-    for key, (x, y, width, name, crate, says) in CONTRACTS.items():
-        trusted = key in ("kit", "disk")
-        picture.box(x, y, width, 60, fill="#f0ede4" if trusted else BOX, edge=DIM, dash="5 4" if trusted else "")
-        picture.text(x + 10, y + 18, name, 13, mono=True, bold=True)
-        picture.text(x + 10, y + 35, crate, 11, DIM, mono=True)
-        picture.text(x + 10, y + 52, says, 11)
-    return picture.whole()
+def contracts() -> Picture:
+    edges, implements, unknown = depends({box: (place[3].split(", "), box.split(", ")) for box, place in CONTRACTS.items()})
+    picture = Picture("contracts.svg", 1140, 966, "Contracts, and an arrow to each contract and definition that a contract depends on", edges)
+    picture.faults += [f"{picture.file}: the crates of its box don't have {name}; change its box in pictures.py" for name in unknown]
+    picture.text(22, 26, "Server", 16, BLUE, "bold")
+    picture.text(688, 26, "Shop floor", 16, ORANGE, "bold")
+    for box, (column, row, span, crates, statement) in CONTRACTS.items():
+        x, y, space = 22 + 222 * column, 40 + 90 * row, 222 * span - 40
+        picture.box(box, Box(x, y, space + 18, 58), GREEN if statement.endswith(".antt") else DIM, OUTSIDE if crates == "sqlite" else WHITE)
+        picture.text(x + 10, y + 18, box, 12, INK, "mono bold", space)
+        picture.text(x + 10, y + 34, crates, 11, DIM, "mono", space)
+        picture.text(x + 10, y + 50, statement, 11, INK, "", space)
+    for name, other in sorted(reduced(edges) - LEFT_OUT):
+        colour = GREEN if CONTRACTS[other][4].endswith(".antt") else ORANGE if CONTRACTS[name][0] > 2 and CONTRACTS[name][1] < 3 else BLUE
+        picture.arrow(name, other, DIM if (name, other) in implements else colour, BENDS.get((name, other), ()))
+    legend = (BLUE, "calls, in the server"), (ORANGE, "calls, in a driver"), (GREEN, "uses the definition"), (DIM, "implements the interface")
+    for place, (colour, text) in enumerate(legend):
+        picture.line(((700, 878 + 20 * place), (740, 878 + 20 * place)), colour)
+        picture.text(752, 882 + 20 * place, text)
+    return picture
 
 
 def main() -> int:
-    stale = 0
-    for name, text in (("house.svg", workspace()), ("contracts.svg", contracts())):
-        path = TOP / "docs" / name
-        if "--check" not in sys.argv:
-            path.write_text(text)
-        elif not path.exists() or path.read_text() != text:
-            print(f"docs/{name} is outdated: run bench/run pictures")
-            stale += 1
-    return 1 if stale else 0
+    pictures = architecture(), contracts()
+    if "--check" not in sys.argv:
+        for picture in pictures:
+            (TOP / picture.file).write_text(picture.whole())
+    faults = [fault for picture in pictures for fault in picture.faults + picture.differences()]
+    faults += [f"BENDS or LEFT_OUT: there is no edge from {name} to {other}" for name, other in {*BENDS, *LEFT_OUT} - pictures[0].edges - pictures[1].edges]
+    print("\n".join([*faults, f"{len(pictures)} pictures, {len(faults)} faults"]))
+    return 1 if faults else 0
 
 
 if __name__ == "__main__":

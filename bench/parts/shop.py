@@ -66,14 +66,14 @@ class Shop:
             time.sleep(PAUSE)
 
     def once(self, sent: Sent) -> bytes:
-        """One try. Connections are made one after the other, so that their places are known."""
+        """One try. A message is sent before another connection is made, so that it is served before that one's, and its place is known."""
         try:
             with self.lock:
                 peer = connect(self.port)
                 self.turns += 1
                 sent.turns.append(self.turns)
-            with peer:
                 peer.sendall(sent.message)
+            with peer:
                 return received(peer)
         except OSError:
             return b""
